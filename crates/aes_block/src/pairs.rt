@@ -6,8 +6,7 @@ ghost use lib.Lanes.{Each1};
 ghost use Rattle.aes_block.specs.Aes.{add_round_key, shift_rows, sub_bytes};
 ghost use Rattle.aes_block.specs.Inside.{after_round, spread};
 ghost use Rattle.aes_block.specs.Nibbles.{AreCoded, IsVector, code, entry_of, first_part, is_lookup_place, key_code};
-ghost use Rattle.aes_block.specs.Nibbles.{last_key};
-ghost use Rattle.aes_block.specs.Nibbles.{last_of, once_of, second_part, twice_of};
+ghost use Rattle.aes_block.specs.Nibbles.{last_key, last_of, once_of, second_part, twice_of};
 
 use crate::lanes::{
     CODE_HIGH, CODE_LOW, INVERSES, LAST_FIRST, LAST_SECOND, ONCE_FIRST, ONCE_SECOND, SCALED,

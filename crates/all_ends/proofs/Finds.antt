@@ -9,7 +9,7 @@ use Rattle.all_ends.proofs.Terms.{is_closed, LinkPacket, port_at, port_place, fi
 use Rattle.all_ends.proofs.Terms.{found_stream, changed_states, LinkEnds, PairEnds, EndsView, port_in, with_port}
 use Rattle.all_ends.proofs.Terms.{pair_port, with_pair_port, KeeperView, ports_in, pair_ports, in_sixteen, rows_of}
 use Rattle.all_ends.proofs.Terms.{state_of, IsPort, IsLink, IsPair, AreLinks, machine_found, machine_changed}
-use Rattle.all_ends.proofs.Terms.{found_plan, LinePlace, Link, Near, Pair, port_at_place, port_on, with_port_at}
+use Rattle.all_ends.proofs.Terms.{found_plan, LinePlace, Link, Near, Pair, port_at_place, port_on, with_port_at_place}
 use Rattle.all_ends.proofs.Terms.{with_port_on, changed_at, false}
 use Rattle.machine_ports.specs.Machine.{changed_by_id as id_changed, found_by_id as id_found}
 use Rattle.std.proofs.lemmas.List.{get_or_append_left, get_or-append_right, set-append_left, set-append_right}
@@ -195,7 +195,7 @@ module _ (v : EndsView) (w : IsWired v) where
 
     abbrev SetsAt : ℕ → LinePlace → Type 0
     SetsAt line place = (e e' : PortEnd) → port_at_place v s place ≡ Some e
-        → rows_of (with_port_at v s place e') ≡ slice_set (rows_of v) (at_row line) e'.states
+        → rows_of (with_port_at_place v s place e') ≡ slice_set (rows_of v) (at_row line) e'.states
 
     set_link : (i : ℕ) → i < 8 → SetsAt i (Link i)
     set_link i lt e e' is =

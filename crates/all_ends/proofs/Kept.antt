@@ -6,7 +6,7 @@ use Rattle.all_ends.proofs.Terms.{Host, Device, PortName, Plan, StreamState, Lin
 use Rattle.all_ends.proofs.Terms.{PairEnds, EndsView, port_in, with_port, pair_port, with_pair_port, KeeperView}
 use Rattle.all_ends.proofs.Terms.{ports_in, in_sixteen, pair_ports, rows_of, name_of, IsPort, IsLink, IsPair, IsBounded}
 use Rattle.all_ends.proofs.Terms.{AreLinks, StreamKept, StreamView, LinePlace, Link, Near, Pair, line_place}
-use Rattle.all_ends.proofs.Terms.{port_at_place, port_on, with_port_at, with_port_on, changed_at, settled_link}
+use Rattle.all_ends.proofs.Terms.{port_at_place, port_on, with_port_at_place, with_port_on, changed_at, settled_link}
 use Rattle.all_ends.proofs.Terms.{settled_ends, peer_live, settled_first_links}
 use Rattle.std.specs.Prelude.{IsSome, Bool, true, false, if◌then◌else◌, nat_lt, ◌-◌}
 use Rattle.ide_types.specs.declared.plan.PeerPlan.{PeerPlan}
@@ -149,7 +149,7 @@ module _ (plan : Plan) (v : EndsView) (k : KeeperView) (links : AreLinks plan v 
 
   -- with something else at an end
   end_kept_at : (s : Side) (place : LinePlace) (e e' : PortEnd) → port_at_place v s place ≡ Some e → Keeps e e'
-      → AreLinks plan (with_port_at v s place e') k
+      → AreLinks plan (with_port_at_place v s place e') k
   end_kept_at s (Link i) e e' is keeps =
       let x = mapped (λ (l : LinkEnds). port_in s l) (slice_get v.links i) e is in
       links_kept i (with_port s e')
@@ -347,7 +347,7 @@ pair_put_units Device Host l e e' is more = stays 1 l.near.port
 pair_put_units Device Device l e e' is more = subst (λ (p : PortEnd). UnitsGrow 1 p e') (sym is) more
 
 end_grows_at : (v : EndsView) (s : Side) (place : LinePlace) (e e' : PortEnd) → port_at_place v s place ≡ Some e
-    → UnitsGrow 1 e e' → Grows 1 v (with_port_at v s place e')
+    → UnitsGrow 1 e e' → Grows 1 v (with_port_at_place v s place e')
 end_grows_at v s (Link i) e e' is more =
     let x = mapped (λ (l : LinkEnds). port_in s l) (slice_get v.links i) e is in
     links_grow 1 v i (with_port s e') (λ t l at. put_units s t l e e'

@@ -3,8 +3,8 @@ use Rattle.all_ends.proofs.Terms.{◌≡◌, ℕ, ◌<◌, ◌≤◌, Bool, List
 use Rattle.all_ends.proofs.Terms.{option_map, slice_get, slice_set, slice_index_or, none-some, slice_get_within}
 use Rattle.all_ends.proofs.Terms.{slice_get_read, Side, Host, Device, PortName, PortEnd, take_step, EndsView, LinkEnds}
 use Rattle.all_ends.proofs.Terms.{PairEnds, port_in, with_port, pair_port, with_pair_port, line_place, LinePlace, Link}
-use Rattle.all_ends.proofs.Terms.{Near, Pair, port_at_place, port_on, with_port_at, with_port_on, changed_at, peer_live}
-use Rattle.all_ends.proofs.Terms.{KeeperView, NoMoreUnits, Operates}
+use Rattle.all_ends.proofs.Terms.{Near, Pair, port_at_place, port_on, with_port_at_place, with_port_on, changed_at}
+use Rattle.all_ends.proofs.Terms.{peer_live, KeeperView, NoMoreUnits, Operates}
 use Rattle.all_ends.specs.Ends.{trust_at_place, link_trust, asked_trust, pair_trust, settled_place}
 use Rattle.all_ends.specs.AllEnds.{TakesAt, SendsAt, OperatesIn, OperatesAt, Settles, Calls, CallsAt}
 use Rattle.all_ends.specs.AllEnds.{Asks, AsksAt, IsEnded}
@@ -72,7 +72,7 @@ pair_back Host e l = refl
 pair_back Device e l = refl
 
 put_at_place : (v : EndsView) (s : Side) (place : LinePlace) (e e' : PortEnd) → port_at_place v s place ≡ Some e
-    → port_at_place (with_port_at v s place e') s place ≡ Some e'
+    → port_at_place (with_port_at_place v s place e') s place ≡ Some e'
 put_at_place v s (Link i) e e' is =
     let x = mapped (λ (l : LinkEnds). port_in s l) (slice_get v.links i) e is in
     ap (λ (o : Option LinkEnds). option_map (λ (l : LinkEnds). port_in s l) o)
@@ -96,7 +96,7 @@ kept_interfaces Host e l = refl
 kept_interfaces Device e l = refl
 
 after_at : (v : EndsView) (s : Side) (place : LinePlace) (e : PortEnd) (j : ℕ) (l : LinkEnds)
-    → slice_get v.links j ≡ Some l → (l' : LinkEnds) × (slice_get (with_port_at v s place e).links j ≡ Some l')
+    → slice_get v.links j ≡ Some l → (l' : LinkEnds) × (slice_get (with_port_at_place v s place e).links j ≡ Some l')
     × (l'.device.interfaces ≡ l.device.interfaces)
 after_at v s (Link i) e j l is =
     mapped (λ (x : LinkEnds). x.device.interfaces) (slice_get (changed_at v.links i (with_port s e)) j)
@@ -118,8 +118,8 @@ module _ (v : EndsView) (end : PortName) (place : LinePlace) (at : place ≡ lin
   seen : (e : PortEnd) → port_on v end ≡ Some e → port_at_place v end.side place ≡ Some e
   seen e is = ap (λ (p : LinePlace). port_at_place v end.side p) at ∙ is
 
-  put : (e : PortEnd) → with_port_at v end.side place e ≡ with_port_on v end e
-  put e = ap (λ (p : LinePlace). with_port_at v end.side p e) at
+  put : (e : PortEnd) → with_port_at_place v end.side place e ≡ with_port_on v end e
+  put e = ap (λ (p : LinePlace). with_port_at_place v end.side p e) at
 
 -- the item of a list that an end is in, before and after
 module _ (v : EndsView) (s : Side) (i : ℕ) (x y : LinkEnds) (e e' : PortEnd) where
@@ -129,7 +129,7 @@ module _ (v : EndsView) (s : Side) (i : ℕ) (x y : LinkEnds) (e e' : PortEnd) w
       ap (λ (z : LinkEnds). port_in s z) (read_there v.links i x l.0 read l.1) ∙ l.2
 
   pub link_put : x ≡ slice_index_or v.links i x → port_at_place v s (Link i) ≡ Some e → y ≡ with_port s e' x
-      → record v { links = slice_set v.links i y } ≡ with_port_at v s (Link i) e'
+      → record v { links = slice_set v.links i y } ≡ with_port_at_place v s (Link i) e'
   link_put read is made =
       let l = mapped (λ (l : LinkEnds). port_in s l) (slice_get v.links i) e is in
       ap (λ (ls : List LinkEnds). record v { links = ls })
@@ -141,7 +141,7 @@ module _ (v : EndsView) (s : Side) (i : ℕ) (x y : LinkEnds) (e e' : PortEnd) w
       ap (λ (z : LinkEnds). port_in s z) (read_there v.near i x l.0 read l.1) ∙ l.2
 
   pub near_put : x ≡ slice_index_or v.near i x → port_at_place v s (Near i) ≡ Some e → y ≡ with_port s e' x
-      → record v { near = slice_set v.near i y } ≡ with_port_at v s (Near i) e'
+      → record v { near = slice_set v.near i y } ≡ with_port_at_place v s (Near i) e'
   near_put read is made =
       let l = mapped (λ (l : LinkEnds). port_in s l) (slice_get v.near i) e is in
       ap (λ (ls : List LinkEnds). record v { near = ls })
@@ -154,7 +154,7 @@ module _ (v : EndsView) (s : Side) (i : ℕ) (x y : PairEnds) (e e' : PortEnd) w
       ap (λ (z : PairEnds). pair_port s z) (read_there v.pairs i x l.0 read l.1) ∙ l.2
 
   pub pair_put : x ≡ slice_index_or v.pairs i x → port_at_place v s (Pair i) ≡ Some e → y ≡ with_pair_port s e' x
-      → record v { pairs = slice_set v.pairs i y } ≡ with_port_at v s (Pair i) e'
+      → record v { pairs = slice_set v.pairs i y } ≡ with_port_at_place v s (Pair i) e'
   pair_put read is made =
       let l = mapped (λ (l : PairEnds). pair_port s l) (slice_get v.pairs i) e is in
       ap (λ (ls : List PairEnds). record v { pairs = ls })

@@ -51,12 +51,12 @@ pub use Rattle.all_ends.specs.Places.{stream_named}
 pub use Rattle.all_ends.specs.Ends.{EndsView, changed_at, cleared_on, cleared_ends, cleared_pair, line_place, peer_live}
 pub use Rattle.all_ends.specs.Ends.{pair_port, port_at_place, port_on, reset_all, settled_all, settled_first_links}
 pub use Rattle.all_ends.specs.Ends.{settled_ends, settled_link, unlocked_ends, unlocked_link, with_pair_port}
-pub use Rattle.all_ends.specs.Ends.{with_port_at, with_port_on}
+pub use Rattle.all_ends.specs.Ends.{with_port_at_place, with_port_on}
 pub use Rattle.all_ends.specs.declared.places.LinePlace.{LinePlace}
 pub use Rattle.all_ends.specs.declared.places.LinePlace.TheVariants.{Link, Near, Pair}
 pub use Rattle.all_ends.specs.States.{AreLinks, IsBounded, IsLink, IsPair, IsPort, StreamKept, KeptBy, in_sixteen}
-pub use Rattle.all_ends.specs.States.{name_of, names_from, names_of, ops_in, ops_of, pair_ports, ports_in, rows_of}
-pub use Rattle.all_ends.specs.States.{state_of, views_after}
+pub use Rattle.all_ends.specs.States.{name_of, names_from_line, names_of, ops_by_line, line_ops, pair_ports, ports_in}
+pub use Rattle.all_ends.specs.States.{rows_of, state_of, views_after}
 pub use Rattle.link_ends.specs.declared.pair.PairEnds.{PairEnds}
 pub use Rattle.link_ends.specs.LineEnds.{end_in, with_end, reset_pair}
 pub use Rattle.link_ends.specs.Ends.{port_in, with_port}

@@ -20,7 +20,7 @@ use Rattle.ide_prefix.specs.Reading.{cut_of}
 use Rattle.ide_port.specs.{PortEnd, IsSentAtPort, take_step}
 use Rattle.link_ends.specs.declared.ends.LinkEnds.{LinkEnds}
 use Rattle.link_ends.specs.declared.pair.PairEnds.{PairEnds}
-use Rattle.guarded_memory.specs.declared.standing.InterfaceStatus.{InterfaceStatus}
+use Rattle.guarded_memory.specs.declared.status.InterfaceStatus.{InterfaceStatus}
 use Rattle.guarded_memory.specs.{MmioLeads}
 use Rattle.link_stores.specs.declared.link.LinkAccesses.{LinkAccesses}
 use Rattle.link_stores.specs.{device_statuses}
@@ -31,7 +31,7 @@ use Rattle.hop_queues.specs.declared.queues.HopQueues.{HopQueues}
 use Rattle.ide_types.specs.declared.direction.Direction.{Direction}
 use Rattle.link_ends.specs.Keepers.{KeeperView, Operates, NoMoreUnits, KeysAlone}
 use Rattle.link_ends.specs.PairKeepers.{PairOperates, NoMorePairUnits}
-use Rattle.all_ends.specs.Ends.{EndsView, port_on, port_at_place, with_port_on, with_port_at, trust_at_place}
+use Rattle.all_ends.specs.Ends.{EndsView, port_on, port_at_place, with_port_on, with_port_at_place, trust_at_place}
 use Rattle.all_ends.specs.Ends.{end_stream_status, peer_live, line_place, settled_link, settled_place, reset_all}
 use Rattle.all_ends.specs.declared.places.LinePlace.{LinePlace}
 use Rattle.all_ends.specs.declared.places.LinePlace.TheVariants.{Link, Near, Pair}
@@ -39,9 +39,9 @@ use Rattle.all_ends.specs.Places.{code_behind}
 use Rattle.link_ends.specs.declared.host.HostKeeper.{HostKeeper}
 use Rattle.interface_state.specs.Machine.{Tdi, Call}
 use Rattle.interface_ends.specs.Replies.{DeviceTdis, called_at, settled_interfaces}
-use Rattle.link_ends.specs.DeviceEnds.{secure_with}
+use Rattle.link_ends.specs.DeviceEnds.{secure_or_live}
 use Rattle.interface_host.specs.declared.operation.InterfaceOperation.{InterfaceOperation}
-use Rattle.interface_host.specs.declared.operation.InterfaceOutcome.{InterfaceOutcome as Outcome'}
+use Rattle.interface_host.specs.declared.operation.InterfaceOutcome.{InterfaceOutcome}
 use Rattle.interface_host.specs.Views.{HostTdi}
 use Rattle.interface_ends.specs.Keepers.{Ended}
 
@@ -56,7 +56,7 @@ Changes old link new P = (l : LinkEnds) → slice_get old.links link ≡ Some l 
 pub record Sends (old : EndsView) (side : Side) (place : LinePlace) (tlp : List ℕ) (more trusted : Bool) (answer : Sent)
     (new : EndsView) (e : PortEnd) : Type 0 where
   pub port : PortEnd
-  pub new_is : new ≡ with_port_at old side place port
+  pub new_is : new ≡ with_port_at_place old side place port
   pub sent : (number : ℕ) → IsSentAtPort e tlp more (trust_at_place old side place trusted) number answer port
 
 abbrev pub SendsIn : EndsView → Side → LinePlace → List ℕ → Bool → Bool → Sent → EndsView → Type 0
@@ -155,7 +155,7 @@ WaitsAt old end bytes direction verdict q new q' =
 -- the device's interfaces leave their lock if a stream that they are bound to is not Secure there; `live` says what is
 -- Live of those between it and others
 abbrev pub Settles : (ℕ → Option ℕ) → LinkEnds → LinkEnds → Type 0
-Settles live l l' = l'.device.interfaces ≡ settled_interfaces (secure_with l'.device.port live) l.device.interfaces
+Settles live l l' = l'.device.interfaces ≡ settled_interfaces (secure_or_live l'.device.port live) l.device.interfaces
 
 -- on a stream of a link: the interfaces of its device settle
 pub record OperatesOnLink (old : EndsView) (i : ℕ) (k : KeeperView) (op : NamedOperation) (loss : Option Loss)
@@ -209,13 +209,13 @@ abbrev pub told_by_line : ℕ → NamedOperation → Bool → Bool → ℕ → S
 told_by_line line op begins drew draw outcome m = told_by_place (line_place line) op begins drew draw outcome m
 
 -- the draws of the streams between devices after it
-abbrev pub drawn_in : LinePlace → NamedOperation → Bool → ℕ → List ℕ → List ℕ
-drawn_in (Link i) op drew draw draws = draws
-drawn_in (Near i) op drew draw draws = draws
-drawn_in (Pair i) op drew draw draws = peer_drawn op drew draw draws
+abbrev pub drawn_at_place : LinePlace → NamedOperation → Bool → ℕ → List ℕ → List ℕ
+drawn_at_place (Link i) op drew draw draws = draws
+drawn_at_place (Near i) op drew draw draws = draws
+drawn_at_place (Pair i) op drew draw draws = peer_drawn op drew draw draws
 
-abbrev pub drawn_at : ℕ → NamedOperation → Bool → ℕ → List ℕ → List ℕ
-drawn_at line op drew draw draws = drawn_in (line_place line) op drew draw draws
+abbrev pub drawn_on_line : ℕ → NamedOperation → Bool → ℕ → List ℕ → List ℕ
+drawn_on_line line op drew draw draws = drawn_at_place (line_place line) op drew draw draws
 
 -- ---- operations on interfaces
 
@@ -230,12 +230,13 @@ pub record Asks (k : HostKeeper) (interface : ℕ) (o : InterfaceOperation) (los
       → result (operated_on interface o loss k.keys live k.interfaces l x)
 
 -- its outcome
-pub record IsEnded (outcome : Outcome') (m : InterfacesView) (d : DeviceTdis) (e : Ended) : Type 0 where
+pub record IsEnded (outcome : InterfaceOutcome) (m : InterfacesView) (d : DeviceTdis) (e : Ended) : Type 0 where
   pub outcome_is : outcome ≡ e.outcome
   pub manager_is : m ≡ e.manager
   pub device_is : d ≡ e.device
 
-abbrev pub AsksAt : EndsView → ℕ → HostKeeper → ℕ → InterfaceOperation → Option Loss → Outcome' → EndsView → HostKeeper
+abbrev pub AsksAt : EndsView → ℕ → HostKeeper → ℕ → InterfaceOperation → Option Loss → InterfaceOutcome → EndsView
+    → HostKeeper
     → Type 0
 AsksAt old link k interface o loss outcome new k' =
     Changes old link new

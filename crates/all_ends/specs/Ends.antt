@@ -97,14 +97,14 @@ changed_at (x ∷ xs) (suc i) f = x ∷ changed_at xs i f
 abbrev pub with_pair_port : Side → PortEnd → PairEnds → PairEnds
 with_pair_port side e l = with_end side (record (end_in side l) { port = e }) l
 
-abbrev pub with_port_at : EndsView → Side → LinePlace → PortEnd → EndsView
-with_port_at v side (Link i) e = record v { links = changed_at v.links i (with_port side e) }
-with_port_at v side (Near i) e = record v { near = changed_at v.near i (with_port side e) }
-with_port_at v side (Pair i) e = record v { pairs = changed_at v.pairs i (with_pair_port side e) }
+abbrev pub with_port_at_place : EndsView → Side → LinePlace → PortEnd → EndsView
+with_port_at_place v side (Link i) e = record v { links = changed_at v.links i (with_port side e) }
+with_port_at_place v side (Near i) e = record v { near = changed_at v.near i (with_port side e) }
+with_port_at_place v side (Pair i) e = record v { pairs = changed_at v.pairs i (with_pair_port side e) }
 
 -- with something else at an end
 abbrev pub with_port_on : EndsView → PortName → PortEnd → EndsView
-with_port_on v end e = with_port_at v end.side (line_place end.line) e
+with_port_on v end e = with_port_at_place v end.side (line_place end.line) e
 
 -- ---- what is read at an end
 

@@ -19,7 +19,7 @@ pub use Rattle.arrival_verdicts.specs.{waiting_reads_after, unit_in, arrival_ver
 pub use Rattle.arrival_verdicts.specs.{unit_waits, writes_by, unit_tlps, live_draw_at_end, arrival_of}
 pub use Rattle.arrival_verdicts.specs.Verdicts.{effects_from, end_sent_verdict, packet_write, unit_writes}
 pub use Rattle.arrival_verdicts.specs.Verdicts.{packet_effect}
-pub use Rattle.link_ends.specs.DeviceEnds.{says_secure, secure_with}
+pub use Rattle.link_ends.specs.DeviceEnds.{says_secure, secure_or_live}
 pub use Rattle.link_ends.specs.PairKeepers.{IsAtBoth, IsPairOperated, IsPairWalked, PairOperates, pair_found}
 pub use Rattle.link_ends.specs.declared.host.HostKeeper.{HostKeeper}
 pub use Rattle.all_ends.specs.Cuts.{cut_packets}

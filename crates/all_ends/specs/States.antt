@@ -40,10 +40,10 @@ abbrev pub rows_of : EndsView → List (List StreamState)
 rows_of v = in_sixteen (ports_in v.links) ++ ports_in v.near ++ pair_ports v.pairs
 
 -- The manager keeps the streams of all lines in one list, line by line.
-abbrev pub ops_of : List StreamPlan → List StreamView → List StreamStage
-ops_of [] vs = []
-ops_of (s ∷ ss) [] = []
-ops_of (s ∷ ss) (v ∷ vs) = v.op ∷ ops_of ss vs
+abbrev pub line_ops : List StreamPlan → List StreamView → List StreamStage
+line_ops [] vs = []
+line_ops (s ∷ ss) [] = []
+line_ops (s ∷ ss) (v ∷ vs) = v.op ∷ line_ops ss vs
 
 abbrev pub views_after : List StreamPlan → List StreamView → List StreamView
 views_after [] vs = vs
@@ -51,14 +51,14 @@ views_after (s ∷ ss) [] = []
 views_after (s ∷ ss) (v ∷ vs) = views_after ss vs
 
 -- of each line the operations on its streams
-abbrev pub ops_in : List (List StreamPlan) → List StreamView → List (List StreamStage)
-ops_in [] vs = []
-ops_in (ss ∷ lines) vs = ops_of ss vs ∷ ops_in lines (views_after ss vs)
+abbrev pub ops_by_line : List (List StreamPlan) → List StreamView → List (List StreamStage)
+ops_by_line [] vs = []
+ops_by_line (ss ∷ lines) vs = line_ops ss vs ∷ ops_by_line lines (views_after ss vs)
 
 abbrev pub state_of : Plan → EndsView → KeeperView → List LinkPacket → LinkState
 state_of plan v k packets = record {
   ports = rows_of v;
-  ops = ops_in (streams_by_line plan) k.manager.streams;
+  ops = ops_by_line (streams_by_line plan) k.manager.streams;
   draws = k.pool.draws;
   packets = packets;
 }
@@ -102,9 +102,9 @@ abbrev pub names_of : ℕ → List StreamPlan → List (ℕ × ℕ)
 names_of line ss = map (λ (s : StreamPlan). (line, s.id)) ss
 
 -- the streams of the lines from this number on
-abbrev pub names_from : ℕ → List (List StreamPlan) → List (ℕ × ℕ)
-names_from line [] = []
-names_from line (ss ∷ lines) = names_of line ss ++ names_from (line + 1) lines
+abbrev pub names_from_line : ℕ → List (List StreamPlan) → List (ℕ × ℕ)
+names_from_line line [] = []
+names_from_line line (ss ∷ lines) = names_of line ss ++ names_from_line (line + 1) lines
 
 -- an unfinished operation is at one of its exchanges, and has the keys that it has yet to give
 abbrev pub KeptBy : (hosted : Bool) → Plan → StreamView → Type 0
@@ -124,6 +124,6 @@ pub record AreLinks (plan : Plan) (v : EndsView) (k : KeeperView) : Type 0 where
   pub each_link : (i : ℕ) (l : LinkEnds) → slice_get v.links i ≡ Some l → IsLink plan i l
   pub each_near : (i : ℕ) (l : LinkEnds) → slice_get v.near i ≡ Some l → IsLink plan (8 + i) l
   pub each_pair : (i : ℕ) (l : PairEnds) → slice_get v.pairs i ≡ Some l → IsPair plan (16 + i) l
-  pub names : map name_of k.manager.streams ≡ names_from 0 (streams_by_line plan)
+  pub names : map name_of k.manager.streams ≡ names_from_line 0 (streams_by_line plan)
   pub kept : (i : ℕ) (s : StreamView) → slice_get k.manager.streams i ≡ Some s → StreamKept plan s
   pub keys : k.pool.keys ≡ plan.pool

@@ -69,8 +69,8 @@ impl Model for AllEnds {
 impl AllEnds {
     ghost use Rattle.all_ends.specs.Ends.{new_all_ends, port_on, settled_link, settled_first_links, cleared_on};
     ghost use Rattle.all_ends.specs.Ends.{all_cleared, unlocked_link, settled_place};
-    ghost use Rattle.all_ends.specs.AllEnds.{SendsAt, TakesAt, ComesAt, ArrivesAt, Leaves, WaitsAt};
-    ghost use Rattle.all_ends.specs.AllEnds.{OperatesAt, told_by_line, drawn_at, AsksAt, CallsAt, IsThere, ResetsAt};
+    ghost use Rattle.all_ends.specs.AllEnds.{SendsAt, TakesAt, ComesAt, ArrivesAt, Leaves, WaitsAt, OperatesAt};
+    ghost use Rattle.all_ends.specs.AllEnds.{told_by_line, drawn_on_line, AsksAt, CallsAt, IsThere, ResetsAt};
     ghost use Rattle.all_ends.specs.AllEnds.{settled_by_side, statuses_of};
     ghost use Rattle.all_ends.specs.States.{EndsUnitsAtMost};
 
@@ -389,7 +389,7 @@ impl AllEnds {
             keeper.new.interfaces ≡ told_by_line line op begins drew draw result keeper.old.interfaces) }
         ensures peer_draws { let draw = keeper.old.keys.pool.draws in
             let drew = not (keeper.new.keys.pool.draws == draw) in
-            keeper.new.peer_draws ≡ drawn_at line op drew draw keeper.old.peer_draws }
+            keeper.new.peer_draws ≡ drawn_on_line line op drew draw keeper.old.peer_draws }
     {
         match line_place(line) {
             LinePlace::Link(i) => {

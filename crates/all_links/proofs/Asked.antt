@@ -10,7 +10,7 @@ use Rattle.all_links.proofs.Terms.{peer_live, Plan, AreLinks, Side, Host, Device
 use Rattle.all_links.proofs.Terms.{true, ◌++◌, if◌then◌else◌, ◌==◌, Bool, false, true-lt, nat_le}
 use Rattle.line_arrivals.specs.{changed_at, in_sixteen, pair_ports, operated_on, HostKeeper, IsThere}
 use Rattle.line_arrivals.specs.{CallsAt, AsksAt, place_on_links, code_behind, outcome_verdict, report_of}
-use Rattle.all_links.specs.Sides.{with_device}
+use Rattle.all_links.specs.BesideAfter.{with_device}
 use Rattle.interface_host.specs.declared.operation.PeerStream.{PeerStream}
 use Rattle.std.specs.Prelude.{IfSome}
 use Rattle.std.specs.Option.{option_map_or}
@@ -30,9 +30,9 @@ use Rattle.interface_host.specs.Views.{HostTdi}
 use Rattle.interface_ends.specs.Keepers.{Ended}
 use Rattle.link_events.specs.declared.event.InterfaceEvent.{InterfaceEvent}
 use Rattle.link_events.specs.declared.event.Loss.{Loss}
-use Rattle.all_links.specs.Interfaces.{interface_named, tdi_named, interface_of_ends, ended_in, ended_at, ended_on}
-use Rattle.all_links.specs.Interfaces.{verdict_in, has_peer_in, managed_peer_stream, peer_verdict_in}
-use Rattle.all_links.specs.Interfaces.{has_peer_at}
+use Rattle.all_links.specs.Interfaces.{interface_named, tdi_named, interface_of_ends, ended_in, ended_if_there}
+use Rattle.all_links.specs.Interfaces.{ended_on_link, verdict_in, has_peer_in, managed_peer_stream, peer_verdict_in}
+use Rattle.all_links.specs.Interfaces.{has_peer_if_there}
 use Rattle.all_links.specs.Besides.{op_verdict}
 use Rattle.all_links.proofs.Finds.{answers, nothing_changes, only_says}
 use Rattle.std.proofs.Common.{◌&&◌}
@@ -223,22 +223,23 @@ pub asked_nowhere : {verdict : Verdict} {old new : Links} (plan : Plan) (n : ℕ
     → IsBounded old.ends old.packets.packets old.steps → EndsWith plan verdict old new (Interface e)
 asked_nowhere {verdict} {old} {new} plan n o loss e same nowhere says is bounded =
     only_says plan e
-    (ap (λ (p : Option (ℕ × ℕ)). verdict_in n o loss (ended_at old.keeper old.ends n o loss p)) nowhere ∙ sym same) says
+    (ap (λ (p : Option (ℕ × ℕ)). verdict_in n o loss (ended_if_there old.keeper old.ends n o loss p)) nowhere ∙ sym
+    same) says
     is bounded
 
 -- a stream between devices that the plan has has a byte for its ID
 peer_small : (plan : Plan) (v : EndsView) (k : KeeperView) (line stream : ℕ) (o : Option (ℕ × ℕ)) → AreLinks plan v k
-    → has_peer_at v line stream o ≡ true → stream < 256
+    → has_peer_if_there v line stream o ≡ true → stream < 256
 peer_small plan v k line stream None links has = absurd cc
 peer_small plan v k line stream (Some at) links has =
     (peer_line_is plan at.0 line stream links.fits
     (sym (ap (λ (ps : List PeerPlan). has_peer ps at.0 line stream) links.peers_are) ∙ has)).id_most
 
 no_such : (plan : Plan) (v : EndsView) (k : KeeperView) (line stream : ℕ) (o : Option (ℕ × ℕ)) → AreLinks plan v k
-    → (nat_lt stream 256 && has_peer_at v line stream o) ≡ false → has_peer_at v line stream o ≡ false
-no_such plan v k line stream o links none = by (has_peer_at v line stream o) refl
+    → (nat_lt stream 256 && has_peer_if_there v line stream o) ≡ false → has_peer_if_there v line stream o ≡ false
+no_such plan v k line stream o links none = by (has_peer_if_there v line stream o) refl
   where
-    by : (b : Bool) → has_peer_at v line stream o ≡ b → b ≡ false
+    by : (b : Bool) → has_peer_if_there v line stream o ≡ b → b ≡ false
     by false is = refl
     by true is =
         let small = peer_small plan v k line stream o links is in
@@ -281,9 +282,9 @@ came_to old n at o loss outcome ends k named asks =
       ended = e;
       manager_is = is.manager_is;
       due_is = ap (λ (z : InterfaceOutcome). outcome_verdict n loss (report_of o e) z) is.outcome_is
-          ∙ sym (λ i. verdict_in n o loss (ended_on old.keeper old.ends n o loss at.0 (x.link_there i)
+          ∙ sym (λ i. verdict_in n o loss (ended_on_link old.keeper old.ends n o loss at.0 (x.link_there i)
           (x.kept_there i)))
-          ∙ ap (λ (p : Option (ℕ × ℕ)). verdict_in n o loss (ended_at old.keeper old.ends n o loss p)) named;
+          ∙ ap (λ (p : Option (ℕ × ℕ)). verdict_in n o loss (ended_if_there old.keeper old.ends n o loss p)) named;
     }
 
 -- a report does not say whether an operation has a verdict
@@ -366,12 +367,13 @@ some_if false x y is = absurd (none-some y (sym is))
 
 pub none_peer : (k : HostKeeper) (v : EndsView) (n line stream : ℕ) (o : Option (ℕ × ℕ))
     → o ≡ interface_named k.interfaces v.links n
-    → None ≡ (if nat_lt stream 256 && has_peer_at v line stream o then Some (managed_peer_stream k line stream) else
+    → None ≡ (if nat_lt stream 256 && has_peer_if_there v line stream o then Some (managed_peer_stream k line stream)
+    else
     None)
     → (nat_lt stream 256 && has_peer_in k v n line stream) ≡ false
 none_peer k v n line stream o named none =
-    ap (λ (p : Option (ℕ × ℕ)). nat_lt stream 256 && has_peer_at v line stream p) (sym named)
-    ∙ none_if (nat_lt stream 256 && has_peer_at v line stream o) (managed_peer_stream k line stream) none
+    ap (λ (p : Option (ℕ × ℕ)). nat_lt stream 256 && has_peer_if_there v line stream p) (sym named)
+    ∙ none_if (nat_lt stream 256 && has_peer_if_there v line stream o) (managed_peer_stream k line stream) none
 
 -- the stream between devices of a line and an ID, where the interface's device has it
 pub record IsPeer (k : HostKeeper) (v : EndsView) (n line stream : ℕ) (peer : PeerStream) : Type 0 where
@@ -381,17 +383,19 @@ pub record IsPeer (k : HostKeeper) (v : EndsView) (n line stream : ℕ) (peer : 
 
 pub is_peer : (k : HostKeeper) (v : EndsView) (n line stream : ℕ) (peer : PeerStream) (o : Option (ℕ × ℕ))
     → o ≡ interface_named k.interfaces v.links n
-    → Some peer ≡ (if nat_lt stream 256 && has_peer_at v line stream o then Some (managed_peer_stream k line stream)
+    → Some peer ≡ (if nat_lt stream 256 && has_peer_if_there v line stream o then Some
+    (managed_peer_stream k line stream)
     else
     None)
     → IsPeer k v n line stream peer
 is_peer k v n line stream peer o named is =
-    let parts = some_if (nat_lt stream 256 && has_peer_at v line stream o) (managed_peer_stream k line stream) peer is
+    let parts = some_if (nat_lt stream 256 && has_peer_if_there v line stream o) (managed_peer_stream k line stream)
+    peer is
     in
-    let both = and_parts (nat_lt stream 256) (has_peer_at v line stream o) parts.0 in
+    let both = and_parts (nat_lt stream 256) (has_peer_if_there v line stream o) parts.0 in
     record {
       small = true-lt stream 256 both.0;
-      has = ap (has_peer_at v line stream) (sym named) ∙ both.1;
+      has = ap (has_peer_if_there v line stream) (sym named) ∙ both.1;
       peer_is = parts.1;
     }
 

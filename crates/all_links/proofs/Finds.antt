@@ -4,8 +4,7 @@ use Rattle.all_links.proofs.Terms.{◌≡◌, ◌+◌, List, refl, ap, sym, ◌�
 use Rattle.all_links.proofs.Terms.{Stepped, Verdict, History, PortsStandFor, Links, state_of, IsBounded, AreLinks}
 use Rattle.all_links.proofs.Terms.{links_state, StepEndsBy, EndsIf, EndsWith, beside_in, Ends, BesidePorts, Interface}
 use Rattle.all_links.proofs.Terms.{true, false, Option, None, IfSome, IsSome, is_some, EndsAs, HasNoVerdict, same_Some}
-use Rattle.all_links.proofs.Terms.{step_of, IsAnsweredBy, answer_of_links}
-use Rattle.all_links.proofs.Terms.{ℕ, ◌<◌, EndsView, port_on}
+use Rattle.all_links.proofs.Terms.{step_of, IsAnsweredBy, answer_of_links, ℕ, ◌<◌, EndsView, port_on}
 use Rattle.std.proofs.Common.{◌^◌}
 use Rattle.ide_types.specs.declared.port.PortName.{PortName}
 use Rattle.ide_port.specs.{PortEnd, PortUnitsAtMost}

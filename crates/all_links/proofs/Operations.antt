@@ -16,7 +16,7 @@ use Rattle.tsm_host.specs.declared.operation.NamedOperation.{NamedOperation as O
 use Rattle.tsm_host.specs.declared.operation.StreamOutcome.{StreamOutcome}
 use Rattle.tsm_host.specs.Operations.{OpName, op_name}
 use Rattle.tsm_host.specs.Walk.{verdict_of}
-use Rattle.all_links.specs.Sides.{works_on}
+use Rattle.all_links.specs.BesideAfter.{works_on}
 use Rattle.link_verdicts.specs.declared.verdict.Verdict.TheVariants as v
 
 works : (operation : Operation) (line : ℕ) → works_on operation line ≡ true → WorksOn operation line

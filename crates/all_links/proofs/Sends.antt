@@ -9,7 +9,7 @@ use Rattle.all_links.proofs.Terms.{state_of, IsBounded, AreLinks, links_state, E
 use Rattle.all_links.proofs.Terms.{port_on, trusting_on, with_port_on, beside_in, BesidePorts, port_in, with_port}
 use Rattle.all_links.proofs.Terms.{LinkState, has_port, stepped_bytes, KeeperView}
 use Rattle.line_arrivals.specs.{cut_packets, PairEnds, end_sent_verdict, changed_at, line_place, pair_port}
-use Rattle.line_arrivals.specs.{port_at_place, with_pair_port, with_port_at, LinePlace, Link, Near, Pair}
+use Rattle.line_arrivals.specs.{port_at_place, with_pair_port, with_port_at_place, LinePlace, Link, Near, Pair}
 use Rattle.std.proofs.lemmas.Option.{none-some}
 use Rattle.std.proofs.lemmas.Bool.{and_parts}
 use Rattle.tlp_layout.specs.Outgoing.{Outgoing, outgoing_of}
@@ -18,7 +18,7 @@ use Rattle.link_verdicts.specs.declared.verdict.Verdict.TheVariants as v
 use Rattle.ide_port.specs.declared.answer.Sent.TheVariants.{Sealed}
 use Rattle.all_links.specs.Links.{Ends, EndsOr, EndsSendingOr}
 use Rattle.ide_types.specs.declared.memory.OutOfMemory.{OutOfMemory}
-use Rattle.all_links.specs.Sides.{SidesKeep}
+use Rattle.all_links.specs.BesideAfter.{BesideStays}
 use Rattle.ide_port.specs.{Trusting}
 use Rattle.ide_port.proofs.Units.{sent-units}
 use Rattle.trusted_memory.specs.{TrustedMemory}
@@ -45,7 +45,7 @@ at_pair_side Host e l = refl
 at_pair_side Device e l = refl
 
 put_there : (v : EndsView) (s : Side) (place : LinePlace) (e e' : PortEnd) → port_at_place v s place ≡ Some e
-    → port_at_place (with_port_at v s place e') s place ≡ Some e'
+    → port_at_place (with_port_at_place v s place e') s place ≡ Some e'
 put_there v s (Link i) e e' is = got (λ l. port_in s l) (with_port s e') v.links i e e' (at_side s e') is
 put_there v s (Near i) e e' is = got (λ l. port_in s l) (with_port s e') v.near i e e' (at_side s e') is
 put_there v s (Pair i) e e' is = got (λ l. pair_port s l) (with_pair_port s e') v.pairs i e e' (at_pair_side s e') is
@@ -146,7 +146,7 @@ seals plan old new end bytes more trusted answer verdict bounded here sends says
 
 pub sent_keeps : (old new : Links) (end : PortName) (bytes : List ℕ) (more trusted : Bool) (answer : Sent)
     → IsSome (port_on old.ends end) → SendsAt old.ends end bytes more trusted answer new.ends
-    → new.keeper ≡ old.keeper → new.trusted ≡ old.trusted → SidesKeep old new
+    → new.keeper ≡ old.keeper → new.trusted ≡ old.trusted → BesideStays old new
 sent_keeps old new end bytes more trusted answer here sends keeper memory =
     let put = is_put old.ends new.ends end bytes more trusted answer here sends in
     let stepped = put.step 0 in

@@ -13,7 +13,7 @@ use Rattle.ide_types.specs.Ports.{host_port}
 unfoldable use Rattle.spec_interfaces.specs.Peers.{peer_end}
 use Rattle.line_arrivals.proofs.{peer_end_is, each_set, seen_same}
 use Rattle.link_events.specs.declared.event.Loss.{Loss}
-use Rattle.line_arrivals.specs.{PairEnds, secure_with, OperatesIn, OperatesOnLink, OperatesOnPair, line_place}
+use Rattle.line_arrivals.specs.{PairEnds, secure_or_live, OperatesIn, OperatesOnLink, OperatesOnPair, line_place}
 use Rattle.line_arrivals.specs.{changed_at, port_at_place, live_of, live_at_port, pair_port, settled_ends, settled_link}
 use Rattle.line_arrivals.specs.{settled_first_links, settled_peer, cleared_place, cleared_ends, cleared_on, all_cleared}
 use Rattle.line_arrivals.specs.{unlocked_ends, unlocked_link, reset_all, LinePlace, Link, Near, Pair}
@@ -26,7 +26,7 @@ use Rattle.tsm_host.specs.declared.operation.NamedOperation.{NamedOperation as O
 use Rattle.tsm_host.specs.declared.operation.StreamOutcome.{StreamOutcome}
 use Rattle.line_arrivals.specs.Follows.{IsSettledOrSame, AllFollow}
 use Rattle.line_arrivals.proofs.Follows.{changed_other}
-use Rattle.all_links.specs.Sides.{reset_if}
+use Rattle.all_links.specs.BesideAfter.{reset_if}
 
 -- ---- lists
 
@@ -180,10 +180,10 @@ unlocked_as false x = refl
 
 pub reset_device : (old : EndsView) (link : ℕ) (es : List PortName) (i : ℕ) (l l' : LinkEnds)
     → slice_get old.links i ≡ Some l → slice_get (reset_all link es old).links i ≡ Some l'
-    → l'.device.interfaces ≡ settled_interfaces (secure_with l'.device.port (peer_live (reset_all link es old) i))
+    → l'.device.interfaces ≡ settled_interfaces (secure_or_live l'.device.port (peer_live (reset_all link es old) i))
     (reset_if (i == link) l.device.interfaces)
 reset_device old link es i l l' at at' =
-    subst IsSo (sym is) (λ j. settled_interfaces (secure_with y.device.port (live j)) (interfaces j))
+    subst IsSo (sym is) (λ j. settled_interfaces (secure_or_live y.device.port (live j)) (interfaces j))
   where
     c : EndsView
     c = all_cleared old es
@@ -215,7 +215,7 @@ reset_device old link es i l l' at at' =
     interfaces = unlocked_as (i == link) x.0 ∙ ap (λ (d : DeviceTdis). reset_if (i == link) d) x.2
 
     IsSo : LinkEnds → Type 0
-    IsSo z = z.device.interfaces ≡ settled_interfaces (secure_with z.device.port (peer_live new i))
+    IsSo z = z.device.interfaces ≡ settled_interfaces (secure_or_live z.device.port (peer_live new i))
         (reset_if (i == link) l.device.interfaces)
 
 -- ---- nothing changes
@@ -248,11 +248,11 @@ abbrev settled_if : Bool → (ℕ → Option ℕ) → LinkEnds → LinkEnds
 settled_if b live l = if b then settled_ends live l else l
 
 abbrev IsSettledBy : (ℕ → Option ℕ) → LinkEnds → LinkEnds → Type 0
-IsSettledBy live l z = z.device.interfaces ≡ settled_interfaces (secure_with z.device.port live) l.device.interfaces
+IsSettledBy live l z = z.device.interfaces ≡ settled_interfaces (secure_or_live z.device.port live) l.device.interfaces
 
 settled_once : (a b : Bool) (live : ℕ → Option ℕ) (l : LinkEnds) → (a || b) ≡ true
     → IsSettledBy live l (settled_if b live (settled_if a live l))
-settled_once true true live l is = settled_twice (secure_with l.device.port live) l.device.interfaces
+settled_once true true live l is = settled_twice (secure_or_live l.device.port live) l.device.interfaces
 settled_once true false live l is = refl
 settled_once false true live l is = refl
 settled_once false false live l is = absurd cc

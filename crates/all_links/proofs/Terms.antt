@@ -9,7 +9,7 @@ pub use Rattle.ide_types.specs.declared.status.StreamStatus.{StreamStatus}
 pub use Rattle.spec_keys.proofs.Tests.{true-lt}
 pub use Rattle.spec_keys.specs.History.{History}
 pub use Rattle.spec_keys.specs.Operations.{StreamStage, work_of}
-pub use Rattle.line_arrivals.specs.{OperatesAt, ResetsAt, SendsAt, both_of, statuses_of, told_by_line, drawn_at}
+pub use Rattle.line_arrivals.specs.{OperatesAt, ResetsAt, SendsAt, both_of, statuses_of, told_by_line, drawn_on_line}
 pub use Rattle.line_arrivals.specs.{EndsView, peer_live, port_on, trusting_on, with_port_on, stream_named, AreLinks}
 pub use Rattle.line_arrivals.specs.{IsBounded, ports_in, state_of, port_in, with_port, KeeperView, LinkEnds}
 pub use Rattle.line_arrivals.specs.{InterfacesView}

@@ -4,12 +4,12 @@ pub mod Links
 pub mod Interfaces
 pub mod Accesses
 pub mod Besides
-pub mod Sides
+pub mod BesideAfter
 pub use Rattle.line_arrivals.specs.{EndsView, live_of, peer_live, new_all_ends, port_on, trusting_on, bound_on}
 pub use Rattle.line_arrivals.specs.{bound_trust, far_hop_trust, link_trust, live_at_port, pair_port, code_behind}
-pub use Rattle.line_arrivals.specs.{place_on_links, stream_named, AreLinks, IsBounded, IsLink, name_of, names_from}
-pub use Rattle.line_arrivals.specs.{names_of, ops_in, ops_of, state_of, views_after, grants_in, writes_by, new_ends}
-pub use Rattle.line_arrivals.specs.{port_in, PairEnds, InterfacesView, keyed_if, live_for, operated_on}
+pub use Rattle.line_arrivals.specs.{place_on_links, stream_named, AreLinks, IsBounded, IsLink, name_of, names_from_line}
+pub use Rattle.line_arrivals.specs.{names_of, ops_by_line, line_ops, state_of, views_after, grants_in, writes_by}
+pub use Rattle.line_arrivals.specs.{new_ends, port_in, PairEnds, InterfacesView, keyed_if, live_for, operated_on}
 pub use Rattle.line_arrivals.specs.{status_for, stopped_if, KeeperView, LinkEnds, HostKeeper, unit_tlps, arrival_of}
 pub use Rattle.line_arrivals.specs.{unit_in, waiting_reads_after, carried_next, IsThere}
 pub use Rattle.line_arrivals.specs.Landing.{IsQuiet, Lands, arrival_on}

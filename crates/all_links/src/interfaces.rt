@@ -25,9 +25,9 @@ impl Links {
     ghost use Rattle.line_arrivals.specs.{IsBounded, IsThere, AsksAt, report_of, outcome_verdict, NoBadInterfaceReply};
     ghost use Rattle.all_links.specs.Links.{EndsWith, EndsOr, EndsAs, EndsAsOr};
     ghost use Rattle.all_links.specs.Accesses.{place_runs, device_draw};
-    ghost use Rattle.all_links.specs.Sides.{SidesKeep, SidesAsk, SidesInterface};
+    ghost use Rattle.all_links.specs.BesideAfter.{BesideStays, BesideAsking, BesideInterface};
     ghost use Rattle.all_links.specs.Besides.{answer_of_links, op_verdict};
-    ghost use Rattle.all_links.specs.Interfaces.{interface_named, has_peer_at, managed_peer_stream};
+    ghost use Rattle.all_links.specs.Interfaces.{interface_named, has_peer_if_there, managed_peer_stream};
 
     fn shows(&mut self, verdict: InterfaceVerdict) -> Verdict
         requires { self.old.steps < 2 ^ 28 }
@@ -115,7 +115,7 @@ impl Links {
         ensures ends { (plan : PlanView) (event : InterfaceEvent)
             → answer_of_links self.old event ≡ op_verdict self.old number op loss
             → EndsAs plan result self.old self.new (Event.Interface event) }
-        ensures sides { IfSome result (λ v. SidesAsk number op loss self.old self.new) }
+        ensures sides { IfSome result (λ v. BesideAsking number op loss self.old self.new) }
     {
         match at {
             None => Some(self.only(Verdict::Nothing)),
@@ -132,7 +132,7 @@ impl Links {
     // place has it.
     fn peer(&self, at: Option<(u8, usize)>, line: u64, stream: u64) -> Option<PeerStream>
         requires { is_peer_line line ≡ true }
-        ensures { result ≡ (if nat_lt stream 256 && has_peer_at self.now.ends line stream at
+        ensures { result ≡ (if nat_lt stream 256 && has_peer_if_there self.now.ends line stream at
             then Some (managed_peer_stream self.now.keeper line stream) else None) }
     {
         if stream > 255 {
@@ -168,7 +168,7 @@ impl Links {
         requires peer { is_peer_line line ≡ true }
         ensures ends { (plan : PlanView) → EndsAs plan result self.old self.new
             (Event.Interface (InterfaceEvent.Bind number line stream loss)) }
-        ensures sides { IfSome result (λ v. SidesInterface (InterfaceEvent.Bind number line stream loss) self.old
+        ensures sides { IfSome result (λ v. BesideInterface (InterfaceEvent.Bind number line stream loss) self.old
             self.new) }
     {
         let at = self.interface(number);
@@ -198,7 +198,7 @@ impl Links {
         requires peer { is_peer_line line ≡ true }
         ensures ends { (plan : PlanView) → EndsAs plan result self.old self.new
             (Event.Interface (InterfaceEvent.Unbind number line stream loss)) }
-        ensures sides { IfSome result (λ v. SidesInterface (InterfaceEvent.Unbind number line stream loss) self.old
+        ensures sides { IfSome result (λ v. BesideInterface (InterfaceEvent.Unbind number line stream loss) self.old
             self.new) }
     {
         let at = self.interface(number);
@@ -226,7 +226,7 @@ impl Links {
         ensures ends { (plan : PlanView) → EndsAsOr plan result self.old self.new
             (Event.Interface (InterfaceEvent.Report number loss)) }
         ensures sides { IfOk result (λ o. IfSome o (λ v.
-            SidesAsk number InterfaceOperation.Report loss self.old self.new)) }
+            BesideAsking number InterfaceOperation.Report loss self.old self.new)) }
     {
         match self.interface(number) {
             None => Ok(Some(self.only(Verdict::Nothing))),
@@ -248,7 +248,7 @@ impl Links {
         requires bounded { IsBounded self.old.ends self.old.packets.packets self.old.steps }
         ensures ends { (plan : PlanView) → EndsWith plan result self.old self.new
             (Event.Interface (InterfaceEvent.View number)) }
-        ensures sides { SidesKeep self.old self.new }
+        ensures sides { BesideStays self.old self.new }
     {
         match self.interface(number) {
             None => self.only(Verdict::Nothing),
@@ -266,7 +266,7 @@ impl Links {
         requires width { value < 2 ^ width_of register }
         ensures ends { (plan : PlanView) → EndsWith plan result self.old self.new
             (Event.Interface (InterfaceEvent.Write number register value)) }
-        ensures sides { SidesInterface (InterfaceEvent.Write number register value) self.old self.new }
+        ensures sides { BesideInterface (InterfaceEvent.Write number register value) self.old self.new }
     {
         match self.interface(number) {
             None => self.only(Verdict::Nothing),
@@ -289,7 +289,7 @@ impl Links {
         requires here { at ≡ interface_named self.old.keeper.interfaces self.old.ends.links number }
         ensures ends { (plan : PlanView) → EndsWith plan result self.old self.new
             (Event.Interface (InterfaceEvent.Flr number)) }
-        ensures sides { SidesInterface (InterfaceEvent.Flr number) self.old self.new }
+        ensures sides { BesideInterface (InterfaceEvent.Flr number) self.old self.new }
         ensures place { interface_named self.new.keeper.interfaces self.new.ends.links number ≡ at }
     {
         match at {
@@ -307,7 +307,7 @@ impl Links {
         requires bounded { IsBounded self.old.ends self.old.packets.packets self.old.steps }
         ensures ends { (plan : PlanView) → EndsWith plan result self.old self.new
             (Event.Interface (InterfaceEvent.Firmware number)) }
-        ensures sides { SidesInterface (InterfaceEvent.Firmware number) self.old self.new }
+        ensures sides { BesideInterface (InterfaceEvent.Firmware number) self.old self.new }
     {
         match self.interface(number) {
             None => self.only(Verdict::Nothing),
@@ -325,7 +325,7 @@ impl Links {
         requires bounded { IsBounded self.old.ends self.old.packets.packets self.old.steps }
         ensures ends { (plan : PlanView) → EndsOr plan result self.old self.new
             (Event.Interface (InterfaceEvent.Memory address length)) }
-        ensures sides { IfOk result (λ v. SidesKeep self.old self.new) }
+        ensures sides { IfOk result (λ v. BesideStays self.old self.new) }
     {
         let mut bytes = vec![in alloc; 0; length as usize]?;
         if self.trusted.peek(address, &mut bytes) {
@@ -346,7 +346,7 @@ impl Links {
         requires bounded { IsBounded self.old.ends self.old.packets.packets self.old.steps }
         requires allowed { IsAllowedInterface event.now }
         ensures ends { (plan : PlanView) → EndsAsOr plan result self.old self.new (Event.Interface event.now) }
-        ensures sides { IfOk result (λ o. IfSome o (λ v. SidesInterface event.now self.old self.new)) }
+        ensures sides { IfOk result (λ o. IfSome o (λ v. BesideInterface event.now self.old self.new)) }
     {
         match event {
             InterfaceEvent::Lock { interface, lose } => {

@@ -24,7 +24,7 @@ impl Links {
     ghost use Rattle.ide_types.specs.declared.plan.Plan.{Plan as PlanView};
     ghost use Rattle.line_arrivals.specs.{IsBounded};
     ghost use Rattle.all_links.specs.Links.{IsFirst, EndsWith};
-    ghost use Rattle.all_links.specs.Sides.{SidesReset};
+    ghost use Rattle.all_links.specs.BesideAfter.{BesideReset};
 
     /// The lines of the plan before the first event: no stream has keys, no interface is locked, and memory is 0.
     /// Returns `OutOfMemory` for want of memory.
@@ -68,7 +68,7 @@ impl Links {
         ensures ends { (plan : PlanView) → EndsWith plan result self.old self.new (Event.Reset link ends.now) }
         ensures verdict { result ≡ (if nat_lt link (length self.old.ends.links) then Verdict.Reset link
             else Verdict.Nothing) }
-        ensures sides { SidesReset link self.old self.new }
+        ensures sides { BesideReset link self.old self.new }
     {
         if !self.has_link(link) {
             return self.only(Verdict::Nothing);

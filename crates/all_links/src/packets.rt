@@ -17,7 +17,7 @@ impl Links {
     ghost use Rattle.line_arrivals.specs.{IsBounded};
     ghost use Rattle.all_links.specs.Links.{EndsOr, EndsSending, EndsSendingOr};
     ghost use Rattle.all_links.specs.Accesses.{is_sending};
-    ghost use Rattle.all_links.specs.Sides.{SidesKeep};
+    ghost use Rattle.all_links.specs.BesideAfter.{BesideStays};
 
     // Takes room for what one send seals.
     fn reserve_packets(&mut self) -> Result<(), OutOfMemory>
@@ -42,7 +42,7 @@ impl Links {
         requires steps { self.old.steps < 2 ^ 28 }
         requires bounded { IsBounded self.old.ends self.old.packets.packets self.old.steps }
         ensures ends { EndsOr plan.now result self.old self.new (Event.Send port bytes.now more trusted) }
-        ensures sides { IfOk result (λ v. SidesKeep self.old self.new) }
+        ensures sides { IfOk result (λ v. BesideStays self.old self.new) }
         ensures sending { IfOk result (λ v. is_sending v ≡ true) }
     {
         if !may_send(plan, port) {
@@ -64,7 +64,7 @@ impl Links {
         requires steps { self.old.steps < 2 ^ 28 }
         requires bounded { IsBounded self.old.ends self.old.packets.packets self.old.steps }
         ensures ends { EndsSendingOr plan.now result self.old self.new end bytes.now more trusted }
-        ensures sides { IfOk result (λ v. SidesKeep self.old self.new) }
+        ensures sides { IfOk result (λ v. BesideStays self.old self.new) }
         ensures sending { IfOk result (λ v. is_sending v ≡ true) }
     {
         if !self.ends.has_end(end) {
@@ -89,7 +89,7 @@ impl Links {
         requires marks { 3 ≤ self.old.packets.mark_room }
         requires bytes_room { 4184 ≤ self.old.packets.byte_room }
         ensures ends { EndsSending plan.now result self.old self.new end bytes.now more trusted }
-        ensures sides { SidesKeep self.old self.new }
+        ensures sides { BesideStays self.old self.new }
         ensures sending { is_sending result ≡ true }
     {
         let number = self.packets.count() as u64 + 1;
@@ -107,7 +107,7 @@ impl Links {
         requires steps { self.old.steps < 2 ^ 28 }
         requires bounded { IsBounded self.old.ends self.old.packets.packets self.old.steps }
         ensures ends { (plan : PlanView) → EndsOr plan result self.old self.new (Event.Dump packet) }
-        ensures sides { IfOk result (λ v. SidesKeep self.old self.new) }
+        ensures sides { IfOk result (λ v. BesideStays self.old self.new) }
     {
         match self.packets.get(packet) {
             None => Ok(self.only(Verdict::Nothing)),

@@ -8,7 +8,7 @@ ghost use Rattle.tsm_host.specs.Walk.{NoBadReply as NoBadStreamReply, verdict_of
 ghost use Rattle.line_arrivals.specs.{port_on, stream_named};
 ghost use Rattle.ide_types.specs.Ports.{host_port};
 ghost use Rattle.all_links.specs.Events.{operation_event};
-ghost use Rattle.all_links.specs.Sides.{works_on};
+ghost use Rattle.all_links.specs.BesideAfter.{works_on};
 
 use crate::links::Links;
 use ide_types::{PortName, Side};
@@ -29,9 +29,9 @@ fn works_on(operation: Operation, line: u8) -> bool
 
 impl Links {
     ghost use Rattle.ide_types.specs.declared.plan.Plan.{Plan as PlanView};
-    ghost use Rattle.line_arrivals.specs.{IsBounded, OperatesAt, told_by_line, drawn_at};
+    ghost use Rattle.line_arrivals.specs.{IsBounded, OperatesAt, told_by_line, drawn_on_line};
     ghost use Rattle.all_links.specs.Links.{StandsForSome, EndsWith, EndsAs};
-    ghost use Rattle.all_links.specs.Sides.{SidesKeep, SidesOperate};
+    ghost use Rattle.all_links.specs.BesideAfter.{BesideStays, BesideOperation};
 
     // The line and the stream by their numbers, if there is such a stream.
     fn named(&self, line: u64, stream: u64) -> Option<(u8, u8)>
@@ -64,7 +64,7 @@ impl Links {
         requires bounded { IsBounded self.old.ends self.old.packets.packets self.old.steps }
         ensures ends { (plan : PlanView) → EndsAs plan result self.old self.new
             (operation_event operation line stream loss) }
-        ensures sides { IfSome result (λ v. SidesOperate operation line stream v self.old self.new) }
+        ensures sides { IfSome result (λ v. BesideOperation operation line stream v self.old self.new) }
     {
         join_keys::operations_join();
         join_keys::pair_operations_join();
@@ -99,7 +99,7 @@ impl Links {
             ≡ told_by_line (op_name op).line op begins drew draw result self.old.keeper.interfaces) }
         ensures peer_draws { let draw = self.old.keeper.keys.pool.draws in
             let drew = not (self.new.keeper.keys.pool.draws == draw) in
-            self.new.keeper.peer_draws ≡ drawn_at (op_name op).line op drew draw self.old.keeper.peer_draws }
+            self.new.keeper.peer_draws ≡ drawn_on_line (op_name op).line op drew draw self.old.keeper.peer_draws }
         ensures answered { let name = op_name op in works_on name.operation name.line ≡ true → (plan : PlanView)
             → StandsForSome plan self.old → IsSome (verdict_of name.operation name.line name.stream loss result) }
         ensures no_bad_reply { works_on (op_name op).operation (op_name op).line ≡ true → (plan : PlanView)
@@ -115,7 +115,7 @@ impl Links {
         requires steps { self.old.steps < 2 ^ 28 }
         requires bounded { IsBounded self.old.ends self.old.packets.packets self.old.steps }
         ensures ends { (plan : PlanView) → EndsWith plan result self.old self.new (Event.Status line stream) }
-        ensures sides { SidesKeep self.old self.new }
+        ensures sides { BesideStays self.old self.new }
     {
         match self.named(line, stream) {
             None => self.only(Verdict::Nothing),

@@ -11,7 +11,7 @@ use Rattle.sub_stream.specs.{lent_parts, mark_of}
 use Rattle.sub_stream.specs.declared.answer.PacketMark.{PacketMark}
 use Rattle.hop_queues.specs.declared.queue.HopTlp.{HopTlp}
 use Rattle.hop_queues.specs.declared.queues.HopQueues.{HopQueues}
-use Rattle.arrival_verdicts.specs.Switches.{switched_as, switched_each, tlps_as, tlps_in, queues_after_offer}
+use Rattle.arrival_verdicts.specs.Switches.{switched_as, switched_each, packet_tlps, tlps_in, queues_after_offer}
 use Rattle.arrival_verdicts.specs.Switches.{all_offered}
 use Rattle.arrival_verdicts.proofs.Effects.{IsThere, packet_there}
 
@@ -32,21 +32,21 @@ module _ (ps : List Packet) (sub : SubKind) (d : Direction) (q0 : HopQueues) whe
   pub one_more : (i : ℕ) (list : List Effect) (q q' : HopQueues) (mark : PacketMark) (head body : List ℕ) (e : Effect)
       → SoFar i list q → slice_get (map mark_of ps) i ≡ Some mark
       → slice_get (map lent_parts ps) i ≡ Some (head, body) → e ≡ switched_as mark
-      → q' ≡ all_offered d (tlps_as sub mark head body) q → SoFar (i + 1) (list ++ e ∷ []) q'
+      → q' ≡ all_offered d (packet_tlps sub mark head body) q → SoFar (i + 1) (list ++ e ∷ []) q'
   one_more i list q q' mark head body e before marked lent effect_is queues_are =
       let t : IsThere ps i mark head body = packet_there ps i mark head body marked lent in
       let p : Packet = t.packet in
       let rest : List Packet = drop (i + 1) ps in
       let here : drop i ps ≡ p ∷ rest = rw add-one t.here in
       let same : e ≡ switched_as (mark_of p) = effect_is ∙ ap switched_as (sym t.mark_is) in
-      let tlps : tlps_as sub (mark_of p) p.head p.body ≡ tlps_as sub mark head body =
-      (λ j. tlps_as sub (t.mark_is j) (t.head_is j) (t.body_is j)) in
+      let tlps : packet_tlps sub (mark_of p) p.head p.body ≡ packet_tlps sub mark head body =
+      (λ j. packet_tlps sub (t.mark_is j) (t.head_is j) (t.body_is j)) in
       record {
         effects = before.effects ∙ ap (λ (qs : List Packet). list ++ switched_each qs) here
             ∙ ap (λ (x : Effect). list ++ x ∷ switched_each rest) (sym same)
             ∙ sym (append_assoc list (e ∷ []) (switched_each rest));
         queues = before.queues ∙ ap (λ (qs : List Packet). all_offered d (tlps_in sub qs) q) here
-            ∙ offered_both d (tlps_as sub (mark_of p) p.head p.body) (tlps_in sub rest) q
+            ∙ offered_both d (packet_tlps sub (mark_of p) p.head p.body) (tlps_in sub rest) q
             ∙ ap (λ (xs : List HopTlp). all_offered d (tlps_in sub rest) (all_offered d xs q)) tlps
             ∙ ap (λ (r : HopQueues). all_offered d (tlps_in sub rest) r) (sym queues_are);
       }

@@ -27,7 +27,7 @@ use Rattle.trusted_memory.specs.Causes.{block_cause, block_effect}
 use Rattle.trusted_memory.specs.declared.queue.WaitingRead.{WaitingRead}
 use Rattle.trusted_memory.specs.declared.read.MemReadView.{MemReadView}
 use Rattle.trusted_memory.specs.Waiting.{request_effect, effect_by_read, read_cause, read_effect}
-use Rattle.guarded_memory.specs.declared.standing.InterfaceStatus.{InterfaceStatus}
+use Rattle.guarded_memory.specs.declared.status.InterfaceStatus.{InterfaceStatus}
 use Rattle.guarded_memory.specs.declared.claims.Claim.{Claim}
 use Rattle.guarded_memory.specs.{GuardedMemory, Happened, MmioLeads, mmio_effect, mmio_cause}
 use Rattle.guarded_memory.specs.{claim_effect, cause_effect, claim_of}
@@ -84,7 +84,7 @@ module _ (draw : ℕ) where
   claim_none : (t : Bool) (stream at : ℕ) (s : Span) (r : Result HeadView TlpFault) (o : Option Claim)
       → queued_by draw (claim_effect o s t stream at) r ≡ []
   claim_none t stream at s r None = refl
-  claim_none t stream at s r (Some c) = cause_none r (mmio_cause c.standing c.range s t stream at)
+  claim_none t stream at s r (Some c) = cause_none r (mmio_cause c.status c.range s t stream at)
 
   pub mmio_none : (xs : List InterfaceStatus) (t : Bool) (stream at : ℕ) (r : Result HeadView TlpFault)
       (o : Option Span)
@@ -99,7 +99,7 @@ module _ (draw : ℕ) where
   claim_waits : (n : ℕ) (t : Bool) (stream at : ℕ) (s : Span) (r : Result HeadView TlpFault) (o : Option Claim)
       → Waits n (claim_effect o s t stream at) r
   claim_waits n t stream at s r None = omega arith
-  claim_waits n t stream at s r (Some c) = cause_waits n r (mmio_cause c.standing c.range s t stream at)
+  claim_waits n t stream at s r (Some c) = cause_waits n r (mmio_cause c.status c.range s t stream at)
 
   mmio_waits : (n : ℕ) (xs : List InterfaceStatus) (t : Bool) (stream at : ℕ) (r : Result HeadView TlpFault)
       (o : Option Span) → Waits n (mmio_effect xs t stream at o) r

@@ -16,13 +16,13 @@ use Rattle.spec_links.specs.Hops.{tlps_with}
 use Rattle.spec_links.specs.Admission.{plain_of}
 use Rattle.spec_links.specs.Plan.{key_of}
 use Rattle.spec_links.specs.Packets.{received_in}
-use Rattle.arrival_verdicts.specs.Switches.{tlps_as}
+use Rattle.arrival_verdicts.specs.Switches.{packet_tlps}
 use Rattle.arrival_verdicts.proofs.Writes.{OpensAs}
 
 -- of packets whose bodies are plain, each in the sub-stream that it names
 abbrev pub own_tlps : List Packet → List HopTlp
 own_tlps [] = []
-own_tlps (p ∷ ps) = tlps_as p.prefix.sub (mark_of p) p.head p.body ++ own_tlps ps
+own_tlps (p ∷ ps) = packet_tlps p.prefix.sub (mark_of p) p.head p.body ++ own_tlps ps
 
 one_first : (b : Bool) (x : HopTlp) (xs : List HopTlp) → (if b then xs else x ∷ xs)
     ≡ (if b then [] else x ∷ []) ++ xs

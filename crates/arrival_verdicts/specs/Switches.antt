@@ -24,14 +24,14 @@ switched_each ps = map (λ p. switched_as (mark_of p)) ps
 -- ---- TLPs that wait
 
 -- that of a packet with this mark, header and plain payload, in a sub-stream
-abbrev pub tlps_as : SubKind → PacketMark → List ℕ → List ℕ → List HopTlp
-tlps_as sub mark header payload =
+abbrev pub packet_tlps : SubKind → PacketMark → List ℕ → List ℕ → List HopTlp
+packet_tlps sub mark header payload =
     if mark.sync then [] else record { sub = sub; bytes = header ++ payload; t = mark.t } ∷ []
 
 -- those of packets whose bodies are plain
 abbrev pub tlps_in : SubKind → List Packet → List HopTlp
 tlps_in sub [] = []
-tlps_in sub (p ∷ ps) = tlps_as sub (mark_of p) p.head p.body ++ tlps_in sub ps
+tlps_in sub (p ∷ ps) = packet_tlps sub (mark_of p) p.head p.body ++ tlps_in sub ps
 
 -- those of the unit, by its sub-stream
 abbrev pub unit_waits : List Packet → UnitName → List HopTlp

@@ -23,7 +23,7 @@ use Rattle.spec_links.specs.Sent.{read_in, reads_by}
 use Rattle.spec_links.specs.Guarded.{tlp_happened}
 use Rattle.trusted_memory.specs.declared.queue.WaitingRead.{WaitingRead}
 use Rattle.trusted_memory.specs.Waiting.{request_effect}
-use Rattle.guarded_memory.specs.declared.standing.InterfaceStatus.{InterfaceStatus}
+use Rattle.guarded_memory.specs.declared.status.InterfaceStatus.{InterfaceStatus}
 use Rattle.guarded_memory.specs.{Happened, GuardedMemory, MmioLeads, mmio_effect}
 use Rattle.trusted_memory.specs.declared.grant.Grant.{Grant}
 use Rattle.trusted_memory.specs.{Write, MemoryContents, Leads, write_span, memory_write, admitted_write}

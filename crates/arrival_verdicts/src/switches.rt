@@ -2,9 +2,8 @@
 
 ghost use Rattle.std.specs.Prelude.{◌≡◌, ◌++◌};
 ghost use Rattle.arrival_verdicts.specs.Verdicts.{arrival_verdict, of_unit};
-ghost use Rattle.arrival_verdicts.specs.Switches.{switched_as, switched_each, tlps_as, tlps_in, unit_waits};
-ghost use Rattle.arrival_verdicts.specs.Switches.{queues_after_offer};
-ghost use Rattle.arrival_verdicts.specs.Switches.{all_offered};
+ghost use Rattle.arrival_verdicts.specs.Switches.{switched_as, switched_each, packet_tlps, tlps_in, unit_waits};
+ghost use Rattle.arrival_verdicts.specs.Switches.{queues_after_offer, all_offered};
 
 use crate::verdicts::verdict_with;
 use hop_queues::{HopQueues, MOST_BYTES};
@@ -40,7 +39,7 @@ fn switched(
     payload: &[u8],
 ) -> Effect
     ensures effect { result ≡ switched_as mark }
-    ensures queues { queues.new ≡ all_offered direction (tlps_as sub mark header.now payload.now) queues.old }
+    ensures queues { queues.new ≡ all_offered direction (packet_tlps sub mark header.now payload.now) queues.old }
 {
     if mark.sync {
         return Effect::Sync;

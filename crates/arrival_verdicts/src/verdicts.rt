@@ -12,10 +12,9 @@ ghost use Rattle.spec_links.specs.Guarded.{tlp_happened};
 ghost use Rattle.spec_links.specs.Sent.{reads_by};
 ghost use Rattle.sub_stream.specs.{numbered_packet};
 ghost use Rattle.ide_port.specs.{refusal_verdict as verdict_refused, numbered_from};
-ghost use Rattle.arrival_verdicts.specs.Verdicts.{grants_in, end_sent_verdict};
-ghost use Rattle.arrival_verdicts.specs.Verdicts.{head_effect, head_write, claimed_effect, queued_by, effects_from};
-ghost use Rattle.arrival_verdicts.specs.Verdicts.{packet_write, packet_stored, unit_writes, of_unit, arrival_verdict};
-ghost use Rattle.arrival_verdicts.specs.Verdicts.{PacketCame, UnitCame};
+ghost use Rattle.arrival_verdicts.specs.Verdicts.{grants_in, end_sent_verdict, head_effect, head_write, claimed_effect};
+ghost use Rattle.arrival_verdicts.specs.Verdicts.{queued_by, effects_from, packet_write, packet_stored, unit_writes};
+ghost use Rattle.arrival_verdicts.specs.Verdicts.{of_unit, arrival_verdict, PacketCame, UnitCame};
 
 use ide_port::{Arrival, SendRefusal, Sent};
 use ide_prefix::{packet_word, tlp_word};

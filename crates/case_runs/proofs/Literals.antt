@@ -14,7 +14,7 @@ use Rattle.spec_interfaces.specs.Floors.{device_floor}
 use Rattle.spec_interfaces.specs.Peers.{peer_end}
 use Rattle.spec_interfaces.specs.Sites.{sites}
 use Rattle.spec_interfaces.specs.Views.{managed_view, stream_draw}
-use Rattle.trusted_memory.specs.Writes.{byte_after}
+use Rattle.trusted_memory.specs.Writes.{byte_last_written}
 use Rattle.trusted_memory.specs.Completions.{completion_bytes}
 use Rattle.tlp_layout.specs.Choice.{choice_of}
 use Rattle.tlp_layout.specs.Outgoing.{outgoing_of}
@@ -32,7 +32,8 @@ use Rattle.spec_links.specs.Units.{open_unit, units}
 
 unfoldable pub due_on_literals : ⊤
 unfolding whole_reading walk_length walked_from verifies read_head_of read_of cut_of key_due base failed_there manager
-    moments is_open keys devices interface_verdict_due device_floor peer_end sites managed_view stream_draw byte_after
+    moments is_open keys devices interface_verdict_due device_floor peer_end sites managed_view stream_draw
+    byte_last_written
     completion_bytes choice_of outgoing_of before_tag due is_verified link_happenings ahead_of_unit arrival_of_event
     got_since
     has_live_in has_live_out packets_in_hold port_keys meets_counts packet_of posted_since_last sealed_packets

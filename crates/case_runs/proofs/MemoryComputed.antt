@@ -14,7 +14,7 @@ use Rattle.case_runs.proofs.MemoryPackets.{packet_description, device_write, dev
 use Rattle.case_runs.proofs.MemoryPackets.{device_opened}
 use Rattle.spec_interfaces.specs.Views.{grant_at}
 use Rattle.spec_interfaces.specs.Due.{interface_verdict_due as interface_due}
-use Rattle.trusted_memory.specs.Writes.{Write, byte_after, newest_first}
+use Rattle.trusted_memory.specs.Writes.{Write, byte_last_written, newest_first}
 use Rattle.spec_links.specs.History.{packet_of}
 use Rattle.spec_links.specs.Memory.{admitted_writes, admitted_each, shown_if}
 use Rattle.spec_links.specs.Packets.{Arrival, arrival_packet}
@@ -63,7 +63,7 @@ unfolding due_on_literals
 shown_due =
     ap (λ (ws : List Write). interface_due interface_plan
     (accepted_write Applied ∷ sealed_write ∷ started_event ∷ reported_history) (ie.Memory 0x10000000 6)
-    (shown_if (in_one_region interface_plan.memory 0x10000000 6) (bytes_from (byte_after ws) 0x10000000 6)))
+    (shown_if (in_one_region interface_plan.memory 0x10000000 6) (bytes_from (byte_last_written ws) 0x10000000 6)))
     write_admitted
 
 unheard_due : IsInterfaceDue (unheard_start ∷ reported_history) sealed_write

@@ -9,7 +9,7 @@ use Rattle.ide_types.specs.declared.port.Side.TheVariants.{Host}
 use Rattle.ide_types.specs.declared.sub.SubKind.TheVariants.{Cpl}
 use Rattle.tlp_layout.specs.Outgoing.{outgoing_of}
 use Rattle.spec_interfaces.specs.Views.{grant_at}
-use Rattle.trusted_memory.specs.Writes.{Write, byte_after, newest_first}
+use Rattle.trusted_memory.specs.Writes.{Write, byte_last_written, newest_first}
 use Rattle.trusted_memory.specs.declared.queue.WaitingRead.{WaitingRead}
 use Rattle.trusted_memory.specs.Completions.{completion_bytes}
 use Rattle.spec_links.specs.Plan.{streams_of}
@@ -85,15 +85,15 @@ queued_are =
 -- ---- the answer
 
 bytes_from_both : sent_bytes interface_plan waiting_history answer ≡ option_map_or
-    (λ (r : WaitingRead). completion_bytes (byte_after (applied_write ∷ [])) r.read)
+    (λ (r : WaitingRead). completion_bytes (byte_last_written (applied_write ∷ [])) r.read)
     (slice_get (waiting_read ∷ []) (reads_taken waiting_history 0)) []
 unfolding bytes_by
-bytes_from_both i = option_map_or (λ (r : WaitingRead). completion_bytes (byte_after (writes_are i)) r.read)
+bytes_from_both i = option_map_or (λ (r : WaitingRead). completion_bytes (byte_last_written (writes_are i)) r.read)
     (slice_get (queued_are i) (reads_taken waiting_history 0)) []
 
-completed : option_map_or (λ (r : WaitingRead). completion_bytes (byte_after (applied_write ∷ [])) r.read)
+completed : option_map_or (λ (r : WaitingRead). completion_bytes (byte_last_written (applied_write ∷ [])) r.read)
     (slice_get (waiting_read ∷ []) (reads_taken waiting_history 0)) [] ≡ read_completion
-unfolding completion_bytes byte_after reads_taken
+unfolding completion_bytes byte_last_written reads_taken
 completed = refl
 
 bytes_are : sent_bytes interface_plan waiting_history answer ≡ read_completion

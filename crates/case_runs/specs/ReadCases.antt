@@ -119,7 +119,7 @@ OneMore =
     (record {
       grants = λ link requester. Some (record { stream = 5; floor = 0 });
       waiting = λ link. 63;
-      standings = λ link. [];
+      statuses = λ link. [];
     })
     63 (host_port 0) read_unit (read_packet ∷ read_packet ∷ [])
     ≡ Queued ∷ Blocked Full ∷ []

@@ -7,10 +7,9 @@ ghost use Rattle.spec_links.specs.Laws.{NoForgery};
 ghost use Rattle.case_runs.specs.Due.{AreDue};
 ghost use Rattle.case_runs.specs.Gone.{AreGone};
 ghost use Rattle.case_runs.specs.ScriptCases.{plan, history_of_writes, establish_step, seal_step, accepted_unit, fails};
-ghost use Rattle.case_runs.specs.ScriptCases.{accepted_once};
-ghost use Rattle.case_runs.specs.ScriptCases.{trusted_on_the_way, other_set_on_the_way, one_missing, read_ahead};
-ghost use Rattle.case_runs.specs.ScriptCases.{two_in_a_unit, late_packet, reply_lost, tail_missing, count_full};
-ghost use Rattle.case_runs.specs.ScriptCases.{older_goes, receiver, sender};
+ghost use Rattle.case_runs.specs.ScriptCases.{accepted_once, trusted_on_the_way, other_set_on_the_way, one_missing};
+ghost use Rattle.case_runs.specs.ScriptCases.{read_ahead, two_in_a_unit, late_packet, reply_lost, tail_missing};
+ghost use Rattle.case_runs.specs.ScriptCases.{count_full, older_goes, receiver, sender};
 
 /// A posted write is sealed and accepted. If it arrives again it fails by its tag, which is that of the unit before;
 /// then the stream is insecure.

@@ -10,10 +10,9 @@ ghost use Rattle.clap.specs.declared.builder.command.Command.TheViews.{out-Comma
 ghost use Rattle.cli_words.specs.Ide.{check_app, flag_rule, generate_app, ide_app, judge_app, name_rule, number_rule};
 ghost use Rattle.cli_words.specs.Ide.{numbers_app, run_app, scripts_app, show_app, top_app, topologies_app, why_app};
 ghost use Rattle.cli_words.specs.Words.{HasFewRounds, IsName, NamesEvent, Refuses, command_asked, asked_by_name};
-ghost use Rattle.cli_words.specs.Words.{subcommand_asked};
-ghost use Rattle.cli_words.specs.Words.{asks_both, check, check_asked, generate, generate_script, generate_topology};
-ghost use Rattle.cli_words.specs.Words.{generation_asked, is_flag_given, judge, migrate, number_of, run, show, text_of};
-ghost use Rattle.cli_words.specs.Words.{view, why, why_asked};
+ghost use Rattle.cli_words.specs.Words.{subcommand_asked, asks_both, check, check_asked, generate, generate_script};
+ghost use Rattle.cli_words.specs.Words.{generate_topology, generation_asked, is_flag_given, judge, migrate, number_of};
+ghost use Rattle.cli_words.specs.Words.{run, show, text_of, view, why, why_asked};
 
 use clap::builder::ValueParser;
 use clap::error::ErrorKind;

@@ -7,9 +7,8 @@ ghost use Rattle.std.specs.Int.{div_ceil, from_be_bytes, to_be_bytes, w128};
 ghost use lib.Lanes.{Each1, zip2};
 ghost use Rattle.aes_block.specs.Nibbles.{IsVector, entry_of};
 ghost use Rattle.gcm_seal.specs.Inside.{AreMultiples, AreRows, AreSteps, IsRow, IsTable, hash_after_blocks};
-ghost use Rattle.gcm_seal.specs.Inside.{block_product};
-ghost use Rattle.gcm_seal.specs.Inside.{byte_product, joined_bytes, padded_block, padded_blocks, raised_block, step_x};
-ghost use Rattle.gcm_seal.specs.Inside.{sum_of_four};
+ghost use Rattle.gcm_seal.specs.Inside.{block_product, byte_product, joined_bytes, padded_block, padded_blocks};
+ghost use Rattle.gcm_seal.specs.Inside.{raised_block, step_x, sum_of_four};
 
 use crate::MAX_BYTES;
 use aes_block::side_by_side;

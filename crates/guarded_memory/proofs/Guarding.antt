@@ -9,17 +9,17 @@ use Rattle.ide_types.specs.declared.interface.BarPlan.{BarPlan}
 use Rattle.interface_state.specs.Bindings.{floor_on}
 use Rattle.trusted_memory.specs.Spans.{crosses}
 use Rattle.trusted_memory.specs.Writes.{Write}
-use Rattle.guarded_memory.specs.declared.standing.InterfaceState.{InterfaceState}
-use Rattle.guarded_memory.specs.declared.standing.InterfaceState.TheVariants as state
-use Rattle.guarded_memory.specs.declared.standing.InterfaceStatus.{InterfaceStatus}
+use Rattle.guarded_memory.specs.declared.status.InterfaceState.{InterfaceState}
+use Rattle.guarded_memory.specs.declared.status.InterfaceState.TheVariants as state
+use Rattle.guarded_memory.specs.declared.status.InterfaceStatus.{InterfaceStatus}
 use Rattle.guarded_memory.specs.declared.claims.Claim.{Claim}
 use Rattle.link_verdicts.specs.declared.verdict.BlockCause.{BlockCause}
 use Rattle.link_verdicts.specs.declared.verdict.BlockCause.TheVariants as cause
-use Rattle.guarded_memory.specs.Standings.{is_open_range, has_open_range, is_config_unlocked, is_in_run}
-use Rattle.guarded_memory.specs.Standings.{is_locked_or_run}
+use Rattle.guarded_memory.specs.Statuses.{is_open_range, has_open_range, is_config_unlocked, is_in_run}
+use Rattle.guarded_memory.specs.Statuses.{is_locked_or_run}
 use Rattle.guarded_memory.specs.Claims.{claim_of}
 use Rattle.guarded_memory.specs.Causes.{floor_cause, access_cause, mmio_cause}
-use Rattle.guarded_memory.specs.Happenings.{contents_by}
+use Rattle.guarded_memory.specs.Happenings.{contents_if_happened}
 use Rattle.guarded_memory.specs.Stored.{stored_unless, stored_by_claim}
 use Rattle.guarded_memory.specs.Laws.{is_guarded, is_from_floor, is_admitted, GuardedBytesStay}
 use Rattle.guarded_memory.proofs.Claimed.{IsClaimed, claimed}
@@ -73,33 +73,33 @@ is_false true e = absurd (true≢false (sym e))
 is_false false e = refl
 
 not_guarded : (xs : List InterfaceStatus) (w : Write) (c : Claim) (t : Bool) (stream draw i b : ℕ) (x : InterfaceStatus)
-    → IsClaimed xs w.span c → mmio_cause c.standing c.range w.span t stream draw ≡ None
+    → IsClaimed xs w.span c → mmio_cause c.status c.range w.span t stream draw ≡ None
     → (eqb c.interface i && eqb c.bar b) ≡ true → slice_get xs i ≡ Some x → is_guarded x b ≡ true
     → is_admitted x t stream draw ≡ true
 not_guarded xs w c t stream draw i b x is none placed there guarded =
     let places = and_parts (eqb c.interface i) (eqb c.bar b) placed in
     let interface = eqb-true c.interface i places.0 in
     let bar = eqb-true c.bar b places.1 in
-    let same : c.standing ≡ x =
-    ap (λ (o : Option InterfaceStatus). unwrap_or o c.standing)
+    let same : c.status ≡ x =
+    ap (λ (o : Option InterfaceStatus). unwrap_or o c.status)
     (sym is.interface ∙ ap (λ (k : ℕ). slice_get xs k) interface ∙ there) in
     let parts = and_parts (is_locked_or_run x.state) (not (has_open_range x.bars b)) guarded in
-    let held : is_locked_or_run c.standing.state ≡ true = ap (λ (y : InterfaceStatus). is_locked_or_run y.state) same ∙
+    let held : is_locked_or_run c.status.state ≡ true = ap (λ (y : InterfaceStatus). is_locked_or_run y.state) same ∙
     parts.0
     in
-    let shut_there : has_open_range c.standing.bars c.bar ≡ false =
+    let shut_there : has_open_range c.status.bars c.bar ≡ false =
     (λ k. has_open_range (same k).bars (bar k)) ∙ is_false (has_open_range x.bars b) parts.1 in
     let shut : is_open_range c.range ≡ false =
-    sym (opened (slice_get c.standing.bars c.bar) c.range is.bar) ∙ shut_there in
-    let access = not_crossing (crosses w.span) (access_cause c.standing c.range t stream draw) none in
+    sym (opened (slice_get c.status.bars c.bar) c.range is.bar) ∙ shut_there in
+    let access = not_crossing (crosses w.span) (access_cause c.status c.range t stream draw) none in
     subst (λ (y : InterfaceStatus). is_admitted y t stream draw ≡ true) same
-    (accessed c.standing c.range t stream draw held shut access)
+    (accessed c.status c.range t stream draw held shut access)
 
 by_cause : (xs : List InterfaceStatus) (w : Write) (c : Claim) (t : Bool) (stream draw : ℕ) (old : ℕ → ℕ → ℕ → ℕ)
     (i b a : ℕ) (x : InterfaceStatus) (o : Option BlockCause)
-    → IsClaimed xs w.span c → mmio_cause c.standing c.range w.span t stream draw ≡ o
+    → IsClaimed xs w.span c → mmio_cause c.status c.range w.span t stream draw ≡ o
     → slice_get xs i ≡ Some x → is_guarded x b ≡ true → is_admitted x t stream draw ≡ false
-    → contents_by (stored_unless o c w) old i b a ≡ old i b a
+    → contents_if_happened (stored_unless o c w) old i b a ≡ old i b a
 by_cause xs w c t stream draw old i b a x (Some y) is blocked there guarded other = refl
 by_cause xs w c t stream draw old i b a x None is none there guarded other =
     elim (cases_Bool (eqb c.interface i && eqb c.bar b)) [
@@ -111,10 +111,10 @@ by_cause xs w c t stream draw old i b a x None is none there guarded other =
 by_claim : (xs : List InterfaceStatus) (w : Write) (t : Bool) (stream draw : ℕ) (old : ℕ → ℕ → ℕ → ℕ)
     (i b a : ℕ) (x : InterfaceStatus) (o : Option Claim) → claim_of xs w.span ≡ o
     → slice_get xs i ≡ Some x → is_guarded x b ≡ true → is_admitted x t stream draw ≡ false
-    → contents_by (stored_by_claim o w t stream draw) old i b a ≡ old i b a
+    → contents_if_happened (stored_by_claim o w t stream draw) old i b a ≡ old i b a
 by_claim xs w t stream draw old i b a x None is there guarded other = refl
 by_claim xs w t stream draw old i b a x (Some c) is there guarded other =
-    by_cause xs w c t stream draw old i b a x (mmio_cause c.standing c.range w.span t stream draw)
+    by_cause xs w c t stream draw old i b a x (mmio_cause c.status c.range w.span t stream draw)
     (claimed xs w.span c is) refl there guarded other
 
 pub stays : GuardedBytesStay

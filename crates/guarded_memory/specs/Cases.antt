@@ -5,11 +5,11 @@ use Rattle.std.specs.Option.{option_map}
 use Rattle.ide_types.specs.declared.interface.BarPlan.{BarPlan}
 use Rattle.tlp_layout.specs.Reading.{tlp_read}
 use Rattle.trusted_memory.specs.declared.span.Span.{Span}
-use Rattle.trusted_memory.specs.Writes.{Write, write_in}
+use Rattle.trusted_memory.specs.Writes.{Write, write_of_tlp}
 use Rattle.ide_types.specs.declared.binding.Binding.{Binding}
-use Rattle.guarded_memory.specs.declared.standing.InterfaceState.{InterfaceState}
-use Rattle.guarded_memory.specs.declared.standing.InterfaceState.TheVariants.{ConfigUnlocked, ConfigLocked, Run, Error}
-use Rattle.guarded_memory.specs.declared.standing.InterfaceStatus.{InterfaceStatus}
+use Rattle.guarded_memory.specs.declared.status.InterfaceState.{InterfaceState}
+use Rattle.guarded_memory.specs.declared.status.InterfaceState.TheVariants.{ConfigUnlocked, ConfigLocked, Run, Error}
+use Rattle.guarded_memory.specs.declared.status.InterfaceStatus.{InterfaceStatus}
 use Rattle.link_verdicts.specs.declared.verdict.BlockCause.TheVariants.{Crosses, NotTrusted, NotRunning, WrongStream}
 use Rattle.link_verdicts.specs.declared.verdict.BlockCause.TheVariants.{Stale}
 use Rattle.link_verdicts.specs.declared.verdict.Effect.{Effect}
@@ -24,7 +24,7 @@ case_bytes = 0x40 ∷ 0x00 ∷ 0x00 ∷ 0x01 ∷ 0x00 ∷ 0x00 ∷ 0x00 ∷ 0x0f
     ∷ 0xdd ∷ []
 
 abbrev pub case_write : Option Write
-case_write = write_in (tlp_read case_bytes)
+case_write = write_of_tlp (tlp_read case_bytes)
 
 -- a range from a base on, with so many pages and these attributes
 abbrev pub case_range : ℕ → ℕ → ℕ → BarPlan

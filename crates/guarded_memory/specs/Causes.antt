@@ -4,8 +4,8 @@ use Rattle.std.specs.Prelude.{ℕ, ◌||◌, Bool, true, false, if◌then◌else
 use Rattle.ide_types.specs.declared.interface.BarPlan.{BarPlan}
 use Rattle.trusted_memory.specs.declared.span.Span.{Span}
 use Rattle.trusted_memory.specs.Spans.{crosses}
-use Rattle.guarded_memory.specs.declared.standing.InterfaceState.{InterfaceState}
-use Rattle.guarded_memory.specs.declared.standing.InterfaceStatus.{InterfaceStatus}
+use Rattle.guarded_memory.specs.declared.status.InterfaceState.{InterfaceState}
+use Rattle.guarded_memory.specs.declared.status.InterfaceStatus.{InterfaceStatus}
 use Rattle.guarded_memory.specs.declared.claims.Claim.{Claim}
 use Rattle.link_verdicts.specs.declared.verdict.BlockCause.{BlockCause}
 use Rattle.link_verdicts.specs.declared.verdict.BlockCause.TheVariants.{Crosses, NotTrusted, NotRunning, WrongStream}
@@ -13,7 +13,7 @@ use Rattle.link_verdicts.specs.Causes.{stale_cause}
 use Rattle.link_verdicts.specs.declared.verdict.Effect.{Effect}
 use Rattle.link_verdicts.specs.declared.verdict.Effect.TheVariants.{Delivered, Stored, Blocked}
 use Rattle.interface_state.specs.Bindings.{floor_on}
-use Rattle.guarded_memory.specs.Standings.{is_open_range, is_config_unlocked, is_in_run}
+use Rattle.guarded_memory.specs.Statuses.{is_open_range, is_config_unlocked, is_in_run}
 use Rattle.guarded_memory.specs.Claims.{claim_of}
 
 -- of a write that is not trusted: the range is not open, and the interface is not in CONFIG_UNLOCKED
@@ -50,7 +50,7 @@ is_stored effect = false
 -- of a memory write that is claimed by this, or by none
 abbrev pub claim_effect : Option Claim → Span → Bool → ℕ → ℕ → Effect
 claim_effect None s t stream draw = Delivered
-claim_effect (Some c) s t stream draw = cause_effect (mmio_cause c.standing c.range s t stream draw)
+claim_effect (Some c) s t stream draw = cause_effect (mmio_cause c.status c.range s t stream draw)
 
 -- of a TLP at a device's port: of a memory write by the bytes that it names, else it is delivered
 abbrev pub mmio_effect : List InterfaceStatus → Bool → ℕ → ℕ → Option Span → Effect

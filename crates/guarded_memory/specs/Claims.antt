@@ -4,7 +4,7 @@ use Rattle.std.specs.Option.{option_or, option_map}
 use Rattle.ide_types.specs.declared.interface.BarPlan.{BarPlan}
 use Rattle.trusted_memory.specs.declared.span.Span.{Span}
 use Rattle.trusted_memory.specs.Spans.{span_byte_count}
-use Rattle.guarded_memory.specs.declared.standing.InterfaceStatus.{InterfaceStatus}
+use Rattle.guarded_memory.specs.declared.status.InterfaceStatus.{InterfaceStatus}
 use Rattle.guarded_memory.specs.declared.claims.Claim.{Claim}
 
 -- the bytes of all its double words are in the range: from the base up to, not including, the base and 4096 bytes for
@@ -26,13 +26,13 @@ holding_bar bars s = first_passing (λ range. holds_span range s) 0 bars
 abbrev pub claimed_bar : InterfaceStatus → Span → Option (ℕ × BarPlan)
 claimed_bar x s = if x.memory_space then holding_bar x.bars s else None
 
-abbrev pub claim_by : ℕ → InterfaceStatus → ℕ × BarPlan → Claim
-claim_by i x bar = record { interface = i; standing = x; bar = bar.0; range = bar.1 }
+abbrev pub new_claim : ℕ → InterfaceStatus → ℕ × BarPlan → Claim
+new_claim i x bar = record { interface = i; status = x; bar = bar.0; range = bar.1 }
 
-abbrev pub claim_from : ℕ → List InterfaceStatus → Span → Option Claim
-claim_from n [] s = None
-claim_from n (x ∷ xs) s = option_or (option_map (claim_by n x) (claimed_bar x s)) (claim_from (n + 1) xs s)
+abbrev pub first_claim_from : ℕ → List InterfaceStatus → Span → Option Claim
+first_claim_from n [] s = None
+first_claim_from n (x ∷ xs) s = option_or (option_map (new_claim n x) (claimed_bar x s)) (first_claim_from (n + 1) xs s)
 
 -- by the least interface, and its least BAR
 abbrev pub claim_of : List InterfaceStatus → Span → Option Claim
-claim_of xs s = claim_from 0 xs s
+claim_of xs s = first_claim_from 0 xs s

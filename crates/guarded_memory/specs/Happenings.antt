@@ -3,8 +3,8 @@
 use Rattle.std.specs.Prelude.{ℕ, ◌==◌, ◌&&◌, not, Bool, true, false, if◌then◌else◌, List, [], ◌∷◌, Option, Some, None}
 use Rattle.std.specs.List.{cons_option}
 use Rattle.ide_types.specs.declared.interface.BarPlan.{BarPlan}
-use Rattle.trusted_memory.specs.Writes.{Write, byte_written, byte_after}
-use Rattle.guarded_memory.specs.Standings.{has_open_range}
+use Rattle.trusted_memory.specs.Writes.{Write, byte_written, byte_last_written}
+use Rattle.guarded_memory.specs.Statuses.{has_open_range}
 
 -- A write was stored in the range of a BAR of an interface, with its offset there for its address; an interface was
 -- reset; all were; an interface with these BARs accepted a STOP_INTERFACE.
@@ -38,7 +38,7 @@ writes_since (h ∷ older) i b =
 
 -- the byte at an offset: that of the last of these writes that enables it, else 0
 abbrev pub byte_shown : List Happened → ℕ → ℕ → ℕ → ℕ
-byte_shown happened i b offset = byte_after (writes_since happened i b) offset
+byte_shown happened i b offset = byte_last_written (writes_since happened i b) offset
 
 -- ---- one after another
 
@@ -52,9 +52,9 @@ contents_after (InterfaceStopped i bars) old j c offset =
     if (i == j) && not (has_open_range bars c) then 0 else old j c offset
 
 -- if anything did
-abbrev pub contents_by : Option Happened → (ℕ → ℕ → ℕ → ℕ) → ℕ → ℕ → ℕ → ℕ
-contents_by None old i b offset = old i b offset
-contents_by (Some h) old i b offset = contents_after h old i b offset
+abbrev pub contents_if_happened : Option Happened → (ℕ → ℕ → ℕ → ℕ) → ℕ → ℕ → ℕ → ℕ
+contents_if_happened None old i b offset = old i b offset
+contents_if_happened (Some h) old i b offset = contents_after h old i b offset
 
 -- what happened one after another, before older ones in the list, the newest first
 abbrev pub newest_happened : List (Option Happened) → List Happened → List Happened

@@ -2,9 +2,9 @@
 use Rattle.std.specs.Prelude.{ℕ, ◌≡◌, ◌&&◌, nat_le, not, Bool, true, false, List, slice_get, Option, Some, None}
 use Rattle.interface_state.specs.Bindings.{floor_on}
 use Rattle.trusted_memory.specs.Writes.{Write}
-use Rattle.guarded_memory.specs.declared.standing.InterfaceStatus.{InterfaceStatus}
-use Rattle.guarded_memory.specs.Standings.{has_open_range, is_in_run, is_locked_or_run}
-use Rattle.guarded_memory.specs.Happenings.{contents_by}
+use Rattle.guarded_memory.specs.declared.status.InterfaceStatus.{InterfaceStatus}
+use Rattle.guarded_memory.specs.Statuses.{has_open_range, is_in_run, is_locked_or_run}
+use Rattle.guarded_memory.specs.Happenings.{contents_if_happened}
 use Rattle.guarded_memory.specs.Stored.{write_happened}
 
 -- a range that is not open, of an interface in CONFIG_LOCKED or RUN
@@ -25,4 +25,4 @@ abbrev pub GuardedBytesStay : Type 0
 GuardedBytesStay = (xs : List InterfaceStatus) (t : Bool) (stream draw : ℕ) (o : Option Write) (old : ℕ → ℕ → ℕ → ℕ)
     (i b offset : ℕ) (x : InterfaceStatus)
     → slice_get xs i ≡ Some x → is_guarded x b ≡ true → is_admitted x t stream draw ≡ false
-    → contents_by (write_happened xs t stream draw o) old i b offset ≡ old i b offset
+    → contents_if_happened (write_happened xs t stream draw o) old i b offset ≡ old i b offset

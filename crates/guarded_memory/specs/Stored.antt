@@ -1,7 +1,7 @@
 -- What a TLP that was delivered made happen (this profile).
 use Rattle.std.specs.Prelude.{ℕ, ◌-◌, Bool, List, Option, Some, None}
 use Rattle.trusted_memory.specs.Writes.{Write}
-use Rattle.guarded_memory.specs.declared.standing.InterfaceStatus.{InterfaceStatus}
+use Rattle.guarded_memory.specs.declared.status.InterfaceStatus.{InterfaceStatus}
 use Rattle.guarded_memory.specs.declared.claims.Claim.{Claim}
 use Rattle.link_verdicts.specs.declared.verdict.BlockCause.{BlockCause}
 use Rattle.guarded_memory.specs.Claims.{claim_of}
@@ -9,21 +9,21 @@ use Rattle.guarded_memory.specs.Causes.{mmio_cause}
 use Rattle.guarded_memory.specs.Happenings.{Happened, WriteStored}
 
 -- the write with another address
-abbrev pub write_to : ℕ → Write → Write
-write_to address w = record w { span = record w.span { address = address } }
+abbrev pub with_address : ℕ → Write → Write
+with_address address w = record w { span = record w.span { address = address } }
 
 -- the write with its offset from a base for its address
-abbrev pub write_from : ℕ → Write → Write
-write_from base w = write_to (w.span.address - base) w
+abbrev pub write_from_base : ℕ → Write → Write
+write_from_base base w = with_address (w.span.address - base) w
 
 -- a claimed write is stored if nothing blocks it
 abbrev pub stored_unless : Option BlockCause → Claim → Write → Option Happened
-stored_unless None c w = Some (WriteStored c.interface c.bar (write_from c.range.base w))
+stored_unless None c w = Some (WriteStored c.interface c.bar (write_from_base c.range.base w))
 stored_unless (Some cause) c w = None
 
 abbrev pub stored_by_claim : Option Claim → Write → Bool → ℕ → ℕ → Option Happened
 stored_by_claim None w t stream draw = None
-stored_by_claim (Some c) w t stream draw = stored_unless (mmio_cause c.standing c.range w.span t stream draw) c w
+stored_by_claim (Some c) w t stream draw = stored_unless (mmio_cause c.status c.range w.span t stream draw) c w
 
 -- by the memory write that a TLP is, if it is one
 abbrev pub write_happened : List InterfaceStatus → Bool → ℕ → ℕ → Option Write → Option Happened

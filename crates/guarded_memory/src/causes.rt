@@ -3,7 +3,7 @@
 ghost use Rattle.std.specs.Prelude.{◌≡◌};
 ghost use Rattle.guarded_memory.specs.Causes.{untrusted_cause, floor_cause, trusted_cause, access_cause, mmio_cause};
 
-use crate::standing::is_open_range;
+use crate::status::is_open_range;
 use crate::{Claim, InterfaceState, InterfaceStatus};
 use ide_types::BarPlan;
 use link_verdicts::{BlockCause, stale_cause};
@@ -31,23 +31,23 @@ fn floor_cause(floor: Option<u32>, draw: u32) -> Option<BlockCause>
 }
 
 // Of a trusted write.
-fn trusted_cause(standing: &InterfaceStatus, stream: u8, draw: u32) -> Option<BlockCause>
-    ensures { result ≡ trusted_cause standing.now stream draw }
+fn trusted_cause(status: &InterfaceStatus, stream: u8, draw: u32) -> Option<BlockCause>
+    ensures { result ≡ trusted_cause status.now stream draw }
 {
-    if standing.state.is_in_run() {
-        floor_cause(standing.bound.floor_on(stream), draw)
+    if status.state.is_in_run() {
+        floor_cause(status.bound.floor_on(stream), draw)
     } else {
         Some(BlockCause::NotRunning)
     }
 }
 
 fn access_cause(claim: &Claim, trusted: bool, stream: u8, draw: u32) -> Option<BlockCause>
-    ensures { result ≡ access_cause claim.now.standing claim.now.range trusted stream draw }
+    ensures { result ≡ access_cause claim.now.status claim.now.range trusted stream draw }
 {
     if trusted {
-        trusted_cause(&claim.standing, stream, draw)
+        trusted_cause(&claim.status, stream, draw)
     } else {
-        untrusted_cause(claim.standing.state, &claim.range)
+        untrusted_cause(claim.status.state, &claim.range)
     }
 }
 
@@ -62,7 +62,7 @@ pub fn mmio_cause(
     stream: u8,
     draw: u32,
 ) -> Option<BlockCause>
-    ensures { result ≡ mmio_cause claim.now.standing claim.now.range span trusted stream draw }
+    ensures { result ≡ mmio_cause claim.now.status claim.now.range span trusted stream draw }
 {
     if span.crosses() {
         Some(BlockCause::Crosses)

@@ -3,7 +3,7 @@
 ghost use Rattle.std.specs.Prelude.{◌≡◌, true, IfSome};
 ghost use Rattle.guarded_memory.specs.Claims.{holds_span, holding_bar, claimed_bar, claim_of};
 
-use crate::{InterfaceStatus, Standings};
+use crate::{InterfaceStatus, Statuses};
 use ide_types::BarPlan;
 use trusted_memory::Span;
 
@@ -14,7 +14,7 @@ pub struct Claim {
     /// The interface's number among those of the device.
     pub interface: usize,
     /// How the interface stands.
-    pub standing: InterfaceStatus,
+    pub status: InterfaceStatus,
     /// The BAR's number.
     pub bar: usize,
     /// The BAR's range, with its base as it stands.
@@ -44,12 +44,12 @@ fn holding_bar(bars: &[BarPlan], span: Span) -> Option<(usize, BarPlan)>
 }
 
 // The BAR by which an interface claims the bytes: none while its memory space is off.
-fn claimed_bar(standing: &InterfaceStatus, span: Span) -> Option<(usize, BarPlan)>
-    ensures bar { result ≡ claimed_bar standing.now span }
+fn claimed_bar(status: &InterfaceStatus, span: Span) -> Option<(usize, BarPlan)>
+    ensures bar { result ≡ claimed_bar status.now span }
     ensures holds { IfSome result (λ r. holds_span r.1 span ≡ true) }
 {
-    if standing.memory_space {
-        holding_bar(&standing.bars, span)
+    if status.memory_space {
+        holding_bar(&status.bars, span)
     } else {
         None
     }
@@ -57,16 +57,16 @@ fn claimed_bar(standing: &InterfaceStatus, span: Span) -> Option<(usize, BarPlan
 
 /// The claim on a memory write over these bytes: that of the least interface with memory space on that has a BAR whose
 /// range holds all of them, by the least such BAR; `None` if there is none (this profile).
-pub fn claim_of<S: Standings>(standings: &S, span: Span) -> Option<Claim>
-    ensures claim { result ≡ claim_of (S.stand standings.now) span }
+pub fn claim_of<S: Statuses>(statuses: &S, span: Span) -> Option<Claim>
+    ensures claim { result ≡ claim_of (S.stand statuses.now) span }
     ensures holds { IfSome result (λ c. holds_span c.range span ≡ true) }
 {
-    for i in 0..standings.count() {
-        let standing = standings.standing(i);
-        if let Some((bar, range)) = claimed_bar(&standing, span) {
+    for i in 0..statuses.count() {
+        let status = statuses.status(i);
+        if let Some((bar, range)) = claimed_bar(&status, span) {
             return Some(Claim {
                 interface: i,
-                standing,
+                status,
                 bar,
                 range,
             });

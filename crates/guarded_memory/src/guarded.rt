@@ -5,15 +5,15 @@ ghost use Rattle.std.specs.Prelude.{Some, IfOk, IsOk, OnOk, length, max, slice_g
 ghost use Rattle.std.specs.Bool.{OnTrue, OnFalse};
 ghost use Rattle.tlp_layout.specs.Tlp.{viewed_tlp};
 ghost use Rattle.trusted_memory.specs.Spans.{span_byte_count, is_enabled, crosses, write_span};
-ghost use Rattle.trusted_memory.specs.Writes.{write_in, write_of};
+ghost use Rattle.trusted_memory.specs.Writes.{write_of_tlp, write_of};
 ghost use Rattle.trusted_memory.specs.Memory.{bytes_from};
-ghost use Rattle.guarded_memory.specs.declared.standing.InterfaceStatus.{InterfaceStatus};
+ghost use Rattle.guarded_memory.specs.declared.status.InterfaceStatus.{InterfaceStatus};
 
 use crate::causes::mmio_cause;
 use crate::claims::claim_of;
 use crate::names::{PageName, name_at, outlives_stop, put};
 use crate::sizes::{fits_range, sizes_of};
-use crate::{Claim, Standings};
+use crate::{Claim, Statuses};
 use ide_types::{BarPlan, InterfacePlan, OutOfMemory};
 use link_verdicts::{Effect, UnitName};
 use std::alloc::Global;
@@ -56,8 +56,8 @@ impl Guarded {
     ghost use Rattle.guarded_memory.specs.Causes.{mmio_cause, cause_effect, mmio_effect, is_stored};
     ghost use Rattle.guarded_memory.specs.Happenings.{Happened, WriteStored, InterfaceReset, AllReset};
     ghost use Rattle.guarded_memory.specs.Happenings.{InterfaceStopped};
-    ghost use Rattle.guarded_memory.specs.Happenings.{byte_shown, contents_after, contents_by};
-    ghost use Rattle.guarded_memory.specs.Stored.{write_to, write_from, stored_unless, write_happened};
+    ghost use Rattle.guarded_memory.specs.Happenings.{byte_shown, contents_after, contents_if_happened};
+    ghost use Rattle.guarded_memory.specs.Stored.{with_address, write_from_base, stored_unless, write_happened};
     ghost use Rattle.guarded_memory.specs.Contents.{GuardedMemory, new_guarded, range_size, has_bytes, is_page_name};
     ghost use Rattle.guarded_memory.specs.Contents.{name_at, mmio_byte, keeps_page, IsMmioLeftBy, MmioLeads};
     ghost use Rattle.guarded_memory.specs.Laws.{is_guarded, is_admitted};
@@ -155,7 +155,7 @@ impl Guarded {
         requires last { keeps_page self.old
             (name_at interface bar ((offset + span_byte_count write.now.span) - 1)) ≡ true }
         ensures bytes { (i b at : ℕ) → mmio_byte self.new i b at ≡ contents_after
-            (WriteStored interface bar (write_to offset (write_of write.now))) (mmio_byte self.old) i b at }
+            (WriteStored interface bar (with_address offset (write_of write.now))) (mmio_byte self.old) i b at }
         ensures kept { self.new ≡ record self.old { pages = self.new.pages } }
     {
         for k in 0..write.span.bytes() {
@@ -169,7 +169,7 @@ impl Guarded {
         requires whole { crosses write.now.span ≡ false }
         ensures bytes { (i b at : ℕ) → mmio_byte self.new i b at ≡ contents_after
             (WriteStored claim.now.interface claim.now.bar
-            (write_from claim.now.range.base (write_of write.now))) (mmio_byte self.old) i b at }
+            (write_from_base claim.now.range.base (write_of write.now))) (mmio_byte self.old) i b at }
         ensures sizes { self.new.sizes ≡ self.old.sizes }
         ensures spare { self.old.spare ≤ self.new.spare + 2 }
     {
@@ -192,9 +192,9 @@ impl Guarded {
         requires spare { 2 ≤ self.old.spare }
         requires holds { holds_span claim.now.range write.now.span ≡ true }
         ensures effect { result ≡ cause_effect
-            (mmio_cause claim.now.standing claim.now.range write.now.span trusted unit.stream unit.draw) }
-        ensures bytes { (i b at : ℕ) → mmio_byte self.new i b at ≡ contents_by (stored_unless
-            (mmio_cause claim.now.standing claim.now.range write.now.span trusted unit.stream unit.draw)
+            (mmio_cause claim.now.status claim.now.range write.now.span trusted unit.stream unit.draw) }
+        ensures bytes { (i b at : ℕ) → mmio_byte self.new i b at ≡ contents_if_happened (stored_unless
+            (mmio_cause claim.now.status claim.now.range write.now.span trusted unit.stream unit.draw)
             claim.now (write_of write.now)) (mmio_byte self.old) i b at }
         ensures as_before { is_stored result ≡ false → self.new ≡ self.old }
         ensures sizes { self.new.sizes ≡ self.old.sizes }
@@ -210,24 +210,24 @@ impl Guarded {
     }
 
     // A memory write, which is delivered if nothing claims it.
-    fn deliver_write<S: Standings>(
+    fn deliver_write<S: Statuses>(
         &mut self,
-        standings: &S,
+        statuses: &S,
         write: &MemWriteView<'_>,
         trusted: bool,
         unit: UnitName,
     ) -> Effect
         requires { 2 ≤ self.old.spare }
-        ensures effect { result ≡ mmio_effect (S.stand standings.now) trusted unit.stream unit.draw
+        ensures effect { result ≡ mmio_effect (S.stand statuses.now) trusted unit.stream unit.draw
             (Some write.now.span) }
-        ensures bytes { (i b at : ℕ) → mmio_byte self.new i b at ≡ contents_by
-            (write_happened (S.stand standings.now) trusted unit.stream unit.draw (Some (write_of write.now)))
+        ensures bytes { (i b at : ℕ) → mmio_byte self.new i b at ≡ contents_if_happened
+            (write_happened (S.stand statuses.now) trusted unit.stream unit.draw (Some (write_of write.now)))
             (mmio_byte self.old) i b at }
         ensures as_before { is_stored result ≡ false → self.new ≡ self.old }
         ensures sizes { self.new.sizes ≡ self.old.sizes }
         ensures spare { self.old.spare ≤ self.new.spare + 2 }
     {
-        match claim_of(standings, write.span) {
+        match claim_of(statuses, write.span) {
             None => Effect::Delivered,
             Some(claim) => self.admit(&claim, write, trusted, unit),
         }
@@ -237,25 +237,25 @@ impl Guarded {
     /// write that one of them claims is stored, or blocked for the first cause that holds (`BlockCause`); any other TLP
     /// is delivered and changes nothing here. `trusted` is T of its packet. The payload's enabled bytes are written to
     /// ascending offsets in the range. It takes no memory, and at most two spare pages.
-    pub fn deliver<S: Standings>(
+    pub fn deliver<S: Statuses>(
         &mut self,
-        standings: &S,
+        statuses: &S,
         tlp: &TlpView<'_>,
         trusted: bool,
         unit: UnitName,
     ) -> Effect
         requires { 2 ≤ self.old.spare }
-        ensures effect { result ≡ mmio_effect (S.stand standings.now) trusted unit.stream unit.draw
+        ensures effect { result ≡ mmio_effect (S.stand statuses.now) trusted unit.stream unit.draw
             (write_span tlp.now.head) }
-        ensures bytes { (i b at : ℕ) → mmio_byte self.new i b at ≡ contents_by
-            (write_happened (S.stand standings.now) trusted unit.stream unit.draw (write_in (viewed_tlp tlp.now)))
+        ensures bytes { (i b at : ℕ) → mmio_byte self.new i b at ≡ contents_if_happened
+            (write_happened (S.stand statuses.now) trusted unit.stream unit.draw (write_of_tlp (viewed_tlp tlp.now)))
             (mmio_byte self.old) i b at }
         ensures leads { MmioLeads self.old
-            (write_happened (S.stand standings.now) trusted unit.stream unit.draw (write_in (viewed_tlp tlp.now)) ∷ [])
-            self.new }
+            (write_happened (S.stand statuses.now) trusted unit.stream unit.draw (write_of_tlp (viewed_tlp tlp.now))
+            ∷ []) self.new }
         // A byte of a range that is not open, of an interface in CONFIG_LOCKED or RUN, changes only by a trusted write
         // in RUN, on a bound stream, under a draw from its floor on.
-        ensures guarded { (i b at : ℕ) (x : InterfaceStatus) → slice_get (S.stand standings.now) i ≡ Some x
+        ensures guarded { (i b at : ℕ) (x : InterfaceStatus) → slice_get (S.stand statuses.now) i ≡ Some x
             → is_guarded x b ≡ true → is_admitted x trusted unit.stream unit.draw ≡ false
             → mmio_byte self.new i b at ≡ mmio_byte self.old i b at }
         ensures as_before { is_stored result ≡ false → self.new ≡ self.old }
@@ -263,7 +263,7 @@ impl Guarded {
         ensures spare { self.old.spare ≤ self.new.spare + 2 }
     {
         match MemWriteView::of(tlp) {
-            Some(write) => self.deliver_write(standings, &write, trusted, unit),
+            Some(write) => self.deliver_write(statuses, &write, trusted, unit),
             None => Effect::Delivered,
         }
     }

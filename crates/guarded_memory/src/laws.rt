@@ -19,8 +19,8 @@ pub fn happenings_in_turn()
 {}
 
 /// A byte changes only by a write that is stored in its range, and by what sets the range to 0. If the range is not
-/// open, and its interface is in CONFIG_LOCKED or RUN, that write is trusted and comes in RUN, on the bound stream,
-/// under a draw from the floor on (PCI Express Base 6.0 chapter 11, in this profile).
+/// open, and its interface is in CONFIG_LOCKED or RUN, that write is trusted and comes in RUN, on a stream that
+/// it is bound to, under a draw from its floor on (PCI Express Base 6.0 chapter 11, in this profile).
 pub fn guarded_bytes_stay()
     ensures writes { GuardedBytesStay }
     ensures others { (h : Happened) (old : ℕ → ℕ → ℕ → ℕ) (i b offset : ℕ) → clears h i b ≡ false

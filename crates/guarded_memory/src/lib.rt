@@ -11,12 +11,12 @@ mod guarded;
 mod laws;
 mod names;
 mod sizes;
-mod standing;
-mod standings;
+mod status;
+mod statuses;
 
 pub use causes::mmio_cause;
 pub use claims::{Claim, claim_of};
 pub use guarded::Guarded;
 pub use laws::{guarded_bytes_stay, happenings_in_turn, mmio_cases};
-pub use standing::{InterfaceState, InterfaceStatus};
-pub use standings::Standings;
+pub use status::{InterfaceState, InterfaceStatus};
+pub use statuses::Statuses;

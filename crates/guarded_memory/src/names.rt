@@ -6,7 +6,7 @@ ghost use Rattle.guarded_memory.specs.declared.names.PageName.{PageName};
 ghost use Rattle.guarded_memory.specs.Happenings.{clears, InterfaceStopped};
 ghost use Rattle.guarded_memory.specs.Contents.{is_page_name, name_at};
 
-use crate::standing::has_open_range;
+use crate::status::has_open_range;
 use ide_types::BarPlan;
 use std::collections::HashMap;
 use trusted_memory::{PAGE_BYTES, Page};

@@ -24,7 +24,7 @@ use Rattle.line_runs.specs.Lines.{cut_text, is_over}
 use Rattle.line_runs.specs.Outcome.{Due, EndsDue, EndsOn}
 use Rattle.line_runs.specs.Pieces.{pieces}
 use Rattle.ide_runs.specs.declared.topologies.Loaded.TheVariants.{Sound}
-use Rattle.ide_runs.specs.Script.{AtEnd, Script, run_due, script_in, script_of, with_line}
+use Rattle.ide_runs.specs.Script.{AtEnd, Script, run_due, script_of_pieces, script_of, with_line}
 use Rattle.ide_runs.specs.Topologies.{loaded_topology}
 use Rattle.ide_cli.specs.GeneratedRuns.{RunsGenerated, generated_run_due}
 use Rattle.ide_cli.specs.Meaning.{Answered, command_due}
@@ -33,16 +33,16 @@ use Rattle.ide_cli.specs.Seen.{CallSeen}
 -- ---- the script
 
 abbrev whole : List ScriptEvent → Script
-whole asks = record { events = asks; stop = AtEnd }
+whole asks = record { events = asks; ending = AtEnd }
 
 -- a line before those that end
-line_first : (n : ℕ) (line : Text) (lines : List Text) → script_in false n (line ∷ (lines ++ [] ∷ []))
-    ≡ with_line n (line_meaning line) (script_in false (n + 1) (lines ++ [] ∷ []))
+line_first : (n : ℕ) (line : Text) (lines : List Text) → script_of_pieces false n (line ∷ (lines ++ [] ∷ []))
+    ≡ with_line n (line_meaning line) (script_of_pieces false (n + 1) (lines ++ [] ∷ []))
 line_first n line [] = refl
 line_first n line (next ∷ lines) = refl
 
 lines_read : (n : ℕ) (lines : List Text) (asks : List ScriptEvent)
-    → map line_meaning lines ≡ map (λ e. Ok (Some e)) asks → script_in false n (lines ++ [] ∷ []) ≡ whole asks
+    → map line_meaning lines ≡ map (λ e. Ok (Some e)) asks → script_of_pieces false n (lines ++ [] ∷ []) ≡ whole asks
 lines_read n [] [] same = refl
 lines_read n [] (ask ∷ asks) same = absurd cc
 lines_read n (line ∷ lines) [] same = absurd cc
@@ -67,8 +67,8 @@ not_cut file few = by_test (slice_index_or file 16777216 10 == 10)
 script_is : (file : Text) (events : List Event) (s : Spells file events) → length file ≤ 16777216
     → script_of file ≡ whole s.asks
 script_is file events s few =
-    ap₂ (λ (over : Bool) (text : Text). script_in over 1 (pieces text)) (within file few) (not_cut file few)
-    ∙ (ap (λ (ps : List Text). script_in false 1 ps) s.cut ∙ lines_read 1 s.lines s.asks s.meanings)
+    ap₂ (λ (over : Bool) (text : Text). script_of_pieces over 1 (pieces text)) (within file few) (not_cut file few)
+    ∙ (ap (λ (ps : List Text). script_of_pieces false 1 ps) s.cut ∙ lines_read 1 s.lines s.asks s.meanings)
 
 -- ---- and the topology
 

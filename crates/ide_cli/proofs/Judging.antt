@@ -12,7 +12,7 @@ use Rattle.line_runs.specs.Outcome.{Due, EndsBy, EndsDue, EndsOn}
 use Rattle.ide_runs.specs.{Tells, judgement_due}
 use Rattle.ide_runs.specs.declared.topologies.Loaded.TheVariants.{Sound}
 use Rattle.ide_runs.specs.Judge.{judge_due, judged_script_run, judged_run}
-use Rattle.ide_runs.specs.Script.{AtEnd, Script, due_after, end_of_stop, events_on, run_due, script_of}
+use Rattle.ide_runs.specs.Script.{AtEnd, Script, due_after, run_end, events_on, run_due, script_of}
 use Rattle.ide_runs.specs.Topologies.{loaded_topology}
 use Rattle.ide_runs.proofs.{judged_tells}
 use Rattle.cli_words.specs.Words.{command_asked}
@@ -33,12 +33,12 @@ ran_is : (topology bytes : Text) (plan : Plan) (script : Script) → loaded_topo
 ran_is topology bytes plan script plan_is read = rw (plan_is, read) refl
 
 judge_is : (topology bytes claimed : Text) (plan : Plan) (script : Script) → loaded_topology topology ≡ Sound plan
-    → script ≡ script_of bytes → script.stop ≡ AtEnd
+    → script ≡ script_of bytes → script.ending ≡ AtEnd
     → judge_due (Some topology) (Some bytes) (Some claimed) ≡ Some (judgement_due (due_after plan [] script).1 claimed)
 judge_is topology bytes claimed plan script plan_is read stop =
     let due = due_after plan [] script in
     ap (judged_run (Some claimed)) (ran_is topology bytes plan script plan_is read)
-    ∙ ended_at (Some claimed) due.0 due.1 (ap end_of_stop stop)
+    ∙ ended_at (Some claimed) due.0 due.1 (ap run_end stop)
 
 asked_is : (migrated : Text) (call : CallSeen) (plan : Plan) (script : Script) (a : AsksJudge call plan script)
     (claimed : Text) → a.contents a.verdicts_name ≡ Some claimed

@@ -15,7 +15,7 @@ use Rattle.script_events.proofs.PlanFits.{the_plan_fits}
 use Rattle.link_events.specs.declared.event.Event.{Event}
 use Rattle.spec_keys.specs.History.{History}
 use Rattle.spec_links.specs.Cause.{CauseLaw}
-use Rattle.law_text.specs.Runs.{history_on, history_with, text_on}
+use Rattle.law_text.specs.Runs.{history_on, history_with_event, text_on}
 use Rattle.law_text.specs.Telling.{events_told, lines_told, AreAllowed}
 use Rattle.law_text.specs.Statements.{LinesTell, AreTold}
 use Rattle.law_text.proofs.Reading.{length-events}
@@ -73,7 +73,7 @@ written_is_due : LinesTell → (call : CallSeen) → Answered call → (plan : P
 written_is_due tell call answered plan h w =
     let script = w.script in
     let due = due_after plan [] script in
-    let last = last_line script.stop (history_on plan [] (events_on plan script)) in
+    let last = last_line script.ending (history_on plan [] (events_on plan script)) in
     let allowed = script_allowed call plan script w.asks_for in
     let fits = plan_fits call plan script w.asks_for in
     let gained = gained_front due _ _ _ call.sink_before.held call.sink_after.held w.held w.gained call.outcome
@@ -94,12 +94,12 @@ written_is_due tell call answered plan h w =
 -- the history of events has a verdict for each, the one that is due
 caused : (plan : Plan) (h : History) (events : List Event) → CauseLaw plan h → CauseLaw plan (history_on plan h events)
 caused plan h [] cause = cause
-caused plan h (e ∷ events) cause = caused plan (history_with plan h e) events (refl, cause)
+caused plan h (e ∷ events) cause = caused plan (history_with_event plan h e) events (refl, cause)
 
 so_many : (plan : Plan) (h : History) (events : List Event) → length (history_on plan h events)
     ≡ length h + length events
 so_many plan h [] = omega arith
-so_many plan h (e ∷ events) = omega (arith, so_many plan (history_with plan h e) events)
+so_many plan h (e ∷ events) = omega (arith, so_many plan (history_with_event plan h e) events)
 
 few_generated : (seed count : ℕ) → count ≤ 100000 → (first later : List Event) → first ++ later
     ≡ generated_events seed count
@@ -183,7 +183,7 @@ all_written are_told call answered = at_end call.outcome (λ e ended plan script
     (ran_script answered.migrated call _ _ _ (Gained call.sink_before.held call.sink_after.held) call.outcome
     answered.ran plan script asks) in
     let h = history_on plan [] (events_on plan script) in
-    let last = last_line script.stop h in
+    let last = last_line script.ending h in
     record {
       script = script;
       asks_for = asks;

@@ -15,7 +15,7 @@ use Rattle.line_runs.specs.Gain.{Text}
 use Rattle.ide_runs.specs.{Tells}
 use Rattle.ide_runs.specs.declared.topologies.Loaded.TheVariants.{Sound}
 use Rattle.ide_runs.specs.Generated.{generated_history, generated_line}
-use Rattle.ide_runs.specs.Script.{AtEnd, Script, due_after, end_of_stop, events_on, script_of}
+use Rattle.ide_runs.specs.Script.{AtEnd, Script, due_after, run_end, events_on, script_of}
 use Rattle.ide_runs.specs.Topologies.{loaded_topology}
 use Rattle.ide_runs.specs.Why.{event_told, left_line, no_event_line}
 use Rattle.ide_cli.specs.Seen.{CallSeen}
@@ -91,7 +91,7 @@ pub record Said (due claimed held : Text) (call : CallSeen) (e : End) : Type 0 w
 -- if a call that judges a text comes to an end of its own, on a script that was read to its end
 abbrev pub JudgedCall : CallSeen → Type 0
 JudgedCall call = IfOk call.outcome (λ e. (plan : Plan) (script : Script) (a : AsksJudge call plan script)
-    (claimed held : Text) → script.stop ≡ AtEnd → a.contents a.verdicts_name ≡ Some claimed
+    (claimed held : Text) → script.ending ≡ AtEnd → a.contents a.verdicts_name ≡ Some claimed
     → call.sink_before.held ≡ Some held → Said (due_after plan [] script).1 claimed held call e)
 
 -- ---- an event that is told
@@ -136,9 +136,9 @@ pub record IsEventAt (plan : Plan) (script : Script) (n : ℕ) (h : History) (e 
 -- end has fewer events, the line that says so.
 pub record ToldWhy (plan : Plan) (script : Script) (n : ℕ) (held : Text) (call : CallSeen) (e : End) : Type 0 where
   pub told : (h : History) (x : Event) → IsEventAt plan script n h x
-      → (e ≡ end_of_stop script.stop)
-      × (call.sink_after.held ≡ Some (held ++ (event_told plan h x ++ left_line script.stop)))
-  pub none : length (events_on plan script) < n → script.stop ≡ AtEnd
+      → (e ≡ run_end script.ending)
+      × (call.sink_after.held ≡ Some (held ++ (event_told plan h x ++ left_line script.ending)))
+  pub none : length (events_on plan script) < n → script.ending ≡ AtEnd
       → (e ≡ end.NoEvent)
       × (call.sink_after.held ≡ Some (held ++ no_event_line n (length (events_on plan script))))
 

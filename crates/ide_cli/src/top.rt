@@ -25,8 +25,7 @@ ghost use Rattle.ide_cli.specs.Laws.{Unforged, TrustedPacketsFitView};
 ghost use Rattle.ide_cli.specs.GeneratedRuns.{RunsGenerated};
 ghost use Rattle.ide_cli.specs.Meaning.{Answered, RanGenerated, usage_line};
 ghost use Rattle.ide_cli.specs.SoFar.{WroteSoFar};
-ghost use Rattle.ide_cli.specs.Reads.{AsksToJudge, AsksToTell, Names, ReadNoFurther, ReadPast, most_counted};
-ghost use Rattle.ide_cli.specs.Reads.{most_read};
+ghost use Rattle.ide_cli.specs.Reads.{AsksToJudge, AsksToTell, Names, ReadNoFurther, ReadPast, most_counted, most_read};
 ghost use Rattle.ide_cli.specs.Seen.{call_seen, outcome_of_status, run_seen, said_words};
 ghost use Rattle.ide_cli.specs.Went.{Explained, JudgedCall};
 

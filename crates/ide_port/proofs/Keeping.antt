@@ -1,11 +1,10 @@
 -- A port keeps what always holds of it.
 use Rattle.ide_types.specs.declared.direction.Direction.{Direction}
-use Rattle.ide_port.proofs.Terms.{◌≡◌, ℕ, suc, zero, ◌<◌, ◌≤◌, List, [], ◌∷◌, length, map, get_or, Option, Some}
-use Rattle.ide_port.proofs.Terms.{None, Result, refl, ap, ◌∙◌, arith, slice_set, slice_get, vec_capacity, nat_tests}
-use Rattle.ide_port.proofs.Terms.{Side, SubKind, StreamPlan, Packet, StreamState, Sending, KeyCall, StreamEnd}
-use Rattle.ide_port.proofs.Terms.{joined_packets, packets_sent, end_outcome, end_taken, called_end, SendRefusal, Inside}
-use Rattle.ide_port.proofs.Terms.{PortEnd, Found, found_stream, NoneWaits, AreStreamsOf, IsKept, packets_lent}
-use Rattle.ide_port.proofs.Terms.{delivered_at}
+use Rattle.ide_port.proofs.Terms.{◌≡◌, ℕ, suc, zero, ◌<◌, ◌≤◌, List, [], ◌∷◌, length, map, get_or, Option, Some, None}
+use Rattle.ide_port.proofs.Terms.{Result, refl, ap, ◌∙◌, arith, slice_set, slice_get, vec_capacity, nat_tests, Side}
+use Rattle.ide_port.proofs.Terms.{SubKind, StreamPlan, Packet, StreamState, Sending, KeyCall, StreamEnd, joined_packets}
+use Rattle.ide_port.proofs.Terms.{packets_sent, end_outcome, end_taken, called_end, SendRefusal, Inside, PortEnd, Found}
+use Rattle.ide_port.proofs.Terms.{found_stream, NoneWaits, AreStreamsOf, IsKept, packets_lent, delivered_at}
 use Rattle.std.proofs.lemmas.List.{length-set}
 use Rattle.sub_stream.specs.declared.answer.MeasuredPacket.{MeasuredPacket}
 use Rattle.ide_port.specs.StreamSends.{IsSent}

@@ -2,7 +2,7 @@
 use Rattle.ide_port.proofs.Terms.{◌≡◌, ℕ, ◌<◌, true, false, ◌&&◌, [], Option, Some, None, refl, ap, ◌∙◌, arith, nat_lt}
 use Rattle.ide_port.proofs.Terms.{if◌then◌else◌, option_map, nat_tests, Side, SlotPair, Place, KeyCall, PlaceCall}
 use Rattle.ide_port.proofs.Terms.{slots_by, SlotsAfter, StreamState, sends_in, stream_after_call, PortEnd, Found}
-use Rattle.ide_port.proofs.Terms.{found_stream, changed_states, sub_from, is_place, stream_at, slot_pair_at}
+use Rattle.ide_port.proofs.Terms.{found_stream, changed_states, sub_from, is_place, stream_at_place, slot_pair_at}
 use Rattle.ide_port.proofs.Terms.{unfinished_at, called_states, called_port, NoneWaits}
 use Rattle.ide_types.specs.declared.direction.Direction.{Direction}
 use Rattle.key_messages.specs.Calls as km
@@ -34,7 +34,7 @@ pub record Waitless (e : PortEnd) : Type 0 where
   pub none : (id : ℕ) (f : Found) → found_stream e.plans e.states id ≡ Some f → NoneWaits f.state
 
 -- the place has a stream
-there : (e : PortEnd) (q : Place) (f : Found) → stream_at e q ≡ Some f → (is_place q ≡ true)
+there : (e : PortEnd) (q : Place) (f : Found) → stream_at_place e q ≡ Some f → (is_place q ≡ true)
     × (found_stream e.plans e.states q.stream ≡ Some f)
 there e q f at = grind (arith, nat_tests)
 
@@ -77,7 +77,7 @@ shown_called : (e : PortEnd) (k : KeyCall) (f : Found) (p q : Place) → Waitles
 shown_called e k f p q h here is =
     grind (arith, nat_tests, shown_same e k q f h here is, shown_other e k p q f here is, same_place p q, here)
 
-shown_there : (e : PortEnd) (c : PlaceCall) (f : Found) (p : Place) → Waitless e → stream_at e c.place ≡ Some f
+shown_there : (e : PortEnd) (c : PlaceCall) (f : Found) (p : Place) → Waitless e → stream_at_place e c.place ≡ Some f
     → slot_pair_at (called_port c e) p ≡ shown_if e c.call p c.place
 shown_there e c f p h at =
     let t = there e c.place f at in
@@ -87,14 +87,16 @@ shown_there e c f p h at =
     ∙ ap (λ id. with_stream e id y) (found_stream-id e.plans e.states c.place.stream f t.1) in
     ap (λ x. slot_pair_at x p) moves ∙ shown_called e c.call f p c.place h t.0 t.1
 
-shown_nowhere : (e : PortEnd) (k : KeyCall) (p q : Place) → stream_at e q ≡ None → slot_pair_at e p ≡ shown_if e k p q
+shown_nowhere : (e : PortEnd) (k : KeyCall) (p q : Place) → stream_at_place e q ≡ None → slot_pair_at e p
+    ≡ shown_if e k p q
 shown_nowhere e k p q at = grind (arith, nat_tests, same_place p q, at)
 
 pub slots-after : (e : PortEnd) (c : PlaceCall) → Waitless e → SlotsAfter (slot_pair_at e) (unfinished_at e) c
     (slot_pair_at (called_port c e))
-slots-after e c h p = by (stream_at e c.place) refl
+slots-after e c h p = by (stream_at_place e c.place) refl
   where
-    by : (o : Option Found) → stream_at e c.place ≡ o → slot_pair_at (called_port c e) p ≡ shown_if e c.call p c.place
+    by : (o : Option Found) → stream_at_place e c.place ≡ o → slot_pair_at (called_port c e) p
+        ≡ shown_if e c.call p c.place
     by None at = ap (λ o. slot_pair_at (record e { states = called_states e c o; delivered = [] }) p) at ∙ shown_nowhere
         e
         c.call p c.place at

@@ -8,7 +8,7 @@ use Rattle.ide_port.proofs.Terms.{nat_tests, SubKind, StreamPlan, Packet, Tlp, c
 use Rattle.ide_port.proofs.Terms.{SlotPair, program_answer, PlaceCall, SlotsAfter, shown_pair, program_answer_at}
 use Rattle.ide_port.proofs.Terms.{answer_taken, StreamEnd, new_sending, numbered_answer, end_outcome, end_taken}
 use Rattle.ide_port.proofs.Terms.{called_end, pair_in, lengths_said, Inside, SendRefusal, PortEnd, Found, found_stream}
-use Rattle.ide_port.proofs.Terms.{changed_states, sub_from, stream_at, slot_pair_at, unfinished_at, called_states}
+use Rattle.ide_port.proofs.Terms.{changed_states, sub_from, stream_at_place, slot_pair_at, unfinished_at, called_states}
 use Rattle.ide_port.proofs.Terms.{called_port, stream_of, place_and_sub, arrival_said}
 use Rattle.std.proofs.Common.{Bool, Ok}
 use Rattle.ide_types.specs.declared.port.PortName.{PortName}
@@ -176,7 +176,7 @@ module _ (p : Inside) (e : PortEnd) (view : now p ≡ e) (kept : Keeps p) (c : P
       let q = c.place in
       let none : nat_lt q.sub 3 ≡ true → found_stream e.plans e.states q.stream ≡ None =
       λ t. gone p e view q.stream (none_in (nat_lt q.sub 3) (plan_place p.plans q.stream) (sub_from q.sub) at t) in
-      let out : stream_at e q ≡ None = grind (arith, nat_tests, none) in
+      let out : stream_at_place e q ≡ None = grind (arith, nat_tests, none) in
       let moves : port_within p p.streams.items p.sealed.items None ≡ called_port c e =
       ap (λ (e : PortEnd). record e { delivered = [] }) view ∙ ap
       (λ o. record e { states = called_states e c o; delivered = [] }) (sym out) in
@@ -190,7 +190,7 @@ module _ (p : Inside) (e : PortEnd) (view : now p ≡ e) (kept : Keeps p) (c : P
   stream_after_call-step place u x y lane is after =
       let q = c.place in
       let k = there p kept q.stream place x lane.place_is is in
-      let at : stream_at (now p) q ≡ Some (record { plan = k.plan; state = x.state }) = rw lane.three k.is_found
+      let at : stream_at_place (now p) q ≡ Some (record { plan = k.plan; state = x.state }) = rw lane.three k.is_found
       in
       let mine : y ≡ called_end (stream_of p.name.side p.limit k.plan x) q.direction (sub_from q.sub) c.call =
       after ∙ (λ i. called_end (k.of_plan.plan i) q.direction (lane.sub_is i) c.call) in

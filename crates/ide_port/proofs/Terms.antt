@@ -3,7 +3,7 @@ pub use Rattle.key_messages.specs.declared.place.Place.{Place}
 pub use Rattle.key_messages.specs.{PlaceCall, SlotsAfter, place_call, shown_pair, slots_by}
 pub use Rattle.key_messages.specs.Calls.{go_answer_at, is_there, program_answer_at}
 pub use Rattle.ide_types.specs.declared.stream.StreamPlan.{StreamPlan}
-pub use Rattle.ide_port.specs.Calls.{called_port, called_states, has_open_unit, is_place, slot_pair_at, stream_at}
+pub use Rattle.ide_port.specs.Calls.{called_port, called_states, has_open_unit, is_place, slot_pair_at, stream_at_place}
 pub use Rattle.ide_port.specs.Calls.{unfinished_at}
 pub use Rattle.ide_port.specs.Ends.{Found, PortEnd, changed_states, found_stream, reset_port}
 pub use Rattle.ide_port.specs.Kept.{AreStreamsOf, IsKept, IsStreamOf, NoneWaits, arrival_said, delivered_at}

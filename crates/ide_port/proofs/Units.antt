@@ -1,14 +1,13 @@
 -- No step at a port finishes, or accepts, more than one unit in a sub-stream. A send seals at most one packet of each,
 -- as sync packets go first in the other two; a packet that comes is of one sub-stream; after a call of key management a
 -- count stays or is 0. One stream of the port is called, and the others stay.
-use Rattle.ide_port.proofs.Terms.{◌≡◌, ℕ, ◌+◌, ◌≤◌, true, false, List, [], ◌∷◌, Option, Some, None, refl}
-use Rattle.ide_port.proofs.Terms.{arith, nat_tests, if◌then◌else◌, SubKind, StreamPlan, Verdict, Sending}
-use Rattle.ide_port.proofs.Terms.{Lanes, StreamState, Three, TxSub, RxSub, at_sub, sealed_all}
-use Rattle.ide_port.proofs.Terms.{sealed_with_syncs, Insecure, NotKeyed, Failed, Held, Accepted}
-use Rattle.ide_port.proofs.Terms.{state_after, rested_stream, stream_after_call}
-use Rattle.ide_port.proofs.Terms.{KeyCall, no_stream, StreamEnd, Found, found_stream, changed_states}
-use Rattle.ide_port.proofs.Terms.{PortEnd, PlaceCall, called_port, called_states, is_place, reset_port, sends_in}
-use Rattle.ide_port.proofs.Terms.{sub_from, unless_verdict, packets_and_senders, sending_refusal, Packet, header}
+use Rattle.ide_port.proofs.Terms.{◌≡◌, ℕ, ◌+◌, ◌≤◌, true, false, List, [], ◌∷◌, Option, Some, None, refl, arith}
+use Rattle.ide_port.proofs.Terms.{nat_tests, if◌then◌else◌, SubKind, StreamPlan, Verdict, Sending, Lanes, StreamState}
+use Rattle.ide_port.proofs.Terms.{Three, TxSub, RxSub, at_sub, sealed_all, sealed_with_syncs, Insecure, NotKeyed}
+use Rattle.ide_port.proofs.Terms.{Failed, Held, Accepted, state_after, rested_stream, stream_after_call, KeyCall}
+use Rattle.ide_port.proofs.Terms.{no_stream, StreamEnd, Found, found_stream, changed_states, PortEnd, PlaceCall}
+use Rattle.ide_port.proofs.Terms.{called_port, called_states, is_place, reset_port, sends_in, sub_from, unless_verdict}
+use Rattle.ide_port.proofs.Terms.{packets_and_senders, sending_refusal, Packet, header}
 use Rattle.std.proofs.Common.{◌==◌, Bool, Result, Ok, Err, All}
 use Rattle.std.proofs.lemmas.List.Elements.{All-cons, All-head, All-tail, All-weaker, All-map}
 use Rattle.ide_types.specs.Sub.{is_same_sub}

@@ -10,9 +10,9 @@ use Rattle.ide_port.specs.StreamEnds.{StreamEnd}
 use Rattle.stream_lanes.specs.{any_out, settled_senders, called_ends, any_into, rested_into, called_receivers}
 
 -- the slots of a sender, or of a receiver
-abbrev pub pair_of : Bool → SubKind → Directions → SlotPair
-pair_of true u d = slot_pair true (at_sub d.tx.tx u).slots
-pair_of false u d = slot_pair false (at_sub d.rx.rx u).slots
+abbrev pub slots_of_lane : Bool → SubKind → Directions → SlotPair
+slots_of_lane true u d = slot_pair true (at_sub d.tx.tx u).slots
+slots_of_lane false u d = slot_pair false (at_sub d.rx.rx u).slots
 
 abbrev pub called_directions : Bool → SubKind → KeyCall → Directions → Directions
 called_directions true u call d = record d { tx = called_ends d.tx u call }

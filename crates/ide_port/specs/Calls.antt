@@ -19,13 +19,13 @@ abbrev pub is_place : Place → Bool
 is_place place = nat_lt place.sub 3
 
 -- the stream of a place
-abbrev pub stream_at : PortEnd → Place → Option Found
-stream_at e place = if is_place place then found_stream e.plans e.states place.stream else None
+abbrev pub stream_at_place : PortEnd → Place → Option Found
+stream_at_place e place = if is_place place then found_stream e.plans e.states place.stream else None
 
 abbrev pub slot_pair_at : PortEnd → Place → Option SlotPair
 slot_pair_at e place = option_map
     (λ (f : Found). pair_at (sends_in e.name.side place.direction) (sub_from place.sub) f.state)
-    (stream_at e place)
+    (stream_at_place e place)
 
 -- a sender has begun a unit and not ended it
 abbrev pub has_open_unit : LaneSlots → Bool
@@ -37,7 +37,7 @@ is_open_at e place (Some f) =
     sends_in e.name.side place.direction && has_open_unit (at_sub f.state.tx (sub_from place.sub)).slots
 
 abbrev pub unfinished_at : PortEnd → Place → Bool
-unfinished_at e place = is_open_at e place (stream_at e place)
+unfinished_at e place = is_open_at e place (stream_at_place e place)
 
 -- the status of a stream that the port has
 abbrev pub port_stream_status : PortEnd → ℕ → Option StreamStatus
@@ -68,4 +68,4 @@ called_states e c (Some f) =
 
 -- the stream of the place is called, and no other changes; nothing is lent any more
 abbrev pub called_port : PlaceCall → PortEnd → PortEnd
-called_port c e = record e { states = called_states e c (stream_at e c.place); delivered = [] }
+called_port c e = record e { states = called_states e c (stream_at_place e c.place); delivered = [] }

@@ -18,9 +18,9 @@ stream_facts_in e id = option_map found_facts (found_stream e.plans e.states id)
 abbrev pub held_by : SubKind → Bool → StreamState → List Packet
 held_by u k x = held_packets (slot_in_set (at_sub x.rx u).slots k)
 
-abbrev pub held_of : SubKind → Bool → Found → List Packet
-held_of u k f = held_by u k f.state
+abbrev pub held_of_found : SubKind → Bool → Found → List Packet
+held_of_found u k f = held_by u k f.state
 
 -- none if the port has no such stream
 abbrev pub held_in_port : PortEnd → ℕ → SubKind → Bool → List Packet
-held_in_port e id u k = option_map_or (held_of u k) (found_stream e.plans e.states id) []
+held_in_port e id u k = option_map_or (held_of_found u k) (found_stream e.plans e.states id) []

@@ -17,7 +17,7 @@ pub struct Directions {
 }
 
 impl Directions {
-    ghost use Rattle.ide_port.specs.Both.{pair_of, called_directions, rested_directions};
+    ghost use Rattle.ide_port.specs.Both.{slots_of_lane, called_directions, rested_directions};
 
     /// Puts a key of this draw into a slot. Returns `OnlyLive` exactly if this slot is Live and the other holds no
     /// newer Live key: then the key comes back.
@@ -29,7 +29,7 @@ impl Directions {
         key: Key,
         draw: u32,
     ) -> Result<(), OnlyLive>
-        ensures answer { result ≡ program_answer (pair_of sends sub self.old) (is_one set) key }
+        ensures answer { result ≡ program_answer (slots_of_lane sends sub self.old) (is_one set) key }
         ensures directions { self.new ≡ called_directions sends sub (Program (is_one set) key draw) self.old }
     {
         if sends {
@@ -41,7 +41,7 @@ impl Directions {
 
     /// GO: takes a Programmed key into use. Returns `SlotEmpty` exactly if the slot is Empty.
     pub fn go(&mut self, sends: bool, sub: SubKind, set: KeySet) -> Result<(), SlotEmpty>
-        ensures answer { is_ok result ≡ not (is_empty (slot_in (pair_of sends sub self.old) (is_one set))) }
+        ensures answer { is_ok result ≡ not (is_empty (slot_in (slots_of_lane sends sub self.old) (is_one set))) }
         ensures directions { self.new ≡ called_directions sends sub (Go (is_one set)) self.old }
     {
         if sends {

@@ -4,7 +4,7 @@ ghost use Rattle.std.specs.Prelude.{◌≡◌, ◌+◌, ◌<◌, ◌≤◌, ◌^
 ghost use Rattle.tlp_layout.specs.Head.{head_bytes};
 ghost use Rattle.tlp_layout.specs.Tlp.{header, body, viewed_tlp};
 ghost use Rattle.tlp_layout.specs.Reading.{read_of};
-ghost use Rattle.tlp_layout.specs.Choice.{choice_in, choice_of, chosen_stream, plan_place};
+ghost use Rattle.tlp_layout.specs.Choice.{choice_of_stream, choice_of, chosen_stream, plan_place};
 ghost use Rattle.ide_types.specs.Fits.{FitsStream};
 ghost use Rattle.ide_prefix.specs.Cut.{packet_of_view, IsView};
 ghost use Rattle.ide_port.specs.StreamEnds.{reset_end};
@@ -109,13 +109,12 @@ fn reset_streams(streams: &mut Vec<Stream>)
 impl Port {
     ghost use Rattle.ide_port.specs.Ends.{new_port, found_stream, reset_port};
     ghost use Rattle.ide_prefix.specs.Reading.{cut_of};
-    ghost use Rattle.tlp_layout.specs.Outgoing.{outgoing_on, outgoing_of, stream_taken};
+    ghost use Rattle.tlp_layout.specs.Outgoing.{outgoing_if_chosen, outgoing_of, stream_taken};
     ghost use Rattle.ide_port.specs.Sends.{IsSendStep, IsSentAtPort, send_step, stream_step, sent_verdict};
     ghost use Rattle.ide_port.specs.Sends.{unsealed_step};
     ghost use Rattle.ide_port.specs.Arrivals.{take_step, packet_step};
     ghost use Rattle.ide_port.specs.Units.{PortUnitsAtMost};
-    ghost use Rattle.ide_port.specs.Calls.{port_stream_status, live_in_port};
-    ghost use Rattle.ide_port.specs.Calls.{sealing_draw_in, receiving_draw_in};
+    ghost use Rattle.ide_port.specs.Calls.{port_stream_status, live_in_port, sealing_draw_in, receiving_draw_in};
 
     /// The port of this name with these streams of its line, without keys; a key seals at most `limit` units.
     pub fn make(
@@ -180,8 +179,8 @@ impl Port {
         requires few { PortUnitsAtMost (2 ^ 40) self.old }
         requires read { read_of bytes.now ≡ Ok (viewed_tlp tlp.now) }
         requires place { IfSome chosen (λ c. plan_place self.old.plans c.id ≡ Some c.place) }
-        ensures { (number : ℕ) → let out = outgoing_on (viewed_tlp tlp.now) (chosen_stream (choice_in chosen)) in
-            IsSendStep self.old.name number result self.new
+        ensures { (number : ℕ) → let out = outgoing_if_chosen (viewed_tlp tlp.now)
+            (chosen_stream (choice_of_stream chosen)) in IsSendStep self.old.name number result self.new
             (send_step self.old out more (T.trusting trusting.now) number) }
     {
         match chosen {

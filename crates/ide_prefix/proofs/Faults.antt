@@ -6,7 +6,7 @@ use Rattle.std.proofs.Common.{length-take, length-drop, get_or-take, get_or-drop
 use Rattle.std.proofs.Common.{append-nil, min, not, add_comm}
 use Rattle.std.specs.Prelude.{MatchOption}
 use Rattle.std.specs.Array.{IsWholeChunk}
-use Rattle.tlp_layout.specs.{kind_of_byte, head_size, has_data, layout_at, fault_at, cause_at, head_of, rest_size}
+use Rattle.tlp_layout.specs.{kind_of_byte, head_size, has_data, layout_of_byte, fault_at, cause_at, head_of, rest_size}
 use Rattle.tlp_layout.specs.{may_follow, body_size, layout_of, head_bytes}
 use Rattle.ide_prefix.specs.Causes.{prefix_read, clear_size, fits_early, packet_fault_at}
 use Rattle.ide_prefix.specs.Cut.{lent_tag}
@@ -15,8 +15,8 @@ use Rattle.ide_prefix.specs.Packet.{FitsPacket, is_sync_packet, SpellsPacket, be
 use Rattle.ide_prefix.specs.Reading.{sync_at, tag_part, packet_size, packet_may_follow}
 use Rattle.ide_prefix.specs.declared.fault.PacketFault.{PacketFault}
 use Rattle.ide_prefix.specs.declared.packet.Prefix.{Prefix}
-use Rattle.ide_prefix.specs.Inside.{StopsEarly, StopsSync, StopsInHead, HasHeader, SizesAre, head_slice}
-use Rattle.ide_prefix.specs.Inside.{packet_fault_of}
+use Rattle.ide_prefix.specs.Inside.{GoesOffEarly, GoesOffInSync, GoesOffInHead, HasHeader, SizesAre, head_slice}
+use Rattle.ide_prefix.specs.Inside.{packet_fault_of_tlp}
 use Rattle.ide_types.proofs.Cells.{IsBytes}
 use Rattle.ide_prefix.proofs.Grammar.{IsWalkedPacket, walks_from, walked_early, walked_late, size_at_least}
 use Rattle.ide_prefix.proofs.Grammar.{size_carried, size_sync, packets, packet_of, sync_spells, carried_spells}
@@ -36,7 +36,7 @@ halt : (s : List ℕ) (place : ℕ) → place ≤ length s → place ≤ packet_
     → EndsAt packet_size packet_may_follow s place
 halt s place le size w off = record { within = le; sized = size; fitting = walks_from s place le w; off = off }
 
-pub early_fault : (s : List ℕ) (f : PacketFault) (place : ℕ) → IsBytes s → StopsEarly s f place → GoesOff s f
+pub early_fault : (s : List ℕ) (f : PacketFault) (place : ℕ) → IsBytes s → GoesOffEarly s f place → GoesOff s f
 early_fault s f place fit h =
     let early = h.early in
     let size : place < packet_size s = omega (arith, size_at_least s) in (
@@ -51,7 +51,8 @@ early_fault s f place fit h =
     )
 
 pub sync_fault : (s : List ℕ) (f : PacketFault) (place : ℕ) → IsBytes s
-    → ((i : ℕ) → i < 5 → fits_early i s (get_or s i 0) ≡ true) → sync_at s ≡ true → StopsSync s f place → GoesOff s f
+    → ((i : ℕ) → i < 5 → fits_early i s (get_or s i 0) ≡ true) → sync_at s ≡ true → GoesOffInSync s f place
+    → GoesOff s f
 sync_fault s f place fit early y h =
     let b = h.behind in
     let size : place < packet_size s = omega (arith, size_at_least s) in (
@@ -100,9 +101,9 @@ begins_head s fit long early plain =
     (belongs (prefix_read s).sub (kind_of_byte (get_or s 4 0))) ≡ true = early 4 (omega arith) in
     let c : belongs (prefix_read s).sub (kind_of_byte (get_or s 4 0)) ≡ true = rw plain at first in
     and_from _ _ (lt-ltb _ _ (fit 4))
-    (some_kind (prefix_read s).sub (has_data (get_or s 4 0)) (layout_at (get_or s 4 0)) c)
+    (some_kind (prefix_read s).sub (has_data (get_or s 4 0)) (layout_of_byte (get_or s 4 0)) c)
 
-shifted_cause : (p b : ℕ) → packet_fault_of (cause_at p b) ≡ Tlp (fault_after_prefix (cause_at p b))
+shifted_cause : (p b : ℕ) → packet_fault_of_tlp (cause_at p b) ≡ Tlp (fault_after_prefix (cause_at p b))
 shifted_cause p b = elim (cases_eq p 2) [
   | inl two ↦ elim (cases_lt b 64) [
     | inl lt ↦ rw (eq-eqb p 2 two, lt-ltb b 64 lt) refl
@@ -115,7 +116,7 @@ shifted_cause p b = elim (cases_eq p 2) [
 ]
 
 pub header_fault : (s : List ℕ) (f : PacketFault) → IsBytes s → 5 ≤ length s
-    → ((i : ℕ) → i < 5 → fits_early i s (get_or s i 0) ≡ true) → sync_at s ≡ false → StopsInHead s f → GoesOff s f
+    → ((i : ℕ) → i < 5 → fits_early i s (get_or s i 0) ≡ true) → sync_at s ≡ false → GoesOffInHead s f → GoesOff s f
 header_fault s f fit long early plain h =
     let front = head_slice s in
     let size = head_size (get_or s 4 0) in
@@ -147,7 +148,7 @@ header_fault s f fit long early plain h =
     (take-take p size (drop 4 s) le, get_or-take size (drop 4 s) p 0 less, get_or-drop 4 s p 0) (rw four at there)
     in
     ends.0.off (inside lt) needs here in
-    let shift : packet_fault_of (fault_at front p) ≡ packet_fault_at s (4 + p) = elim (cases_eq p (length front)) [
+    let shift : packet_fault_of_tlp (fault_at front p) ≡ packet_fault_at s (4 + p) = elim (cases_eq p (length front)) [
       | inl all ↦
           let end : 4 + p ≡ length s = omega arith in
           rw (eq-eqb p (length front) all, eq-eqb (4 + p) (length s) end, add_comm 4 p) refl
@@ -172,7 +173,7 @@ header_fault s f fit long early plain h =
     ] in
     let end = halt s (4 + p) (omega arith) (omega arith) (head_walked s p fit long early plain within ends.0.fitting)
     off in
-    (4 + p, place_of packets s (4 + p) end (λ _. whole), h.2 ∙ ap packet_fault_of h.1.2 ∙ shift)
+    (4 + p, place_of packets s (4 + p) end (λ _. whole), h.2 ∙ ap packet_fault_of_tlp h.1.2 ∙ shift)
 
 -- ---- the whole packet
 

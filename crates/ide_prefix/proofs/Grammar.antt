@@ -10,8 +10,8 @@ use Rattle.std.proofs.lemmas.Bool.{eqb-true, ne_eqb, and_parts, and_from, agree_
 use Rattle.std.proofs.lemmas.List.{ext_get_or, drop-take, get_or_past, get_or-replicate, get_or_append_left}
 use Rattle.std.proofs.lemmas.List.{get_or-append_right}
 use Rattle.std.proofs.lemmas.List.Elements.{All-from_get_or}
-use Rattle.tlp_layout.specs.{bit, head_size, has_data, layout_at, class_of, kind_class, kind_with, kind_of_byte}
-use Rattle.tlp_layout.specs.{head_of, rest_size, may_follow, whole_size, body_size, layout_of}
+use Rattle.tlp_layout.specs.{bit, head_size, has_data, layout_of_byte, class_of, kind_class, kind_of_layout}
+use Rattle.tlp_layout.specs.{kind_of_byte, head_of, rest_size, may_follow, whole_size, body_size, layout_of}
 use Rattle.ide_types.specs.Sub.{sub_bits}
 use Rattle.ide_prefix.specs.Reading.{sync_at, tag_part, packet_size, packet_may_follow, fits_late}
 use Rattle.ide_prefix.specs.Causes.{sub_from, prefix_read, fits_first, fits_early}
@@ -153,12 +153,12 @@ prefix_is_front s le w =
 
 -- what byte 4 of a packet that carries a TLP says
 carried_first : (sub : SubKind) (p : Bool) (o : Option Layout) → belongs sub (kind_if_layout o p) ≡ true
-    → (k : Layout) × (o ≡ Some k) × (kind_class (kind_with k p) ≡ sub)
+    → (k : Layout) × (o ≡ Some k) × (kind_class (kind_of_layout k p) ≡ sub)
 carried_first sub p None e = absurd cc
 carried_first sub p (Some k) e =
-    (k, refl, sym (sub_again (kind_class (kind_with k p))) ∙ ap sub_from (eqb-true _ _ e) ∙ sub_again sub)
+    (k, refl, sym (sub_again (kind_class (kind_of_layout k p))) ∙ ap sub_from (eqb-true _ _ e) ∙ sub_again sub)
 
-class_is : (k : Layout) (s : List ℕ) → class_of (head_of k s) ≡ kind_class (kind_with k (has_data (get_or s 0 0)))
+class_is : (k : Layout) (s : List ℕ) → class_of (head_of k s) ≡ kind_class (kind_of_layout k (has_data (get_or s 0 0)))
 class_is layouts.Memory s = refl
 class_is layouts.Config s = refl
 class_is layouts.Message s = refl
@@ -201,14 +201,14 @@ fits_prefix s le w = record {
 -- after the prefix a TLP's header walks
 pub tail_walked : (s : List ℕ) → 5 ≤ length s → IsWalkedPacket s (length s) → sync_at s ≡ false → (k : Layout)
     × IsWalked k (drop 4 s) (length (drop 4 s)) ×
-    (kind_class (kind_with k (has_data (get_or s 4 0))) ≡ (prefix_read s).sub)
+    (kind_class (kind_of_layout k (has_data (get_or s 4 0))) ≡ (prefix_read s).sub)
 tail_walked s le w n =
     let first : cond (sync_at s) (cond (prefix_read s).m (not (prefix_read s).t) false)
     (belongs (prefix_read s).sub (kind_of_byte (get_or s 4 0))) ≡ true = w.early 4 (omega arith) (omega arith) in
     let c : belongs (prefix_read s).sub (kind_of_byte (get_or s 4 0)) ≡ true = rw n at first in
-    let k = carried_first (prefix_read s).sub (has_data (get_or s 4 0)) (layout_at (get_or s 4 0)) c in
+    let k = carried_first (prefix_read s).sub (has_data (get_or s 4 0)) (layout_of_byte (get_or s 4 0)) c in
     let zeroth : get_or (drop 4 s) 0 0 ≡ get_or s 4 0 = get_or-drop 4 s 0 0 in
-    let kind : layout_at (get_or (drop 4 s) 0 0) ≡ Some k.0 = ap layout_at zeroth ∙ k.1 in (
+    let kind : layout_of_byte (get_or (drop 4 s) 0 0) ≡ Some k.0 = ap layout_of_byte zeroth ∙ k.1 in (
       k.0,
       record {
         fit = λ i lt. rw get_or-drop (w.fit (4 + i) (omega (arith, length-drop 4 s)));
@@ -282,7 +282,7 @@ carried_spells s le w n size =
         carries = inl (record {
           head = head_of k.0 (take hs t);
           spells = spells;
-          class = class_is k.0 (take hs t) ∙ ap (λ (b : ℕ). kind_class (kind_with k.0 (has_data b))) first ∙ k.2;
+          class = class_is k.0 (take hs t) ∙ ap (λ (b : ℕ). kind_class (kind_of_layout k.0 (has_data b))) first ∙ k.2;
           size = omega (arith, wants, long, length-take r (drop hs t), length-drop hs t);
         });
         body = part_bytes t (λ i. rw get_or-drop (all (4 + i))) hs r;
@@ -432,7 +432,7 @@ carried_spelled p f c =
     let bytes : IsBytes x = append_bytes p.head more r.fit all in
     let plain : begins_sync p.prefix.sub (get_or x 0 0) ≡ false = not_sync p.prefix.sub c.head (get_or x 0 0) w.kind
     c.class in
-    let class = ap (λ (h : HeadView). kind_class (kind_with k h.has_payload)) same ∙ c.class in
+    let class = ap (λ (h : HeadView). kind_class (kind_of_layout k h.has_payload)) same ∙ c.class in
     let carried : belongs p.prefix.sub (kind_of_byte (get_or x 0 0)) ≡ true = rw w.kind (eq-eqb _ _ (ap sub_bits class))
     in
     let first : fits_first p.prefix (get_or x 0 0) ≡ true = rw plain carried in

@@ -7,8 +7,8 @@ use Rattle.std.specs.Prelude.{All}
 use Rattle.std.proofs.lemmas.Bool.{ne_eqb, eq-eqb}
 use Rattle.std.proofs.lemmas.List.{get_or_append_left}
 use Rattle.std.proofs.lemmas.List.Concat.{flat_map-cons}
-use Rattle.tlp_layout.specs.{head_bytes, bit, layout_at, class_of, kind_with, kind_class, head_of, rest_size, body_size}
-use Rattle.tlp_layout.specs.{layout_of}
+use Rattle.tlp_layout.specs.{head_bytes, bit, layout_of_byte, class_of, kind_of_layout, kind_class, head_of, rest_size}
+use Rattle.tlp_layout.specs.{body_size, layout_of}
 use Rattle.ide_types.specs.Sub.{sub_bits}
 use Rattle.ide_prefix.specs.Causes.{clear_size, sub_from}
 use Rattle.ide_prefix.specs.Packet.{begins_sync, prefix_bytes, IsCarried, IsSync, FitsPacket}
@@ -98,12 +98,12 @@ same_ahead (x ∷ a) (y ∷ b) u v l e =
 some_is : (a b : Layout) → Some a ≡ Some b → a ≡ b
 some_is a b e = cc
 
-posted : (h : HeadView) (b : ℕ) → layout_at b ≡ Some (layout_of h.fields) → b ≡ 0x34 → class_of h ≡ Pr
+posted : (h : HeadView) (b : ℕ) → layout_of_byte b ≡ Some (layout_of h.fields) → b ≡ 0x34 → class_of h ≡ Pr
 posted h b kind e =
-    let m : layout_of h.fields ≡ layouts.Message = some_is _ _ (sym kind ∙ ap layout_at e) in
-    ap (λ (k : Layout). kind_class (kind_with k h.has_payload)) m
+    let m : layout_of h.fields ≡ layouts.Message = some_is _ _ (sym kind ∙ ap layout_of_byte e) in
+    ap (λ (k : Layout). kind_class (kind_of_layout k h.has_payload)) m
 
-pub not_sync : (sub : SubKind) (h : HeadView) (b : ℕ) → layout_at b ≡ Some (layout_of h.fields) → class_of h ≡ sub
+pub not_sync : (sub : SubKind) (h : HeadView) (b : ℕ) → layout_of_byte b ≡ Some (layout_of h.fields) → class_of h ≡ sub
     → begins_sync sub b ≡ false
 not_sync Pr h b kind class = refl
 not_sync Npr h b kind class = ne_eqb b 0x34 (λ e. let pr = posted h b kind e in absurd cc)

@@ -14,7 +14,7 @@ use Rattle.ide_prefix.specs.Packet.{begins_sync}
 use Rattle.ide_prefix.specs.Causes.{prefix_read, fits_early, clear_size, fault_after_prefix, packet_fault_at}
 
 -- the bytes go off among the first five
-pub record StopsEarly (s : List ℕ) (fault : PacketFault) (place : ℕ) : Type 0 where
+pub record GoesOffEarly (s : List ℕ) (fault : PacketFault) (place : ℕ) : Type 0 where
   pub within : place ≤ length s
   pub early : place < 5
   pub cause : fault ≡ packet_fault_at s place
@@ -22,7 +22,7 @@ pub record StopsEarly (s : List ℕ) (fault : PacketFault) (place : ℕ) : Type 
   pub off : place < length s → fits_early place s (slice_index s place) ≡ false
 
 -- a sync packet goes off after byte 4
-pub record StopsSync (s : List ℕ) (fault : PacketFault) (place : ℕ) : Type 0 where
+pub record GoesOffInSync (s : List ℕ) (fault : PacketFault) (place : ℕ) : Type 0 where
   pub within : place ≤ length s
   pub behind : (5 ≤ place) × (place < 16)
   pub cause : fault ≡ packet_fault_at s place
@@ -30,9 +30,9 @@ pub record StopsSync (s : List ℕ) (fault : PacketFault) (place : ℕ) : Type 0
   pub off : place < length s → slice_index s place ≡ 0 → ⊥
 
 -- a header's fault, as a packet's
-abbrev pub packet_fault_of : TlpFault → PacketFault
-packet_fault_of (tlps.Short place) = Short (place + 4)
-packet_fault_of f = Tlp (fault_after_prefix f)
+abbrev pub packet_fault_of_tlp : TlpFault → PacketFault
+packet_fault_of_tlp (tlps.Short place) = Short (place + 4)
+packet_fault_of_tlp f = Tlp (fault_after_prefix f)
 
 -- what stands in the header's place
 abbrev pub head_slice : List ℕ → List ℕ
@@ -44,8 +44,8 @@ pub record HasHeader (s : List ℕ) (wanted : ℕ) : Type 0 where
   pub spells : SpellsHead head (head_slice s)
   pub wanted_is : wanted ≡ body_size head.has_payload head.lead.length
 
-abbrev pub StopsInHead : List ℕ → PacketFault → Type 0
-StopsInHead s fault = (f : TlpFault) × IsHeadFault (head_slice s) f × (fault ≡ packet_fault_of f)
+abbrev pub GoesOffInHead : List ℕ → PacketFault → Type 0
+GoesOffInHead s fault = (f : TlpFault) × IsHeadFault (head_slice s) f × (fault ≡ packet_fault_of_tlp f)
 
 -- the bytes after the prefix begin a sync packet, or with a header: its length, and that of the payload
 pub record SizesAre (s : List ℕ) (size wanted : ℕ) : Type 0 where

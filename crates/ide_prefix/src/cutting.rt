@@ -10,8 +10,8 @@ ghost use Rattle.ide_prefix.specs.Faults.{GoesOff, IsPacketFault};
 ghost use Rattle.ide_prefix.specs.Reading.{cut_of, IdePacket};
 ghost use Rattle.ide_prefix.specs.Cut.{IsCut, cut_value, cut_values};
 ghost use Rattle.ide_prefix.specs.declared.packet.Cut.TheVariants.{Ide};
-ghost use Rattle.ide_prefix.specs.Inside.{StopsEarly, StopsSync, StopsInHead, HasHeader, SizesAre, head_slice};
-ghost use Rattle.ide_prefix.specs.Inside.{packet_fault_of};
+ghost use Rattle.ide_prefix.specs.Inside.{GoesOffEarly, GoesOffInSync, GoesOffInHead, HasHeader, SizesAre, head_slice};
+ghost use Rattle.ide_prefix.specs.Inside.{packet_fault_of_tlp};
 
 use crate::fault::PacketFault;
 use crate::packet::{Cut, PACKET_FIRST, PacketView, Prefix, SYNC_FIRST};
@@ -119,7 +119,7 @@ fn cause_early(place: usize, bytes: &[u8]) -> PacketFault
 fn early(bytes: &[u8]) -> Result<(), PacketFault>
     ensures long { OnOk result (5 ≤ length bytes.now) }
     ensures fits { OnOk result ((i : ℕ) → i < 5 → fits_early i bytes.now (slice_index bytes.now i) ≡ true) }
-    ensures stops { IfErr result (λ f. (place : ℕ) × StopsEarly bytes.now f place) }
+    ensures goes_off { IfErr result (λ f. (place : ℕ) × GoesOffEarly bytes.now f place) }
 {
     for place in 0..5 {
         if place >= bytes.len() {
@@ -138,7 +138,7 @@ fn sync_zeros(bytes: &[u8]) -> Result<(), PacketFault>
     requires sync { begins_sync_of (prefix_read bytes.now).sub (slice_index bytes.now 4) ≡ true }
     ensures long { OnOk result (16 ≤ length bytes.now) }
     ensures zeros { OnOk result ((i : ℕ) → 5 ≤ i → i < 16 → slice_index bytes.now i ≡ 0) }
-    ensures stops { IfErr result (λ f. (place : ℕ) × StopsSync bytes.now f place) }
+    ensures goes_off { IfErr result (λ f. (place : ℕ) × GoesOffInSync bytes.now f place) }
 {
     for place in 5..16 {
         if place >= bytes.len() {
@@ -154,7 +154,7 @@ fn sync_zeros(bytes: &[u8]) -> Result<(), PacketFault>
 /// The same fault, four bytes on.
 fn behind_prefix(fault: TlpFault) -> PacketFault
     requires { place_in fault < 2 ^ 32 }
-    ensures { result ≡ packet_fault_of fault }
+    ensures { result ≡ packet_fault_of_tlp fault }
 {
     match fault {
         TlpFault::Short(place) => PacketFault::Short(place + 4),
@@ -182,7 +182,7 @@ fn head_front(bytes: &[u8]) -> &[u8]
 fn header(bytes: &[u8]) -> Result<usize, PacketFault>
     requires { 5 ≤ length bytes.now }
     ensures ok { IfOk result (HasHeader bytes.now) }
-    ensures stops { IfErr result (StopsInHead bytes.now) }
+    ensures goes_off { IfErr result (GoesOffInHead bytes.now) }
 {
     match read_head(head_front(bytes)) {
         Ok(head) => Ok(head.payload_size()),

@@ -22,7 +22,8 @@ use Rattle.law_text.specs.Telling.{AreAllowed}
 use Rattle.line_runs.specs.Gain.{Text}
 use Rattle.line_runs.specs.Lines.{bytes_for_lines, cut_text, file_limit, is_over}
 use Rattle.ide_runs.specs.Works.{MayAsk}
-use Rattle.ide_runs.specs.Script.{Script, AtEnd, events_on, stops, with_line, unended_line, script_in, script_of}
+use Rattle.ide_runs.specs.Script.{Script, AtEnd, events_on, script_ended, with_line, unended_line, script_of_pieces}
+use Rattle.ide_runs.specs.Script.{script_of}
 
 pub line_allowed : (line : Text) (e : ScriptEvent) → line_meaning line ≡ Ok (Some e) → IsAllowedInScript e
 line_allowed line e is = spelled_are_allowed line e ((meaning_is_spelling line e).0 is)
@@ -39,21 +40,21 @@ with_line_small n k (Ok None) later allowed small = record { few = omega (arith,
 with_line_small n k (Ok (Some e)) later allowed small = record
     { few = omega (arith, small.few); each = (allowed e refl, small.each) }
 
-none_small : (k : ℕ) → IsSmall k (stops AtEnd)
+none_small : (k : ℕ) → IsSmall k (script_ended AtEnd)
 none_small k = record { few = omega arith; each = tt }
 
-script_small : (over : Bool) (n : ℕ) (parts : List Text) → IsSmall (length parts) (script_in over n parts)
+script_small : (over : Bool) (n : ℕ) (parts : List Text) → IsSmall (length parts) (script_of_pieces over n parts)
 script_small over n [] = none_small 0
 script_small over n (piece ∷ []) = last over (length piece == 0)
   where
     last : (o none : Bool) → IsSmall 1
-        (if o then unended_line n piece else if none then stops AtEnd else with_line n (line_meaning piece)
-        (stops AtEnd))
+        (if o then unended_line n piece else if none then script_ended AtEnd else with_line n (line_meaning piece)
+        (script_ended AtEnd))
     last true none = record { few = omega arith; each = tt }
     last false true = none_small 1
-    last false false = with_line_small n 0 (line_meaning piece) (stops AtEnd) (line_allowed piece) (none_small 0)
+    last false false = with_line_small n 0 (line_meaning piece) (script_ended AtEnd) (line_allowed piece) (none_small 0)
 script_small over n (piece ∷ next ∷ rest) = with_line_small n (length (next ∷ rest)) (line_meaning piece)
-    (script_in over (n + 1) (next ∷ rest)) (line_allowed piece) (script_small over (n + 1) (next ∷ rest))
+    (script_of_pieces over (n + 1) (next ∷ rest)) (line_allowed piece) (script_small over (n + 1) (next ∷ rest))
 
 cut_small : (limit : ℕ) (file : Text) → length (bytes_for_lines limit file) ≤ limit + 1
 cut_small limit file = by_test (slice_index_or file limit 10 == 10)

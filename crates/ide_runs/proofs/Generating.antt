@@ -6,7 +6,7 @@ use Rattle.script_events.specs.GeneratedTopology.{the_plan}
 use Rattle.spec_keys.specs.History.{History}
 use Rattle.link_events.specs.declared.event.Event.{Event}
 use Rattle.link_events.specs.Spells.{IsAllowed}
-use Rattle.law_text.specs.Runs.{history_on, history_with}
+use Rattle.law_text.specs.Runs.{history_on, history_with_event}
 use Rattle.ide_types.specs.declared.plan.Plan.{Plan}
 use Rattle.ide_why.specs.{WorldView, IsNewWorld}
 use Rattle.ide_runs.specs.Works.{Follows, RunningView, ScriptPast}
@@ -33,10 +33,10 @@ follows_first plan world r plan_is new is =
 -- one event more
 pub runs_next : (all : List Event) (r now : RunningView) (before left : List Event) (e : Event) → RunsOn all r before
     → before ≡ e ∷ left → ((past : ScriptPast) → Follows r past → Follows now
-    (record past { history = history_with past.plan past.history e }))
+    (record past { history = history_with_event past.plan past.history e }))
     → RunsOn all now left
 runs_next all r now before left e runs taken step = record {
-  history = history_with the_plan runs.history e;
+  history = history_with_event the_plan runs.history e;
   follows = step (past_of runs.history) runs.follows;
   goes_on = ap (history_on the_plan runs.history) (sym taken) ∙ runs.goes_on;
 }

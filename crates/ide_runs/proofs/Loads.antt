@@ -14,7 +14,7 @@ use Rattle.line_runs.specs.Front.{FrontIn, FrontOf, Gave, GaveAtMost, GaveOf, by
 use Rattle.line_runs.specs.Gathering.{GainedAt, WroteEnded, WroteEndedIn, WroteEndedOf, open_line}
 use Rattle.line_runs.specs.Outcome.{Due, EndsOn, Ran}
 use Rattle.line_runs.specs.declared.ends.Fault.TheVariants as fault
-use Rattle.line_runs.specs.declared.front.Stop.TheVariants as stop
+use Rattle.line_runs.specs.declared.front.Unread.TheVariants as unread
 use Rattle.line_runs.specs.declared.ends.End.{End}
 use Rattle.line_runs.specs.declared.ends.End.TheVariants.{Done, TooLong}
 use Rattle.line_runs.specs.declared.ends.Fault.{Fault}
@@ -120,11 +120,12 @@ pub cut_by_load : (told : Option Contents) (due : Contents → Option Due) (name
     (write quiet : Type 0) (h : Option Text) (e : Fault)
     → ((contents : Contents) → contents name ≡ None → due contents ≡ None) → LoadCut s0 s1 told name e
     → EndsOn told due (Rose s0 s1) write quiet (Gained h h) (Err e)
-cut_by_load told due name s0 s1 write quiet h fault.Read lacks c = stopped told due name s0 s1 write quiet h stop.Fault
+cut_by_load told due name s0 s1 write quiet h fault.Read lacks c = stopped told due name s0 s1 write quiet h
+    unread.Fault
     lacks c
 cut_by_load told due name s0 s1 write quiet h fault.Write lacks c = absurd c
 cut_by_load told due name s0 s1 write quiet h fault.Memory lacks c = stopped told due name s0 s1 write quiet h
-    stop.Memory lacks c
+    unread.Memory lacks c
 
 -- ---- what is due, two ways
 

@@ -12,8 +12,8 @@ use Rattle.line_runs.specs.declared.ends.End.{End}
 use Rattle.line_runs.specs.declared.ends.End.TheVariants as end
 use Rattle.line_runs.specs.declared.ends.Fault.{Fault}
 use Rattle.line_runs.specs.declared.ends.Fault.TheVariants as fault
-use Rattle.line_runs.specs.declared.front.Stop.{Stop}
-use Rattle.line_runs.specs.Front.{FrontOf, Gave, StopCause}
+use Rattle.line_runs.specs.declared.front.Unread.{Unread}
+use Rattle.line_runs.specs.Front.{FrontOf, Gave, UnreadCause}
 use Rattle.line_runs.specs.Gain.{Text, Gained}
 use Rattle.line_runs.proofs.WholeFiles.{fault_of, gained_nothing, ran_after, stopped}
 use Rattle.ide_runs.specs.declared.topologies.Loaded.TheVariants.{Sound, Long}
@@ -84,8 +84,8 @@ pub failed_migration : (told : Option Contents) (name : Text) (f : Fault) → Mi
 failed_migration None name f = tt
 failed_migration (Some contents) name f = λ bytes plan is sound. inr (refl, tt)
 
-pub stopped_migration : (name : Text) (s0 s1 : ShelfSeen) (o : SinkSeen) (e : Stop)
-    → StopCause s0.faults s1.faults s0.contents name e → MigratedFor name s0 s1 o o (Err (fault_of e))
+pub stopped_migration : (name : Text) (s0 s1 : ShelfSeen) (o : SinkSeen) (e : Unread)
+    → UnreadCause s0.faults s1.faults s0.contents name e → MigratedFor name s0 s1 o o (Err (fault_of e))
 stopped_migration name s0 s1 o e cause = record {
   migrated = [];
   migrates = failed_migration s0.contents name (fault_of e);

@@ -17,15 +17,15 @@ use Rattle.link_verdicts.specs.Shown.{verdict_by_ports}
 use Rattle.spec_keys.specs.History.{History}
 use Rattle.spec_links.specs.Due.{due}
 use Rattle.script_events.specs.{event_of}
-use Rattle.law_text.specs.Runs.{history_with, history_on, text_on, totals_of, sealed_count, accepted_in, failed_in}
-use Rattle.law_text.specs.Runs.{blocked_in}
+use Rattle.law_text.specs.Runs.{history_with_event, history_on, text_on, totals_of, sealed_count, accepted_in}
+use Rattle.law_text.specs.Runs.{failed_in, blocked_in}
 use Rattle.ide_why.specs.{WorldView, WorldStandsFor, IsNewWorld, IsStep}
 use Rattle.line_runs.specs.Gain.{Text}
 use Rattle.line_runs.specs.Outcome.{Due}
 use Rattle.line_runs.specs.Pieces.{pieces}
 use Rattle.line_runs.specs.Lines.{after, cut_text, file_due, go_on, is_over, process, unended_due}
-use Rattle.ide_runs.specs.Script.{Script, AtEnd, stops, with_line, unended_line, script_in, end_of_stop, last_line}
-use Rattle.ide_runs.specs.Script.{due_after, events_on, script_due}
+use Rattle.ide_runs.specs.Script.{Script, AtEnd, script_ended, with_line, unended_line, script_of_pieces, run_end}
+use Rattle.ide_runs.specs.Script.{last_line, due_after, events_on, script_due}
 use Rattle.line_runs.specs.Gathering.{GoesOn, ended_text}
 use Rattle.ide_runs.specs.Reads.{ScriptGoesOn}
 use Rattle.ide_runs.specs.SoFar.{script_so_far}
@@ -124,11 +124,11 @@ one_line plan n h (Err fault) later script rest = refl
 one_line plan n h (Ok None) later script rest = rest h
 one_line plan n h (Ok (Some e)) later script rest =
     let x = event_of plan e in
-    let g = history_with plan h x in
+    let g = history_with_event plan h x in
     let text = line_of (length h + 1) (verdict_by_ports plan.peers (due plan h x)) in
-    ap (after text) (rest g) ∙ ap (λ (t : Text). (end_of_stop script.stop, t))
+    ap (after text) (rest g) ∙ ap (λ (t : Text). (run_end script.ending, t))
     (sym (append_assoc text (text_on plan g (events_on plan script))
-    (last_line script.stop (history_on plan g (events_on plan script)))))
+    (last_line script.ending (history_on plan g (events_on plan script)))))
 
 unended_is : (plan : Plan) (n : ℕ) (piece : Text) (h : History) (b : Bool) → nat_lt 20000 (length piece) ≡ b
     → unended_due n piece ≡ due_after plan h (unended_line n piece)
@@ -137,21 +137,21 @@ unended_is plan n piece h false is = rw is refl
 
 last_piece : (plan : Plan) (over : Bool) (n : ℕ) (h : History) (piece : Text) (b : Bool) → (length piece == 0) ≡ b
     → process ran_line closing_due over n (past_of plan h) (piece ∷ [])
-    ≡ due_after plan h (script_in over n (piece ∷ []))
+    ≡ due_after plan h (script_of_pieces over n (piece ∷ []))
 unfolding past_of
 last_piece plan true n h piece b is = unended_is plan n piece h (nat_lt 20000 (length piece)) refl
 last_piece plan false n h piece true is = rw is refl
 last_piece plan false n h piece false is =
-    rw is (one_line plan n h (line_meaning piece) closing_due (stops AtEnd) (λ g. refl))
+    rw is (one_line plan n h (line_meaning piece) closing_due (script_ended AtEnd) (λ g. refl))
 
 script_runs : (plan : Plan) (over : Bool) (n : ℕ) (h : History) (pieces : List Text)
-    → process ran_line closing_due over n (past_of plan h) pieces ≡ due_after plan h (script_in over n pieces)
+    → process ran_line closing_due over n (past_of plan h) pieces ≡ due_after plan h (script_of_pieces over n pieces)
 unfolding past_of
 script_runs plan over n h [] = refl
 script_runs plan over n h (piece ∷ []) = last_piece plan over n h piece (length piece == 0) refl
 script_runs plan over n h (piece ∷ next ∷ rest) =
     one_line plan n h (line_meaning piece) (λ t. process ran_line closing_due over (n + 1) t (next ∷ rest))
-    (script_in over (n + 1) (next ∷ rest)) (λ g. script_runs plan over (n + 1) g (next ∷ rest))
+    (script_of_pieces over (n + 1) (next ∷ rest)) (λ g. script_runs plan over (n + 1) g (next ∷ rest))
 
 -- a script's file run on the world of a plan
 pub file_runs : (plan : Plan) (file : Text)

@@ -12,7 +12,7 @@ use Rattle.link_events.specs.declared.fault.LineFault.{LineFault}
 use Rattle.link_events.specs.Parse.{line_meaning}
 use Rattle.spec_keys.specs.History.{History}
 use Rattle.script_events.specs.{event_of}
-use Rattle.law_text.specs.Runs.{history_on, history_with}
+use Rattle.law_text.specs.Runs.{history_on, history_with_event}
 use Rattle.ide_why.specs.{IsNewWorld, WorldView}
 use Rattle.line_runs.specs.declared.ends.End.TheVariants as end
 use Rattle.line_runs.specs.Gain.{Text}
@@ -21,11 +21,10 @@ use Rattle.line_runs.specs.Lines.{after, cut_text, file_due, go_on, is_over, pro
 use Rattle.line_runs.specs.Outcome.{Due}
 use Rattle.line_runs.specs.Pieces.{pieces}
 use Rattle.ide_runs.specs.Reads.{ScriptGoesOn}
-use Rattle.ide_runs.specs.Script.{AtEnd, AtLimit, Refused, Script, Stop, end_of_stop, events_on, script_in, stops}
-use Rattle.ide_runs.specs.Script.{unended_line, with_line}
-use Rattle.ide_runs.specs.Why.{FollowsWhy, WhyPast, event_told, told_event_due, told_due}
-use Rattle.ide_runs.specs.Why.{no_event_line, left_line, told_last, numbered_event_text, told_so_far}
-use Rattle.ide_runs.specs.Why.{why_by_meaning, why_closing, why_line}
+use Rattle.ide_runs.specs.Script.{AtEnd, AtLimit, Refused, Script, ScriptEnd, run_end, events_on, script_of_pieces}
+use Rattle.ide_runs.specs.Script.{script_ended, unended_line, with_line}
+use Rattle.ide_runs.specs.Why.{FollowsWhy, WhyPast, event_told, told_event_due, told_due, no_event_line, left_line}
+use Rattle.ide_runs.specs.Why.{told_last, numbered_event_text, told_so_far, why_by_meaning, why_closing, why_line}
 use Rattle.ide_runs.proofs.Scripts.{follows_nothing}
 
 -- ---- what is kept follows the past
@@ -52,7 +51,7 @@ none_behind n plan h (e ∷ events) le =
     rw (before, behind) refl
 
 -- then the end is the same, however many there are
-same_last : (n : ℕ) (stop : Stop) (a b : ℕ) → n ≤ a → n ≤ b → told_last n stop a ≡ told_last n stop b
+same_last : (n : ℕ) (stop : ScriptEnd) (a b : ℕ) → n ≤ a → n ≤ b → told_last n stop a ≡ told_last n stop b
 same_last n AtEnd a b first second =
     let one : nat_lt a n ≡ false = le-ltb a n first in
     let two : nat_lt b n ≡ false = le-ltb b n second in
@@ -69,23 +68,23 @@ one_event : (n m : ℕ) (plan : Plan) (h : History) (e : ScriptEvent) (later : W
 unfolding past_of
 one_event n m plan h e later script rest true behind is other =
     let x = event_of plan e in
-    let g = history_with plan h x in
+    let g = history_with_event plan h x in
     let count : length g + length script.events ≡ length h + length (e ∷ script.events) = omega arith in
     rw (is, rest g) (ap (λ (k : ℕ). after (numbered_event_text n plan g (events_on plan script))
-    (told_last n script.stop k)) count)
+    (told_last n script.ending k)) count)
 one_event n m plan h e later script rest false true is other =
     let le : n ≤ length h = grind (arith, nat_tests) in
     let none = none_behind n plan h (events_on plan script) le in
-    let last = same_last n script.stop (length h + length script.events) (length h + length (e ∷ script.events))
+    let last = same_last n script.ending (length h + length script.events) (length h + length (e ∷ script.events))
     (omega (arith, le)) (omega (arith, le)) in
     rw (is, other, rest h, none) last
 one_event n m plan h e later script rest false false is other =
     let x = event_of plan e in
-    let g = history_with plan h x in
+    let g = history_with_event plan h x in
     let le : n ≤ length h + 1 = grind (arith, nat_tests) in
     let there : n ≤ length g = omega (arith, le) in
     let none = none_behind n plan g (events_on plan script) there in
-    let last = same_last n script.stop (length g + length script.events) (length h + length (e ∷ script.events))
+    let last = same_last n script.ending (length g + length script.events) (length h + length (e ∷ script.events))
     (omega (arith, le)) (omega (arith, le)) in
     rw (is, other, rest g, none) (ap (after (event_told plan h x)) last)
 
@@ -105,7 +104,8 @@ unended_is : (n m : ℕ) (plan : Plan) (piece : Text) (h : History) (b : Bool) �
 unended_is n m plan piece h true is = rw is refl
 unended_is n m plan piece h false is = rw is refl
 
-at_end : (n : ℕ) (plan : Plan) (h : History) → why_closing (past_of n plan h) ≡ told_event_due n plan h (stops AtEnd)
+at_end : (n : ℕ) (plan : Plan) (h : History) → why_closing (past_of n plan h)
+    ≡ told_event_due n plan h (script_ended AtEnd)
 unfolding past_of
 at_end n plan h =
     let count : length h ≡ length h + 0 = omega arith in
@@ -113,21 +113,22 @@ at_end n plan h =
 
 last_piece : (n : ℕ) (plan : Plan) (over : Bool) (m : ℕ) (h : History) (piece : Text) (b : Bool)
     → (length piece == 0) ≡ b → process why_line why_closing over m (past_of n plan h) (piece ∷ [])
-    ≡ told_event_due n plan h (script_in over m (piece ∷ []))
+    ≡ told_event_due n plan h (script_of_pieces over m (piece ∷ []))
 unfolding past_of
 last_piece n plan true m h piece b is = unended_is n m plan piece h (nat_lt 20000 (length piece)) refl
 last_piece n plan false m h piece true is = rw is (at_end n plan h)
 last_piece n plan false m h piece false is =
-    rw is (one_line n m plan h (line_meaning piece) why_closing (stops AtEnd) (λ g. at_end n plan g))
+    rw is (one_line n m plan h (line_meaning piece) why_closing (script_ended AtEnd) (λ g. at_end n plan g))
 
 lines_told : (n : ℕ) (plan : Plan) (over : Bool) (m : ℕ) (h : History) (pieces : List Text)
-    → process why_line why_closing over m (past_of n plan h) pieces ≡ told_event_due n plan h (script_in over m pieces)
+    → process why_line why_closing over m (past_of n plan h) pieces
+    ≡ told_event_due n plan h (script_of_pieces over m pieces)
 unfolding past_of
 lines_told n plan over m h [] = at_end n plan h
 lines_told n plan over m h (piece ∷ []) = last_piece n plan over m h piece (length piece == 0) refl
 lines_told n plan over m h (piece ∷ next ∷ rest) =
     one_line n m plan h (line_meaning piece) (λ t. process why_line why_closing over (m + 1) t (next ∷ rest))
-    (script_in over (m + 1) (next ∷ rest)) (λ g. lines_told n plan over (m + 1) g (next ∷ rest))
+    (script_of_pieces over (m + 1) (next ∷ rest)) (λ g. lines_told n plan over (m + 1) g (next ∷ rest))
 
 -- a script's file on the world of a plan
 pub file_told : (n : ℕ) (plan : Plan) (file : Text)
@@ -150,8 +151,8 @@ by_event : (b : Bool) (line : Text) → (none_or_done b line).0 ≡ end.TooLong 
 by_event true line is = absurd cc
 by_event false line is = absurd cc
 
-ends_as_script : (n : ℕ) (stop : Stop) (events : ℕ) → (told_last n stop events).0 ≡ end.TooLong
-    → end_of_stop stop ≡ end.TooLong
+ends_as_script : (n : ℕ) (stop : ScriptEnd) (events : ℕ) → (told_last n stop events).0 ≡ end.TooLong
+    → run_end stop ≡ end.TooLong
 ends_as_script n AtEnd events is = absurd (by_event (nat_lt events n) (no_event_line n events) is)
 ends_as_script n (Refused line fault) events is = is
 ends_as_script n AtLimit events is = is
@@ -162,8 +163,8 @@ pub told_goes_on : (n : ℕ) (plan : Plan) (bytes : Text)
     → ScriptGoesOn plan bytes
 unfolding past_of
 told_goes_on n plan bytes goes_on =
-    let script = script_in true 1 (pieces bytes) in
-    ends_as_script n script.stop (0 + length script.events)
+    let script = script_of_pieces true 1 (pieces bytes) in
+    ends_as_script n script.ending (0 + length script.events)
     (sym (ap (λ (d : Due). d.0) (lines_told n plan true 1 [] (pieces bytes))) ∙ goes_on)
 
 -- ---- the event that is told
@@ -177,7 +178,7 @@ told_at n plan h [] later e is =
     rw (before, behind) refl
 told_at n plan h (x ∷ before) later e is =
     let less : nat_lt (length h + 1) n ≡ true = lt-ltb (length h + 1) n (omega (arith, is)) in
-    rw less (told_at n plan (history_with plan h x) before later e (omega (arith, is)))
+    rw less (told_at n plan (history_with_event plan h x) before later e (omega (arith, is)))
 
 -- of fewer events it is none
 told_nowhere : (n : ℕ) (plan : Plan) (h : History) (events : List Event) → length h + length events < n
@@ -185,10 +186,10 @@ told_nowhere : (n : ℕ) (plan : Plan) (h : History) (events : List Event) → l
 told_nowhere n plan h [] few = refl
 told_nowhere n plan h (e ∷ events) few =
     let less : nat_lt (length h + 1) n ≡ true = lt-ltb (length h + 1) n (omega (arith, few)) in
-    rw less (told_nowhere n plan (history_with plan h e) events (omega (arith, few)))
+    rw less (told_nowhere n plan (history_with_event plan h e) events (omega (arith, few)))
 
-last_there : (n : ℕ) (stop : Stop) (events : ℕ) → n ≤ events
-    → told_last n stop events ≡ (end_of_stop stop, left_line stop)
+last_there : (n : ℕ) (stop : ScriptEnd) (events : ℕ) → n ≤ events
+    → told_last n stop events ≡ (run_end stop, left_line stop)
 last_there n AtEnd events le = let test : nat_lt events n ≡ false = le-ltb events n le in rw test refl
 last_there n (Refused line fault) events le = refl
 last_there n AtLimit events le = refl
@@ -199,7 +200,7 @@ so_many plan script = length-map script.events (event_of plan)
 -- the end and the text of a script that has the event
 pub told_event : (n : ℕ) (plan : Plan) (script : Script) (h : History) (e : Event) (before later : List Event)
     → before ++ e ∷ later ≡ events_on plan script → n ≡ length before + 1 → h ≡ history_on plan [] before
-    → told_event_due n plan [] script ≡ (end_of_stop script.stop, event_told plan h e ++ left_line script.stop)
+    → told_event_due n plan [] script ≡ (run_end script.ending, event_told plan h e ++ left_line script.ending)
 told_event n plan script h e before later events_are number_is history_is =
     let many : n ≤ 0 + length script.events = omega
     (arith, number_is, so_many plan script, ap length events_are, length-append before (e ∷ later)) in
@@ -208,11 +209,11 @@ told_event n plan script h e before later events_are number_is history_is =
     ∙ told_at n plan [] before later e (omega (arith, number_is))
     ∙ ap (λ (g : History). event_told plan g e) (sym history_is) in
     ap (after (numbered_event_text n plan [] (events_on plan script)))
-    (last_there n script.stop (0 + length script.events) many)
-    ∙ ap (λ (t : Text). (end_of_stop script.stop, t ++ left_line script.stop)) text
+    (last_there n script.ending (0 + length script.events) many)
+    ∙ ap (λ (t : Text). (run_end script.ending, t ++ left_line script.ending)) text
 
 -- and of one that was read to its end and has not
-pub told_none : (n : ℕ) (plan : Plan) (script : Script) → length (events_on plan script) < n → script.stop ≡ AtEnd
+pub told_none : (n : ℕ) (plan : Plan) (script : Script) → length (events_on plan script) < n → script.ending ≡ AtEnd
     → told_event_due n plan [] script ≡ (end.NoEvent, no_event_line n (length (events_on plan script)))
 told_none n plan script few stop =
     let none = told_nowhere n plan [] (events_on plan script) (omega (arith, few)) in

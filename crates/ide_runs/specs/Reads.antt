@@ -10,7 +10,7 @@ use Rattle.line_runs.specs.Lines.{file_limit}
 use Rattle.ide_runs.specs.declared.topologies.Loaded.{Loaded}
 use Rattle.ide_runs.specs.declared.topologies.Loaded.TheVariants.{Sound, Faulty, Long}
 use Rattle.ide_runs.specs.Loading.{topology_limit}
-use Rattle.ide_runs.specs.Script.{due_after, script_in}
+use Rattle.ide_runs.specs.Script.{due_after, script_of_pieces}
 use Rattle.ide_runs.specs.Topologies.{loaded_topology}
 
 -- a run was given one byte more of the topology than count, or all of it and one byte more of the script than count
@@ -22,7 +22,7 @@ RanPast before now = Gave before (topology_limit + 1) now
 
 -- no line ends the run in these bytes of a script that goes on after them
 abbrev pub ScriptGoesOn : Plan → Text → Type 0
-ScriptGoesOn plan bytes = (due_after plan [] (script_in true 1 (pieces bytes))).0 ≡ end.TooLong
+ScriptGoesOn plan bytes = (due_after plan [] (script_of_pieces true 1 (pieces bytes))).0 ≡ end.TooLong
 
 -- bytes after a sound topology are those of the script; of any other topology no more bytes are given than it has
 abbrev pub LoadedNoFurther : Loaded → (topology script : Text) → (given ahead : ℕ) → Type 0

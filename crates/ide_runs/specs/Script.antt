@@ -23,53 +23,54 @@ use Rattle.ide_runs.specs.declared.topologies.Loaded.TheVariants.{Sound, Faulty,
 use Rattle.ide_runs.specs.Topologies.{loaded_topology, plan_refusal}
 
 -- at the end of the file, at a line of this number that is not spelled, or at the limit
-pub data Stop : Type 0 where
-  AtEnd : Stop
-  Refused : ℕ → LineFault → Stop
-  AtLimit : Stop
+pub data ScriptEnd : Type 0 where
+  AtEnd : ScriptEnd
+  Refused : ℕ → LineFault → ScriptEnd
+  AtLimit : ScriptEnd
 
 pub record Script : Type 0 where
   pub events : List ScriptEvent
-  pub stop : Stop
+  pub ending : ScriptEnd
 
-abbrev pub stops : Stop → Script
-stops stop = record { events = []; stop = stop }
+abbrev pub script_ended : ScriptEnd → Script
+script_ended ending = record { events = []; ending = ending }
 
 -- a line of this number, before the others: no event, one, or the first that is not spelled
 abbrev pub with_line : ℕ → Result (Option ScriptEvent) LineFault → Script → Script
-with_line n (Err fault) later = stops (Refused n fault)
+with_line n (Err fault) later = script_ended (Refused n fault)
 with_line n (Ok None) later = later
 with_line n (Ok (Some event)) later = record later { events = event ∷ later.events }
 
 -- a line that does not end before the limit counts only if it is too long already
 abbrev pub unended_line : ℕ → Text → Script
-unended_line n piece = stops (if nat_lt line_limit (length piece) then Refused n line.TooLong else AtLimit)
+unended_line n piece = script_ended (if nat_lt line_limit (length piece) then Refused n line.TooLong else AtLimit)
 
 -- what stands between line feeds, numbered from n; the last piece is a line if it has bytes
-abbrev pub script_in : Bool → ℕ → List Text → Script
-script_in over n [] = stops AtEnd
-script_in over n (piece ∷ []) =
+abbrev pub script_of_pieces : Bool → ℕ → List Text → Script
+script_of_pieces over n [] = script_ended AtEnd
+script_of_pieces over n (piece ∷ []) =
     if over then unended_line n piece
-    else if length piece == 0 then stops AtEnd
-    else with_line n (line_meaning piece) (stops AtEnd)
-script_in over n (piece ∷ next ∷ rest) = with_line n (line_meaning piece) (script_in over (n + 1) (next ∷ rest))
+    else if length piece == 0 then script_ended AtEnd
+    else with_line n (line_meaning piece) (script_ended AtEnd)
+script_of_pieces over n (piece ∷ next ∷ rest) = with_line n (line_meaning piece)
+    (script_of_pieces over (n + 1) (next ∷ rest))
 
 -- the script of a file
 abbrev pub script_of : Text → Script
-script_of file = script_in (is_over file) 1 (pieces (cut_text file))
+script_of file = script_of_pieces (is_over file) 1 (pieces (cut_text file))
 
 -- the events of a history that its events are, in a topology: of lines and ends in place of links, of hops and of
 -- streams between devices
 abbrev pub events_on : Plan → Script → List Event
 events_on plan script = map (event_of plan) script.events
 
-abbrev pub end_of_stop : Stop → End
-end_of_stop AtEnd = end.Done
-end_of_stop (Refused n fault) = end.Script
-end_of_stop AtLimit = end.TooLong
+abbrev pub run_end : ScriptEnd → End
+run_end AtEnd = end.Done
+run_end (Refused n fault) = end.Script
+run_end AtLimit = end.TooLong
 
 -- the last line: the totals of the history, or the line that was refused
-abbrev pub last_line : Stop → History → Text
+abbrev pub last_line : ScriptEnd → History → Text
 last_line AtEnd h = totals_line_of (totals_of h)
 last_line (Refused n fault) h = fault_line_of n fault
 last_line AtLimit h = []
@@ -78,8 +79,8 @@ last_line AtLimit h = []
 -- and the last line
 abbrev pub due_after : Plan → History → Script → Due
 due_after plan h script = (
-  end_of_stop script.stop,
-  text_on plan h (events_on plan script) ++ last_line script.stop
+  run_end script.ending,
+  text_on plan h (events_on plan script) ++ last_line script.ending
       (history_on plan h (events_on plan script)),
 )
 

@@ -10,13 +10,13 @@ use Rattle.line_runs.specs.Gain.{Text}
 use Rattle.line_runs.specs.Gathering.{GainedAt, open_line, waiting_at}
 use Rattle.ide_runs.specs.declared.topologies.Loaded.{Loaded}
 use Rattle.ide_runs.specs.declared.topologies.Loaded.TheVariants.{Sound, Faulty, Long}
-use Rattle.ide_runs.specs.Script.{due_after, script_in}
+use Rattle.ide_runs.specs.Script.{due_after, script_of_pieces}
 use Rattle.ide_runs.specs.Topologies.{loaded_topology}
 
 -- The text that is due of some bytes of a script that goes on after them: the verdict lines of the lines that ended in
 -- them.
 abbrev pub script_so_far : Plan → Text → Text
-script_so_far plan bytes = (due_after plan [] (script_in true 1 (pieces bytes))).1
+script_so_far plan bytes = (due_after plan [] (script_of_pieces true 1 (pieces bytes))).1
 
 -- by what is due of them on a plan
 abbrev pub loaded_so_far : (Plan → Text → Text) → Loaded → Text → Text

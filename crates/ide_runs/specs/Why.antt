@@ -13,7 +13,7 @@ use Rattle.link_verdicts.specs.Shown.{verdict_by_ports}
 use Rattle.spec_keys.specs.History.{History}
 use Rattle.spec_links.specs.Due.{due}
 use Rattle.script_events.specs.{event_of}
-use Rattle.law_text.specs.Runs.{history_with}
+use Rattle.law_text.specs.Runs.{history_with_event}
 use Rattle.ide_why.specs.{facts_due}
 use Rattle.why_facts.specs.{why_text_of}
 use Rattle.line_runs.specs.declared.ends.End.TheVariants as end
@@ -21,7 +21,8 @@ use Rattle.line_runs.specs.Gain.{Text}
 use Rattle.line_runs.specs.Lines.{after}
 use Rattle.line_runs.specs.Outcome.{Due}
 use Rattle.line_runs.specs.Pieces.{pieces}
-use Rattle.ide_runs.specs.Script.{AtEnd, AtLimit, Refused, Script, Stop, due_of_files, events_on, script_in, script_of}
+use Rattle.ide_runs.specs.Script.{AtEnd, AtLimit, Refused, Script, ScriptEnd, due_of_files, events_on, script_of_pieces}
+use Rattle.ide_runs.specs.Script.{script_of}
 use Rattle.ide_runs.specs.Works.{Follows, RunningView, ScriptPast, past_with}
 
 -- the line of the verdict that is due to an event after a history, and what that came from
@@ -34,7 +35,7 @@ event_told plan h e =
 abbrev pub numbered_event_text : ℕ → Plan → History → List Event → Text
 numbered_event_text n plan h [] = []
 numbered_event_text n plan h (e ∷ events) =
-    if nat_lt (length h + 1) n then numbered_event_text n plan (history_with plan h e) events
+    if nat_lt (length h + 1) n then numbered_event_text n plan (history_with_event plan h e) events
     else if nat_lt n (length h + 1) then [] else event_told plan h e
 
 -- a script of so many events has none of this number
@@ -43,13 +44,13 @@ no_event_line n events =
     codes "no event " ++ (decimal n ++ (codes ": the script has " ++ (decimal events ++ codes "\n")))
 
 -- the end, and what is written last
-abbrev pub told_last : ℕ → Stop → (events : ℕ) → Due
+abbrev pub told_last : ℕ → ScriptEnd → (events : ℕ) → Due
 told_last n AtEnd events = if nat_lt events n then (end.NoEvent, no_event_line n events) else (end.Done, [])
 told_last n (Refused line fault) events = (end.Script, fault_line_of line fault)
 told_last n AtLimit events = (end.TooLong, [])
 
 -- what is written after the text of an event: the line that is refused, if one is
-abbrev pub left_line : Stop → Text
+abbrev pub left_line : ScriptEnd → Text
 left_line AtEnd = []
 left_line (Refused line fault) = fault_line_of line fault
 left_line AtLimit = []
@@ -57,7 +58,7 @@ left_line AtLimit = []
 -- after a history, the end and the text of a script of which the event of this number is told
 abbrev pub told_event_due : ℕ → Plan → History → Script → Due
 told_event_due n plan h script = after (numbered_event_text n plan h (events_on plan script))
-    (told_last n script.stop (length h + length script.events))
+    (told_last n script.ending (length h + length script.events))
 
 -- the end and the text of a script's file
 abbrev pub told_due : ℕ → Plan → Text → Due
@@ -69,7 +70,7 @@ why_due n topology script = due_of_files (told_due n) topology script
 
 -- the text that is due of some bytes of a script that goes on after them
 abbrev pub told_so_far : ℕ → Plan → Text → Text
-told_so_far n plan bytes = (told_event_due n plan [] (script_in true 1 (pieces bytes))).1
+told_so_far n plan bytes = (told_event_due n plan [] (script_of_pieces true 1 (pieces bytes))).1
 
 -- ---- line by line
 

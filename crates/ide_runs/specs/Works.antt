@@ -13,7 +13,7 @@ use Rattle.link_verdicts.specs.Shown.{verdict_by_ports}
 use Rattle.spec_keys.specs.History.{History}
 use Rattle.spec_links.specs.Due.{due}
 use Rattle.script_events.specs.{event_of}
-use Rattle.law_text.specs.Runs.{history_with, totals_of, sealed_count, accepted_in, failed_in, blocked_in}
+use Rattle.law_text.specs.Runs.{history_with_event, totals_of, sealed_count, accepted_in, failed_in, blocked_in}
 use Rattle.ide_why.specs.{WorldView, WorldStandsFor}
 use Rattle.line_runs.specs.declared.ends.End.TheVariants as end
 use Rattle.line_runs.specs.Gain.{Text}
@@ -47,7 +47,7 @@ pub record Follows (r : RunningView) (past : ScriptPast) : Type 0 where
 
 -- the past with one more event
 abbrev pub past_with : ScriptPast → Event → ScriptPast
-past_with past e = record past { history = history_with past.plan past.history e }
+past_with past e = record past { history = history_with_event past.plan past.history e }
 
 -- the past with an event, and the line of its verdict as it is shown
 abbrev pub ran_event : ScriptPast → Event → ScriptPast × Text

@@ -9,12 +9,11 @@ ghost use Rattle.ide_runs.specs.Loading.{GaveAllOf, LoadCause, Loads, topology_l
 ghost use Rattle.ide_runs.specs.Migrating.{MigratedFor, WritesMigrated};
 ghost use Rattle.ide_runs.specs.SoFar.{WroteBy};
 ghost use Rattle.ide_runs.specs.Topologies.{check_due, loaded_topology, plan_refusal as refusal_of};
-ghost use Rattle.ide_runs.specs.Topologies.{report as report_of};
-ghost use Rattle.ide_runs.specs.Topologies.{HasFitting};
+ghost use Rattle.ide_runs.specs.Topologies.{report as report_of, HasFitting};
 
 use cli_files::{Shelf, Sink};
 use ide_types::{OutOfMemory, Plan};
-use line_runs::{End, Fault, Stop, finish, read_front};
+use line_runs::{End, Fault, Unread, finish, read_front};
 use std::alloc::Global;
 use topology::{PlanError, PlanFault};
 
@@ -69,8 +68,8 @@ pub(crate) fn load<S: Shelf>(alloc: Global, shelf: &mut S, name: &str) -> Result
         (S.seen shelf.new).given) }
 {
     match read_front(alloc, shelf, name, TOPOLOGY_LIMIT + 1) {
-        Err(Stop::Fault) => Err(Fault::Read),
-        Err(Stop::Memory) => Err(Fault::Memory),
+        Err(Unread::Fault) => Err(Fault::Read),
+        Err(Unread::Memory) => Err(Fault::Memory),
         Ok(front) => load_bytes(alloc, &front),
     }
 }
@@ -187,8 +186,8 @@ pub fn migrate_topology<S: Shelf, O: Sink>(
         ≤ (S.seen shelf.old).given + topology_limit) }
 {
     match read_front(alloc, shelf, topology, TOPOLOGY_LIMIT + 1) {
-        Err(Stop::Fault) => Err(Fault::Read),
-        Err(Stop::Memory) => Err(Fault::Memory),
+        Err(Unread::Fault) => Err(Fault::Read),
+        Err(Unread::Memory) => Err(Fault::Memory),
         Ok(front) => write_migrated(alloc, &front, out),
     }
 }

@@ -24,12 +24,12 @@ pub record Going : Type 0 where
   pub lines : ℕ
   pub text : Text
 
-abbrev pub going_with : Text → Option Live → Option Going
-going_with text None = None
-going_with text (Some live) = Some (record { running = live.work; lines = live.lines; text = text })
+abbrev pub going_if_live : Text → Option Live → Option Going
+going_if_live text None = None
+going_if_live text (Some live) = Some (record { running = live.work; lines = live.lines; text = text })
 
 abbrev pub going_of : Session → Option Going
-going_of s = going_with s.text s.slot
+going_of s = going_if_live s.text s.slot
 
 -- of what a handle keeps: a session that goes on, or none
 abbrev pub kept_session : Option Session → Option Going

@@ -93,8 +93,8 @@ peer_end_at peers port id = by_side port.side
 
 -- The end, at this port, of the line that has the stream: of the link itself, of its hop, or of a stream between
 -- devices; if none has it the port itself. At a switch nothing is looked up.
-abbrev pub end_on : Plan → PortName → ℕ → PortName
-end_on plan port id =
+abbrev pub end_at_port : Plan → PortName → ℕ → PortName
+end_at_port plan port id =
     if nat_lt port.line 8 then
     if own_has_id (slice_get plan.links port.line) id then port
     else if hop_has_id (link_hop (slice_get plan.links port.line)) id then hop_end port.side port.line
@@ -103,7 +103,7 @@ end_on plan port id =
 
 -- the same at the port of an end
 abbrev pub end_at : Plan → PortName → ℕ → PortName
-end_at plan e id = end_on plan (port_beside_end plan.peers e) id
+end_at plan e id = end_at_port plan (port_beside_end plan.peers e) id
 
 -- ---- what the reset of a link clears
 

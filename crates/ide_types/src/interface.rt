@@ -9,7 +9,7 @@ pub struct InterfacePlan {
     pub requester: u16,
     /// The ID of the selective stream of its link that it is bound to by a lock request.
     pub stream: u8,
-    /// The flags of its lock requests, bits 0, 1, 2 and 4.
+    /// The flags of its lock requests, bits 0 to 4.
     pub flags: u16,
     /// The MMIO reporting offset of its lock requests in bytes, a multiple of 4,096.
     pub offset: u64,

@@ -7,7 +7,7 @@ use Rattle.ide_types.specs.declared.port.PortName.{PortName}
 use Rattle.ide_types.specs.declared.sub.SubKind.{SubKind}
 use Rattle.ide_types.specs.declared.plan.Plan.{Plan}
 use Rattle.ide_port.specs.{PortEnd, Found, found_stream, held_in_port}
-use Rattle.ide_port.specs.Facts.{held_by, held_of}
+use Rattle.ide_port.specs.Facts.{held_by, held_of_found}
 use Rattle.ide_prefix.specs.Packet.{Packet}
 use Rattle.machine_operations.specs.{StreamState}
 use Rattle.sub_stream.specs.Gathered.{lent_parts, mark_of}
@@ -17,7 +17,7 @@ use Rattle.world.proofs.{end_found, none_found}
 use Rattle.ide_why.specs.Reading.{held_read}
 
 held_found : (u : SubKind) (k : Bool) (o : Option Found)
-    → option_map_or (held_of u k) o [] ≡ option_map_or (held_by u k) (option_map (λ (f : Found). f.state) o) []
+    → option_map_or (held_of_found u k) o [] ≡ option_map_or (held_by u k) (option_map (λ (f : Found). f.state) o) []
 held_found u k None = refl
 held_found u k (Some f) = refl
 

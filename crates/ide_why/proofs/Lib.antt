@@ -2,7 +2,7 @@ mod SeenStreams
 mod Brought
 mod Packets
 mod SeenOperations
-mod SeenStandings
+mod SeenStatuses
 mod Held
 mod SeenFaces
 mod SeenInterfaces

@@ -31,8 +31,8 @@ use Rattle.machine_whole.specs.Accesses.{face_statuses}
 use Rattle.why_facts.specs.declared.fact.Fact.{Fact}
 use Rattle.why_facts.specs.Due.{sets_own_t}
 use Rattle.why_facts.specs.Forms.{Readings, arrives_fact, at_port, sends_fact, state_fact, unit_facts}
-use Rattle.why_facts.specs.Kept.{arrival_facts_in, asks_in, asks_live, known_of, owner_found, owner_in, packet_facts}
-use Rattle.why_facts.specs.Kept.{readings_in, received_by, send_facts_in, sent_stream_facts}
+use Rattle.why_facts.specs.Kept.{arrival_facts_in, asks_by_state, asks_live, known_facts, owner_found, owner_in}
+use Rattle.why_facts.specs.Kept.{packet_facts, readings_of_whole, received_by, send_facts_in, sent_stream_facts}
 use Rattle.world.specs.{WorldStandsFor, WholeLinks, world_of}
 use Rattle.spec_keys.specs.History.{History}
 use Rattle.ide_why.specs.Facts.{arrival_facts, asks_if, asks_read_facts, known_read, met_facts, owner_facts}
@@ -53,7 +53,7 @@ set_is closed x Cpl false = refl
 -- `known` says of each interface what is known of it, and `stand` how those of a link's device stand
 module _ (plan : Plan) (s : WholeLinks) (h : History) (stood : WorldStandsFor (world_of plan s) h)
     (known : (link requester : ℕ)
-    → known_read (requester_read s link requester) ≡ known_of (with_requester plan stood.whole.faces link requester))
+    → known_read (requester_read s link requester) ≡ known_facts (with_requester plan stood.whole.faces link requester))
     (stand : (link : ℕ) → statuses_read s link
     ≡ face_statuses link (sites plan) stood.whole.faces.list stood.whole.accesses.floors)
   where
@@ -61,21 +61,21 @@ module _ (plan : Plan) (s : WholeLinks) (h : History) (stood : WorldStandsFor (w
     state_is = sym stood.is.links
 
     owner_by : (link : ℕ) (o : Option ℕ) (head : HeadView) → owner_id head ≡ o
-        → known_read (owner_face s link head) ≡ known_of (owner_found plan stood.whole.faces link head)
+        → known_read (owner_face s link head) ≡ known_facts (owner_found plan stood.whole.faces link head)
     owner_by link None head of = rw of refl
     owner_by link (Some requester) head of = rw of (known link requester)
 
     owner_is : (link : ℕ) (head : HeadView)
-        → known_read (owner_face s link head) ≡ known_of (owner_found plan stood.whole.faces link head)
+        → known_read (owner_face s link head) ≡ known_facts (owner_found plan stood.whole.faces link head)
     owner_is link head = owner_by link (owner_id head) head refl
 
     -- ---- requests
 
-    readings_are : readings_read s ≡ readings_in plan stood.whole
+    readings_are : readings_read s ≡ readings_of_whole plan stood.whole
     readings_are = λ i. record {
       known = λ link requester. known link requester i;
       waiting = λ link. length (stood.is.accesses.reads link i);
-      standings = λ link. stand link i;
+      statuses = λ link. stand link i;
     }
 
     asks_slot : (port : PortName) (p : Packet) (sl : LaneSlot)
@@ -89,7 +89,7 @@ module _ (plan : Plan) (s : WholeLinks) (h : History) (stood : WorldStandsFor (w
 
     asks_are : (closed : Bool) (port : PortName) (x : StreamState) (p : Packet)
         → asks_read_facts plan s port (stream_facts closed x) (held_by p.prefix.sub p.prefix.k x) p
-        ≡ asks_in plan stood.whole port x p
+        ≡ asks_by_state plan stood.whole port x p
     asks_are closed port x p =
         ap (λ (fs : List Fact). if x.failed then [] else fs)
         (ap (λ (sl : SlotFacts). asks_if plan s port (held_by p.prefix.sub p.prefix.k x) p (is_live_seen sl))

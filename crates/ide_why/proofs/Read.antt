@@ -27,7 +27,7 @@ use Rattle.ide_why.specs.Facts.{sealed_facts, state_of_whole}
 use Rattle.ide_why.proofs.SeenFaces.{known, shown_is}
 use Rattle.ide_why.proofs.SeenInterfaces.{answer_is, asked_is, forward_is}
 use Rattle.ide_why.proofs.SeenOperations.{exchanges_are, opens_are}
-use Rattle.ide_why.proofs.SeenStandings.{stand}
+use Rattle.ide_why.proofs.SeenStatuses.{stand}
 use Rattle.ide_why.proofs.Packets.{arrival_is, sending_is, state_is}
 
 module _ (plan : Plan) (s : WholeLinks) (links : AreLinks plan s.links.ends s.links.keeper.keys)

@@ -19,7 +19,7 @@ use Rattle.ide_types.specs.declared.view.View.{View}
 use Rattle.why_facts.specs.declared.fact.InterfaceFact.TheVariants as face
 use Rattle.why_facts.specs.declared.fact.Fact.TheVariants as fact
 use Rattle.why_facts.specs.Forms.{bound_facts, face_facts, interface_fact, reported_facts, shown_facts}
-use Rattle.why_facts.specs.Kept.{known_of, shown_in}
+use Rattle.why_facts.specs.Kept.{known_facts, shown_in}
 use Rattle.world.specs.{AreLinks, WorldStandsFor, WholeLinks, interface_of_ends, world_of, IsPlaced}
 use Rattle.spec_keys.specs.History.{History}
 use Rattle.world.proofs.{tdi_there, requester_found, requester_nowhere, requester_true, IsSomeSite, get_there}
@@ -43,7 +43,7 @@ face_is draw tdis y f is =
     ∷ fact.Interface (face.Needs (is.needs i)) ∷ bound_facts (is.bound i))
 
 pub known_is : (draw : ℕ → ℕ → ℕ) (tdis : ℕ → Option Tdi) (o : Option (Site × Face)) (f : Option FaceSeen)
-    → AreFacesSeen draw tdis o f → known_read f ≡ known_of o
+    → AreFacesSeen draw tdis o f → known_read f ≡ known_facts o
 known_is draw tdis None None is = refl
 known_is draw tdis None (Some f) is = absurd is
 known_is draw tdis (Some y) None is = absurd is
@@ -271,6 +271,7 @@ module _ (plan : Plan) (s : WholeLinks) (links : AreLinks plan s.links.ends s.li
           (sym (ap (option_and_then (face_read s)) (reader_unknown link requester fails))) tt)
 
   pub known : (link requester : ℕ)
-      → known_read (requester_read s link requester) ≡ known_of (with_requester plan stood.whole.faces link requester)
+      → known_read (requester_read s link requester) ≡ known_facts
+      (with_requester plan stood.whole.faces link requester)
   known link requester = known_is stood.whole.draw (tdi_read s) (with_requester plan stood.whole.faces link requester)
       (requester_read s link requester) (requester_read_is link requester)

@@ -42,7 +42,7 @@ use Rattle.ide_why.specs.Facts.{first_read, forward_read, oldest_read, reader_re
 use Rattle.ide_why.specs.Faces.{AreFacesSeen, IsFaceSeen}
 use Rattle.ide_why.specs.Reading.{bindings_read, face_read, requester_read, stream_read, tdi_read}
 use Rattle.ide_why.proofs.SeenFaces.{face_is, face_read_is, known, requester_read_is}
-use Rattle.ide_why.proofs.SeenStandings.{stand}
+use Rattle.ide_why.proofs.SeenStatuses.{stand}
 use Rattle.ide_why.proofs.Packets.{sending_is, state_is}
 use Rattle.ide_why.proofs.SeenStreams.{sender_is}
 

@@ -16,7 +16,7 @@ use Rattle.spec_keys.specs.Operations.{StreamStage, Idle, Establishing, Up, Refr
 use Rattle.spec_keys.specs.Keys.{refusal_if}
 use Rattle.spec_keys.specs.Places.{KeyPlace, places_of, told_places}
 use Rattle.spec_links.specs.Plan.{is_closed}
-use Rattle.machine_ports.specs.Machine.{is_last_in, refuses_at, refuses_in}
+use Rattle.machine_ports.specs.Machine.{is_last_in, refuses_at, slots_refuse}
 use Rattle.link_verdicts.specs.declared.verdict.Operation.{Operation}
 use Rattle.link_verdicts.specs.declared.verdict.Operation.TheVariants as op
 use Rattle.machine_operations.specs.{find, is_live_at, port_at, ports_of}
@@ -32,7 +32,7 @@ use Rattle.why_facts.specs.declared.appends.places.Place.{Place}
 use Rattle.why_facts.specs.{is_last_seen, is_live_seen, key_place, open_seen, seen_place_at, set_seen}
 use Rattle.ide_why.specs.Facts.{exchanges_read, opens_read, opens_seen, refusal_facts, state_of_whole}
 use Rattle.ide_why.specs.Places.{first_refusing, if_refusing, is_refusing, place_or, refuses_seen, refusing_on}
-use Rattle.ide_why.specs.Places.{refusing_or, sets_in}
+use Rattle.ide_why.specs.Places.{refusing_or, lane_sets}
 use Rattle.ide_why.specs.Reading.{stream_read}
 
 -- ---- what refuses
@@ -46,12 +46,12 @@ last_is (Live x) (Programmed draw key) = refl
 last_is (Live x) (Armed draw key) = refl
 last_is (Live x) (Live y) = refl
 
-refuses_is : (k : Bool) (sl : LaneSlots) → refuses_seen k (set_facts sl) ≡ refuses_in sl k
+refuses_is : (k : Bool) (sl : LaneSlots) → refuses_seen k (set_facts sl) ≡ slots_refuse sl k
 refuses_is true sl = last_is sl.second sl.first
 refuses_is false sl = last_is sl.first sl.second
 
 sets_are : (p : Place) (closed : Bool) (x : StreamState)
-    → sets_in p (stream_facts closed x) ≡ set_facts (slots_at p.sends p.sub x)
+    → lane_sets p (stream_facts closed x) ≡ set_facts (slots_at p.sends p.sub x)
 sets_are p closed x = by p.sends p.sub
   where
     by : (sends : Bool) (u : SubKind)
@@ -75,12 +75,12 @@ and_false false = refl
 -- `a` says that the place is there at an exchange that is left
 refusing_found : (a : Bool) (p : Place) (k closed : Bool) (o : Option StreamState)
     → option_map_or (λ sets. a && refuses_seen k sets)
-    (option_map (sets_in p) (option_map (stream_facts closed) o)) false
+    (option_map (lane_sets p) (option_map (stream_facts closed) o)) false
     ≡ (a && is_some (refusal_if (refuses_at p.sends p.sub k o)))
 refusing_found a p k closed None = and_false a
 refusing_found a p k closed (Some x) =
     ap (λ b. a && b) (ap (refuses_seen k) (sets_are p closed x) ∙ refuses_is k (slots_at p.sends p.sub x)
-    ∙ sym (some_if (refuses_in (slots_at p.sends p.sub x) k)))
+    ∙ sym (some_if (slots_refuse (slots_at p.sends p.sub x) k)))
 
 module _ (plan : Plan) (s : WholeLinks) (o : Operation) (set : Bool) (first : ℕ) where
   abbrev ports : PortView

@@ -10,7 +10,8 @@ use Rattle.ide_types.specs.declared.port.Side.{Side}
 use Rattle.ide_types.specs.declared.plan.Plan.{Plan}
 use Rattle.ide_types.specs.declared.stream.StreamPlan.{StreamPlan}
 use Rattle.tlp_layout.specs.Choice.{choice_of, chosen_stream}
-use Rattle.tlp_layout.specs.Outgoing.{Outgoing, NoTlp, OnNone, OnStream, outgoing_as, outgoing_on, stream_taken}
+use Rattle.tlp_layout.specs.Outgoing.{Outgoing, NoTlp, OnNone, OnStream, outgoing_as_read, outgoing_if_chosen}
+use Rattle.tlp_layout.specs.Outgoing.{stream_taken}
 unfoldable use Rattle.tlp_layout.specs.Outgoing.{outgoing_of}
 use Rattle.spec_links.specs.Plan.{has_link, has_port, streams_of}
 use Rattle.spec_links.specs.Ports.{outgoing_at}
@@ -25,13 +26,13 @@ use Rattle.ide_why.specs.Facts.{sending_facts, stream_sends}
 use Rattle.ide_why.specs.Reading.{stream_read}
 
 -- a TLP that takes a stream
-on_chosen : (t u : Tlp) (o : Option ℕ) (stream : ℕ) → t ≡ u → Some stream ≡ stream_taken (outgoing_on t o)
-    → outgoing_on t o ≡ OnStream u stream
+on_chosen : (t u : Tlp) (o : Option ℕ) (stream : ℕ) → t ≡ u → Some stream ≡ stream_taken (outgoing_if_chosen t o)
+    → outgoing_if_chosen t o ≡ OnStream u stream
 on_chosen t u None stream same is = absurd (none-some stream (sym is))
 on_chosen t u (Some n) stream same is = (λ i. OnStream (same i) (same_Some n stream (sym is) i))
 
 on_read : (streams : List StreamPlan) (side : Side) (r : Result Tlp TlpFault) (u : Tlp) (stream : ℕ) → r ≡ Ok u
-    → Some stream ≡ stream_taken (outgoing_as streams side r) → outgoing_as streams side r ≡ OnStream u stream
+    → Some stream ≡ stream_taken (outgoing_as_read streams side r) → outgoing_as_read streams side r ≡ OnStream u stream
 on_read streams side (Err f) u stream ok is = absurd (none-some stream (sym is))
 on_read streams side (Ok t) u stream ok is =
     let same : t ≡ u = cc in

@@ -95,7 +95,7 @@ abbrev pub readings_read : WholeLinks → Readings
 readings_read s = record {
   known = λ link requester. known_read (requester_read s link requester);
   waiting = λ link. length (reads_at s.accesses link);
-  standings = statuses_read s;
+  statuses = statuses_read s;
 }
 
 -- under a Live key; `held` are the packets of its unit that are held

@@ -16,11 +16,11 @@ use Rattle.why_facts.specs.declared.appends.places.Place.{Place}
 use Rattle.why_facts.specs.{is_last_seen, key_place, seen_place_at}
 use Rattle.ide_why.specs.Reading.{stream_read}
 
-abbrev pub sets_in : Place → StreamFacts → SetFacts
-sets_in p f = if p.sends then (lane_seen f p.sub).sender.sets else (lane_seen f p.sub).receiver.sets
+abbrev pub lane_sets : Place → StreamFacts → SetFacts
+lane_sets p f = if p.sends then (lane_seen f p.sub).sender.sets else (lane_seen f p.sub).receiver.sets
 
 abbrev pub sets_at : Plan → WholeLinks → Place → Option SetFacts
-sets_at plan s p = option_map (sets_in p) (stream_read plan s (record { side = p.side; line = p.line }) p.stream)
+sets_at plan s p = option_map (lane_sets p) (stream_read plan s (record { side = p.side; line = p.line }) p.stream)
 
 abbrev pub refuses_seen : Bool → SetFacts → Bool
 refuses_seen set sets = if set then is_last_seen sets.one sets.zero else is_last_seen sets.zero sets.one

@@ -6,7 +6,7 @@ use Rattle.ide_types.specs.declared.sub.SubKind.{SubKind}
 use Rattle.ide_types.specs.declared.plan.Plan.{Plan}
 use Rattle.ide_port.specs.Facts.{held_by}
 use Rattle.ide_prefix.specs.Packet.{Packet}
-use Rattle.guarded_memory.specs.declared.standing.InterfaceStatus.{InterfaceStatus}
+use Rattle.guarded_memory.specs.declared.status.InterfaceStatus.{InterfaceStatus}
 use Rattle.tlp_layout.specs.declared.head.HeadView.{HeadView}
 use Rattle.spec_interfaces.specs.Cause.{owner_id}
 use Rattle.spec_links.specs.Plan.{is_closed}

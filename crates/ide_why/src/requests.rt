@@ -131,7 +131,7 @@ impl Reader<'_> {
                 let requester = requester_at(self.plan, link, claim.interface);
                 self.push_known(facts, link, requester)?;
                 push_bar(facts, claim.bar as u64, &claim.range)?;
-                push_takes(facts, claim.standing.bound.as_slice())
+                push_takes(facts, claim.status.bound.as_slice())
             }
         }
     }

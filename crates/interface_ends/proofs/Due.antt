@@ -10,7 +10,7 @@ use Rattle.interface_state.specs.Kept.{kept_report}
 use Rattle.interface_state.specs.Machine.{Tdi, lock_of, error_code, portion_of, is_answered}
 use Rattle.interface_host.specs.declared.step.Step.{Step}
 use Rattle.interface_host.specs.declared.step.Step.TheVariants as step
-use Rattle.interface_host.specs.Judging.{Judged, if_same, is_portion, nonce_in, portion_in, start_in, bind_in}
+use Rattle.interface_host.specs.Judging.{Judged, if_same, is_portion, judged_nonce, portion_in, start_in, bind_in}
 use Rattle.interface_host.specs.Judging.{unbind_in, step_judged}
 use Rattle.interface_host.specs.Views.{HostTdi, step_request}
 use Rattle.interface_ends.specs.declared.said.StreamSaid.{StreamSaid}
@@ -23,7 +23,7 @@ use Rattle.interface_ends.specs.Exchanges.{IsReport, Meets}
 same_function : (f : ℕ) (j : Judged) → if_same f f j ≡ j
 same_function f j = rw (same-true f) refl
 
-lock_read : (f : ℕ) (answer : Result (List ℕ) ℕ) → nonce_in f (lock_reply f answer) ≡ nonce_due answer
+lock_read : (f : ℕ) (answer : Result (List ℕ) ℕ) → judged_nonce f (lock_reply f answer) ≡ nonce_due answer
 lock_read f (Ok nonce) = same_function f _
 lock_read f (Err code) = refl
 

@@ -19,15 +19,16 @@ use Rattle.interface_state.specs.Machine.{after_start}
 use Rattle.interface_state.specs.Machine.{bind_answer, is_answered, interface_after_bind, unbind_answer, unbound_with}
 use Rattle.interface_state.proofs.Bound.{entered_same}
 use Rattle.interface_ends.specs.declared.said.StreamSaid.{StreamSaid}
-use Rattle.interface_ends.specs.Replies.{DeviceTdis, NamedTdi, named_interface, named_interface_in, named_interface_at}
-use Rattle.interface_ends.specs.Replies.{interface_place, next_nonce, interface_call, interface_called, lock_reply}
-use Rattle.interface_ends.specs.Replies.{start_reply, bind_reply, unbind_reply, interface_reply, takes_nonce}
-use Rattle.interface_ends.specs.Replies.{used_after, interfaces_asked_by, named_reply, request_checked}
+use Rattle.interface_ends.specs.Replies.{DeviceTdis, NamedTdi, named_interface, named_interface_in}
+use Rattle.interface_ends.specs.Replies.{named_interface_if_there, interface_place, next_nonce, interface_call}
+use Rattle.interface_ends.specs.Replies.{interface_called, lock_reply, start_reply, bind_reply, unbind_reply}
+use Rattle.interface_ends.specs.Replies.{interface_reply, takes_nonce, used_after, interfaces_asked_by, named_reply}
+use Rattle.interface_ends.specs.Replies.{request_checked}
 use Rattle.interface_ends.specs.Laws.{ErrorsChangeNothing}
 
 -- ---- the interface that is meant
 
-at_place : (xs : List Tdi) (p : ℕ) (t : Option Tdi) (n : NamedTdi) → slice_get xs p ≡ t → named_interface_at p t
+at_place : (xs : List Tdi) (p : ℕ) (t : Option Tdi) (n : NamedTdi) → slice_get xs p ≡ t → named_interface_if_there p t
     ≡ Some n
     → slice_get xs n.place ≡ Some n.tdi
 at_place xs p None n g e = absurd cc

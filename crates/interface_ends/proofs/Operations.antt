@@ -15,10 +15,10 @@ use Rattle.interface_host.specs.Views.{HostTdi, start_outcome, halt_outcome, sta
 use Rattle.interface_host.specs.Views.{unbind_outcome}
 use Rattle.interface_ends.specs.declared.said.StreamSaid.{StreamSaid}
 use Rattle.interface_ends.specs.Replies.{DeviceTdis, NamedTdi, named_interface, interface_place, next_nonce}
-use Rattle.interface_ends.specs.Exchanges.{device_as, judged_due, FitsStep, Meets, ExchangesAreDue}
+use Rattle.interface_ends.specs.Exchanges.{device_after_step, judged_due, FitsStep, Meets, ExchangesAreDue}
 use Rattle.spec_keys.specs.Due.{lost_message}
 use Rattle.interface_ends.specs.Operations.{judgment_if_carried, interfaces_after_request, Walking, WalkedInterface}
-use Rattle.interface_ends.specs.Operations.{walked_by, walked_once, walking_on, continued_walk, interface_walk}
+use Rattle.interface_ends.specs.Operations.{walked_by, walked_once, walking_next, continued_walk, interface_walk}
 use Rattle.interface_ends.specs.Operations.{begun_walking, walking_exchange, stated_once, at_step, lost_early}
 use Rattle.interface_ends.specs.Operations.{walked_unless_lost, stated_lock, OperationsAreStated}
 use Rattle.interface_ends.proofs.Errors.{in_list}
@@ -41,7 +41,7 @@ once_stated due portion draws said loss n w short id m =
     let e = due w.step portion (length w.read.bytes) w.interface w.device n said short id m in
     ap (λ j. walked_by draws w (judgment_if_carried (lost_message loss (walking_exchange w)) j)
     (interfaces_after_request (lost_message loss (walking_exchange w)) w.device
-    (device_as w.step portion (length w.read.bytes) w.interface w.device said))) e.judged
+    (device_after_step w.step portion (length w.read.bytes) w.interface w.device said))) e.judged
     ∙ ap (λ x. walked_by draws w
     (judgment_if_carried (lost_message loss (walking_exchange w))
     (judged_due w.step portion (length w.read.bytes) w.interface n.tdi said (next_nonce w.device)))
@@ -51,9 +51,9 @@ once_stated due portion draws said loss n w short id m =
 pub goes : (more portion draws : ℕ) (said : StreamSaid) (loss : Option Loss) (w : Walking) (now : WalkedInterface)
     → walked_once portion draws said loss w ≡ now
     → interface_walk (suc more) portion draws said loss w ≡ continued_walk now.outcome now
-    (interface_walk more portion draws said loss (walking_on w.step now))
+    (interface_walk more portion draws said loss (walking_next w.step now))
 goes more portion draws said loss w now is = ap
-    (λ x. continued_walk x.outcome x (interface_walk more portion draws said loss (walking_on w.step x))) is
+    (λ x. continued_walk x.outcome x (interface_walk more portion draws said loss (walking_next w.step x))) is
 
 -- ---- what is over with its one exchange
 
@@ -145,7 +145,7 @@ quiet_version : (portion draws : ℕ) (said : StreamSaid) (loss : Option Loss) (
     → continued_walk (stated_once portion draws said l n (at_step step.Version i d)).outcome
     (stated_once portion draws said l n (at_step step.Version i d))
     (interface_walk more portion draws said loss
-    (walking_on step.Version (stated_once portion draws said l n (at_step step.Version i d))))
+    (walking_next step.Version (stated_once portion draws said l n (at_step step.Version i d))))
     ≡ walked_unless_lost l (lost_early 1 i d) rest
 quiet_version portion draws said loss i d n is None more rest e =
     ap (λ xs. interface_walk more portion draws said loss
@@ -163,7 +163,7 @@ quiet_capabilities : (portion draws : ℕ) (said : StreamSaid) (loss : Option Lo
     → continued_walk (stated_once portion draws said l n (at_step step.Capabilities i d)).outcome
     (stated_once portion draws said l n (at_step step.Capabilities i d))
     (interface_walk more portion draws said loss
-    (walking_on step.Capabilities (stated_once portion draws said l n (at_step step.Capabilities i d))))
+    (walking_next step.Capabilities (stated_once portion draws said l n (at_step step.Capabilities i d))))
     ≡ walked_unless_lost l (lost_early 2 i d) rest
 quiet_capabilities portion draws said loss i d n is None more rest e =
     ap (λ xs. interface_walk more portion draws said loss (at_step step.Lock i (record d { interfaces = xs })))

@@ -21,7 +21,7 @@ use Rattle.interface_ends.specs.Replies.{DeviceTdis, NamedTdi, interfaces_after_
 use Rattle.interface_ends.specs.Exchanges.{portion_due, Meets, IsReport, ExchangesAreDue}
 use Rattle.spec_keys.specs.Due.{lost_message}
 use Rattle.interface_ends.specs.Operations.{judgment_if_carried, interfaces_after_request, Walking, WalkedInterface}
-use Rattle.interface_ends.specs.Operations.{walked_by, walking_on, continued_walk, interface_walk, begun_walking}
+use Rattle.interface_ends.specs.Operations.{walked_by, walking_next, continued_walk, interface_walk, begun_walking}
 use Rattle.interface_ends.specs.Operations.{stated_once, at_step}
 use Rattle.interface_ends.specs.Reports.{portion_count, lost_exchange_within, ReportIsRead, ReportsAreRead}
 use Rattle.interface_ends.specs.Reports.{ReportsAreRefused}
@@ -212,7 +212,7 @@ goes_on : (more portion draws : ℕ) (said : StreamSaid) (loss : Option Loss) (i
     (r bytes : List ℕ) (q off : ℕ) → 1 ≤ behind r portion off
     → continued_walk (now_at draws None i d r bytes q portion off).outcome (now_at draws None i d r bytes q portion off)
     (interface_walk more portion draws said loss
-    (walking_on step.Report (now_at draws None i d r bytes q portion off)))
+    (walking_next step.Report (now_at draws None i d r bytes q portion off)))
     ≡ interface_walk more portion draws said loss (at_portion i d (bytes ++ part r portion off) (q + 1))
 goes_on more portion draws said loss i d r bytes q off some = rw (positive (behind r portion off) some) refl
 
@@ -226,7 +226,7 @@ reads_by : ExchangesAreDue → (more portion draws : ℕ) (said : StreamSaid) (l
     off).outcome
     (now_at draws l i d (kept_report n.tdi.plan lock) (take off (kept_report n.tdi.plan lock)) q portion off)
     (interface_walk more portion draws said loss
-    (walking_on step.Report
+    (walking_next step.Report
     (now_at draws l i d (kept_report n.tdi.plan lock) (take off (kept_report n.tdi.plan lock)) q portion off)))
     → (b ≡ false → Reads more portion draws said loss i d (kept_report n.tdi.plan lock) (off + portion) (q + 1))
     → ReportIsRead (lost_exchange_within loss (q + 1)

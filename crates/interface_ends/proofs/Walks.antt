@@ -12,7 +12,7 @@ use Rattle.interface_host.specs.Managers.{InterfaceManagerView, CurrentInterface
 use Rattle.interface_host.specs.Managers.{current_interface_in, current_by, interface_asking_after}
 use Rattle.interface_ends.specs.declared.said.StreamSaid.{StreamSaid}
 use Rattle.interface_ends.specs.Replies.{DeviceTdis}
-use Rattle.interface_ends.specs.Operations.{walked_once, walking_on, continued_walk, interface_walk}
+use Rattle.interface_ends.specs.Operations.{walked_once, walking_next, continued_walk, interface_walk}
 use Rattle.interface_ends.specs.Keepers.{Ended, IsInterfaceExchanged, interface_exchanged, ended_if_over, by_current}
 use Rattle.interface_ends.specs.Keepers.{manager_walk, walking_at, IsInterfaceWalked, KeepersWalk}
 
@@ -62,7 +62,7 @@ goes_by : (more : ℕ) (said : StreamSaid) (loss : Option Loss) (m : InterfaceMa
     (interface_exchanged said loss m d c).device))
     → IsInterfaceWalked m c (continued_walk o (walked_once m.portion c.asking.draws said loss (walking_at m c d))
     (interface_walk more m.portion c.asking.draws said loss
-    (walking_on c.asking.step (walked_once m.portion c.asking.draws said loss (walking_at m c d)))))
+    (walking_next c.asking.step (walked_once m.portion c.asking.draws said loss (walking_at m c d)))))
     (ended_if_over o (interface_exchanged said loss m d c)
     (manager_walk more said loss (interface_exchanged said loss m d c).manager
     (interface_exchanged said loss m d c).device))

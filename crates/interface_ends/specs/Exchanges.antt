@@ -30,8 +30,8 @@ judged_by_manager s portion read i d said =
     (reply_reading (answer_bytes d (asked_bytes s portion read i) said))
 
 -- the device after the request
-abbrev pub device_as : Step → ℕ → ℕ → HostTdi → DeviceTdis → StreamSaid → DeviceTdis
-device_as s portion read i d said = interfaces_after_answer d (asked_bytes s portion read i) said
+abbrev pub device_after_step : Step → ℕ → ℕ → HostTdi → DeviceTdis → StreamSaid → DeviceTdis
+device_after_step s portion read i d said = interfaces_after_answer d (asked_bytes s portion read i) said
 
 -- ---- what is due
 
@@ -111,7 +111,8 @@ pub record ExchangeIsDue (s : Step) (portion read : ℕ) (i : HostTdi) (d : Devi
   -- the judgement of the reply
   pub judged : judged_by_manager s portion read i d said ≡ judged_due s portion read i n.tdi said (next_nonce d)
   -- what the request makes of the device
-  pub device : device_as s portion read i d said ≡ interfaces_after_call d n (step_request s portion read i) said
+  pub device : device_after_step s portion read i d said ≡ interfaces_after_call d n (step_request s portion read i)
+      said
 
 abbrev pub ExchangesAreDue : Type 0
 ExchangesAreDue = (s : Step) (portion read : ℕ) (i : HostTdi) (d : DeviceTdis) (n : NamedTdi) (said : StreamSaid)

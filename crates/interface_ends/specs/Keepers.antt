@@ -13,7 +13,7 @@ use Rattle.interface_host.specs.Managers.{InterfaceManagerView, CurrentInterface
 use Rattle.interface_host.specs.Managers.{begun_interface_manager, outcome_by, taken_interface_manager}
 use Rattle.interface_ends.specs.declared.said.StreamSaid.{StreamSaid}
 use Rattle.interface_ends.specs.Replies.{DeviceTdis}
-use Rattle.interface_ends.specs.Exchanges.{judged_by_manager, device_as}
+use Rattle.interface_ends.specs.Exchanges.{judged_by_manager, device_after_step}
 use Rattle.spec_keys.specs.Due.{lost_message}
 use Rattle.interface_ends.specs.Operations.{judgment_if_carried, interfaces_after_request, Walking, WalkedInterface}
 use Rattle.interface_ends.specs.Operations.{interface_walk}
@@ -38,7 +38,7 @@ current_judged said loss m d c =
 abbrev pub device_of : StreamSaid → Option Loss → InterfaceManagerView → DeviceTdis → CurrentInterface → DeviceTdis
 device_of said loss m d c =
     interfaces_after_request (current_lost loss m c) d
-    (device_as c.asking.step m.portion (length m.read.bytes) c.interface d said)
+    (device_after_step c.asking.step m.portion (length m.read.bytes) c.interface d said)
 
 abbrev pub interface_exchanged : StreamSaid → Option Loss → InterfaceManagerView → DeviceTdis → CurrentInterface → Ended
 interface_exchanged said loss m d c = record {

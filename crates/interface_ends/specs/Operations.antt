@@ -18,7 +18,7 @@ use Rattle.interface_host.specs.Views.{HostTdi, step_request, taken_interface, i
 use Rattle.interface_host.specs.Managers.{nothing_read, report_after_reply}
 use Rattle.interface_ends.specs.declared.said.StreamSaid.{StreamSaid}
 use Rattle.interface_ends.specs.Replies.{DeviceTdis, NamedTdi, next_nonce, interfaces_after_call}
-use Rattle.interface_ends.specs.Exchanges.{judged_by_manager, device_as, judged_due, Meets}
+use Rattle.interface_ends.specs.Exchanges.{judged_by_manager, device_after_step, judged_due, Meets}
 
 -- ---- an exchange that may be lost
 
@@ -54,9 +54,9 @@ abbrev pub walking_judged : ℕ → StreamSaid → Option Loss → Walking → J
 walking_judged portion said loss w = judgment_if_carried (lost_message loss (walking_exchange w))
     (judged_by_manager w.step portion (length w.read.bytes) w.interface w.device said)
 
-abbrev pub device_in : ℕ → StreamSaid → Option Loss → Walking → DeviceTdis
-device_in portion said loss w = interfaces_after_request (lost_message loss (walking_exchange w)) w.device
-    (device_as w.step portion (length w.read.bytes) w.interface w.device said)
+abbrev pub walked_device : ℕ → StreamSaid → Option Loss → Walking → DeviceTdis
+walked_device portion said loss w = interfaces_after_request (lost_message loss (walking_exchange w)) w.device
+    (device_after_step w.step portion (length w.read.bytes) w.interface w.device said)
 
 -- both ends after an exchange whose reply is judged so
 abbrev pub walked_by : ℕ → Walking → Judged → DeviceTdis → WalkedInterface
@@ -71,11 +71,11 @@ walked_by draws w judged device =
 
 abbrev pub walked_once : ℕ → ℕ → StreamSaid → Option Loss → Walking → WalkedInterface
 walked_once portion draws said loss w =
-    walked_by draws w (walking_judged portion said loss w) (device_in portion said loss w)
+    walked_by draws w (walking_judged portion said loss w) (walked_device portion said loss w)
 
 -- at the next exchange
-abbrev pub walking_on : Step → WalkedInterface → Walking
-walking_on s w = record { interface = w.interface; step = next_step s; read = w.read; device = w.device }
+abbrev pub walking_next : Step → WalkedInterface → Walking
+walking_next s w = record { interface = w.interface; step = next_step s; read = w.read; device = w.device }
 
 abbrev pub continued_walk : InterfaceOutcome → WalkedInterface → WalkedInterface → WalkedInterface
 continued_walk outcome.Next now rest = rest
@@ -87,7 +87,7 @@ interface_walk zero portion draws said loss w =
     record { outcome = outcome.Next; interface = w.interface; read = w.read; device = w.device }
 interface_walk (suc more) portion draws said loss w =
     continued_walk (walked_once portion draws said loss w).outcome (walked_once portion draws said loss w)
-    (interface_walk more portion draws said loss (walking_on w.step (walked_once portion draws said loss w)))
+    (interface_walk more portion draws said loss (walking_next w.step (walked_once portion draws said loss w)))
 
 abbrev pub begun_walking : InterfaceOperation → HostTdi → DeviceTdis → Walking
 begun_walking op i d = record { interface = i; step = first_step op; read = nothing_read; device = d }

@@ -66,13 +66,13 @@ pub record NamedTdi : Type 0 where
   pub place : ℕ
   pub tdi : Tdi
 
-abbrev pub named_interface_at : ℕ → Option Tdi → Option NamedTdi
-named_interface_at place None = None
-named_interface_at place (Some tdi) = Some (record { place = place; tdi = tdi })
+abbrev pub named_interface_if_there : ℕ → Option Tdi → Option NamedTdi
+named_interface_if_there place None = None
+named_interface_if_there place (Some tdi) = Some (record { place = place; tdi = tdi })
 
 abbrev pub named_interface_in : List Tdi → Option ℕ → Option NamedTdi
 named_interface_in interfaces None = None
-named_interface_in interfaces (Some place) = named_interface_at place (slice_get interfaces place)
+named_interface_in interfaces (Some place) = named_interface_if_there place (slice_get interfaces place)
 
 abbrev pub named_interface : DeviceTdis → ℕ → Option NamedTdi
 named_interface d function = named_interface_in d.interfaces (interface_place d function)

@@ -8,8 +8,7 @@ ghost use Rattle.interface_state.specs.Held.{FitsTdi};
 ghost use Rattle.ide_types.specs.RegisterNames.{has_register, width_of};
 ghost use Rattle.interface_state.specs.Machine.{new_tdi, tdi_after, LinkReset, state_code, LevelReset, FirmwareUpdate};
 ghost use Rattle.interface_state.specs.Machine.{WriteRegister};
-ghost use Rattle.interface_ends.specs.Replies.{new_tdis, is_elsewhere, is_left, any_left, settled_interface};
-ghost use Rattle.interface_ends.specs.Replies.{is_owner};
+ghost use Rattle.interface_ends.specs.Replies.{new_tdis, is_elsewhere, is_left, any_left, settled_interface, is_owner};
 ghost use Rattle.interface_ends.specs.Replies.{runs_on, runs_bound, is_bound_owner};
 
 use crate::StreamSaid;
@@ -111,7 +110,7 @@ fn settle_all<P: StreamStates>(interfaces: &mut Vec<Interface>, streams: &P)
 fn is_owner(interface: &Interface, requester: u16, stream: u8) -> bool
     ensures { result ≡ is_owner requester stream interface.now }
 {
-    requester == interface.requester() && runs_on(interface.standing(), stream)
+    requester == interface.requester() && runs_on(interface.state_with_lock(), stream)
 }
 
 fn runs_on(state: &TdiState, stream: u8) -> bool
@@ -128,7 +127,7 @@ fn is_bound_owner(interface: &Interface, requester: u16, stream: u8) -> bool
     ensures { result ≡ is_bound_owner requester stream interface.now }
 {
     requester == interface.requester()
-        && runs_bound(interface.standing(), interface.peers(), stream)
+        && runs_bound(interface.state_with_lock(), interface.peers(), stream)
 }
 
 fn runs_bound(state: &TdiState, peers: &Bindings, stream: u8) -> bool

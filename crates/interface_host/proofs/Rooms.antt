@@ -7,8 +7,8 @@ use Rattle.tdisp_codec.specs.Replies.{DeviceInterfaceState, StartInterface, Stop
 use Rattle.interface_host.specs.declared.step.Step.{Step}
 use Rattle.interface_host.specs.declared.step.Step.TheVariants as step
 use Rattle.interface_host.specs.Judging.{Judged, Passed, Nonce, State, Bad, HasRoom, is_portion, if_portion, version_in}
-use Rattle.interface_host.specs.Judging.{capabilities_in, nonce_in, portion_in, start_in, halt_in, state_in, bind_in}
-use Rattle.interface_host.specs.Judging.{unbind_in, step_judged, interface_reply_judged}
+use Rattle.interface_host.specs.Judging.{capabilities_in, judged_nonce, portion_in, start_in, halt_in, state_in}
+use Rattle.interface_host.specs.Judging.{bind_in, unbind_in, step_judged, interface_reply_judged}
 
 fitting : (asked read : ℕ) (bytes : List ℕ) (remainder : ℕ) (fits : Bool)
     → is_portion asked read (length bytes) remainder ≡ fits → HasRoom read (if_portion fits bytes remainder)
@@ -44,7 +44,7 @@ capabilities_room read function (BindP2p back) = tt
 capabilities_room read function (UnbindP2p back) = tt
 capabilities_room read function (Error back code value) = tt
 
-nonce_room : (read function : ℕ) (r : Reply) → HasRoom read (nonce_in function r)
+nonce_room : (read function : ℕ) (r : Reply) → HasRoom read (judged_nonce function r)
 nonce_room read function (Version back versions) = tt
 nonce_room read function (Capabilities back d q l w t a) = tt
 nonce_room read function (LockInterface back nonce) = chosen read (back == function) (Nonce nonce) tt

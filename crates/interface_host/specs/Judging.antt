@@ -49,9 +49,9 @@ abbrev pub capabilities_in : ℕ → Reply → Judged
 capabilities_in function (Capabilities back device requests lock_flags width this all) = if_same function back Passed
 capabilities_in function reply = error_judged reply
 
-abbrev pub nonce_in : ℕ → Reply → Judged
-nonce_in function (LockInterface back nonce) = if_same function back (Nonce nonce)
-nonce_in function reply = error_judged reply
+abbrev pub judged_nonce : ℕ → Reply → Judged
+judged_nonce function (LockInterface back nonce) = if_same function back (Nonce nonce)
+judged_nonce function reply = error_judged reply
 
 -- a portion has 1 to the asked number of bytes; with what was read before and what follows it, at most 1,140
 abbrev pub is_portion : ℕ → ℕ → ℕ → ℕ → Bool
@@ -91,7 +91,7 @@ unbind_in function reply = error_judged reply
 abbrev pub step_judged : Step → ℕ → ℕ → ℕ → Reply → Judged
 step_judged step.Version function asked read reply = version_in function reply
 step_judged step.Capabilities function asked read reply = capabilities_in function reply
-step_judged step.Lock function asked read reply = nonce_in function reply
+step_judged step.Lock function asked read reply = judged_nonce function reply
 step_judged step.Report function asked read reply = portion_in asked read function reply
 step_judged step.Start function asked read reply = start_in function reply
 step_judged step.Halt function asked read reply = halt_in function reply

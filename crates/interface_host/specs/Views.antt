@@ -18,8 +18,8 @@ use Rattle.interface_host.specs.declared.operation.InterfaceRefusal.TheVariants.
 use Rattle.interface_host.specs.declared.operation.InterfaceRefusal.TheVariants.{RefreshFirst}
 use Rattle.interface_host.specs.declared.operation.InterfaceRefusal.TheVariants.{SessionLost, DeviceRefused, BadReply}
 use Rattle.interface_host.specs.declared.operation.InterfaceResult.TheVariants as shown
-use Rattle.interface_host.specs.declared.standing.ManagedTdi.{ManagedTdi}
-use Rattle.interface_host.specs.declared.standing.ManagedTdi.TheVariants as standing
+use Rattle.interface_host.specs.declared.managed.ManagedTdi.{ManagedTdi}
+use Rattle.interface_host.specs.declared.managed.ManagedTdi.TheVariants as managed
 use Rattle.interface_host.specs.declared.step.Step.{Step}
 use Rattle.interface_host.specs.declared.step.Step.TheVariants as step
 use Rattle.interface_host.specs.Judging.{Judged, Passed, Nonce, Portion, State, Refused, Lost}
@@ -34,11 +34,11 @@ pub data Seen : Type 0 where
   IsBroken : Seen
 
 abbrev pub seen_of_managed : ManagedTdi → Seen
-seen_of_managed (standing.Unlocked tdi) = IsUnlocked
-seen_of_managed (standing.Locked tdi) = IsLocked tdi.state.nonce tdi.state.is_reported
-seen_of_managed (standing.Running tdi) = IsRunning tdi.state.floor
-seen_of_managed (standing.Doubt tdi) = IsDoubt
-seen_of_managed (standing.Broken tdi) = IsBroken
+seen_of_managed (managed.Unlocked tdi) = IsUnlocked
+seen_of_managed (managed.Locked tdi) = IsLocked tdi.state.nonce tdi.state.is_reported
+seen_of_managed (managed.Running tdi) = IsRunning tdi.state.floor
+seen_of_managed (managed.Doubt tdi) = IsDoubt
+seen_of_managed (managed.Broken tdi) = IsBroken
 
 abbrev pub view_of : Seen → View
 view_of IsUnlocked = view.Unlocked

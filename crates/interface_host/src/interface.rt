@@ -4,13 +4,12 @@ ghost use Rattle.std.specs.Prelude.{◌≡◌, Some, None, slice_set, true};
 ghost use Rattle.interface_host.specs.Facts.{interface_facts};
 ghost use Rattle.interface_host.specs.Judging.{answer_shown};
 ghost use Rattle.interface_host.specs.Views.{interface_unless_secure, key_refusal, cut_outcome, peer_number};
-ghost use Rattle.interface_host.specs.Views.{asked_peers};
-ghost use Rattle.interface_host.specs.Views.{was_started_after, needs_after};
+ghost use Rattle.interface_host.specs.Views.{asked_peers, was_started_after, needs_after};
 
 use crate::facts::InterfaceFacts;
 use crate::judge::Answer;
+use crate::managed::ManagedTdi;
 use crate::operation::{InterfaceOperation, InterfaceOutcome, InterfaceRefusal, InterfaceResult};
-use crate::standing::ManagedTdi;
 use crate::step::Step;
 use ide_types::{Binding, InterfacePlan, StreamStatus, View};
 use std::marker::Model;
@@ -28,7 +27,7 @@ pub(crate) struct HostInterface {
     draw: u32,
     needs: u32,
     was_started: bool,
-    standing: ManagedTdi,
+    managed: ManagedTdi,
     asked: [bool; 8],
 }
 
@@ -46,7 +45,7 @@ impl Model for HostInterface {
       draw = i.draw;
       needs = i.needs;
       was_started = i.was_started;
-      seen = seen_of_managed i.standing;
+      seen = seen_of_managed i.managed;
       asked = i.asked;
     } };
 }
@@ -155,7 +154,7 @@ impl HostInterface {
             draw: 0,
             needs: 0,
             was_started: false,
-            standing: ManagedTdi::new(),
+            managed: ManagedTdi::new(),
             asked: [false; 8],
         }
     }
@@ -178,42 +177,42 @@ impl HostInterface {
     pub(crate) fn view(&self) -> View
         ensures { result ≡ view_of self.now.seen }
     {
-        self.standing.view()
+        self.managed.view()
     }
 
     fn lock_refusal(&self, status: StreamStatus) -> Option<InterfaceRefusal>
         ensures { result ≡ lock_refusal status self.now.seen }
     {
-        match &self.standing {
+        match &self.managed {
             ManagedTdi::Unlocked(_) => unless_secure(status, None),
-            standing => Some(InterfaceRefusal::WrongState(standing.view())),
+            managed => Some(InterfaceRefusal::WrongState(managed.view())),
         }
     }
 
     fn report_refusal(&self) -> Option<InterfaceRefusal>
         ensures { result ≡ report_refusal self.now.seen }
     {
-        match &self.standing {
+        match &self.managed {
             ManagedTdi::Locked(_) | ManagedTdi::Running(_) => None,
-            standing => Some(InterfaceRefusal::WrongState(standing.view())),
+            managed => Some(InterfaceRefusal::WrongState(managed.view())),
         }
     }
 
     fn bind_refusal(&self, status: StreamStatus, draw: u32) -> Option<InterfaceRefusal>
         ensures { result ≡ bind_refusal status draw self.now.needs self.now.seen }
     {
-        match &self.standing {
+        match &self.managed {
             ManagedTdi::Locked(_) | ManagedTdi::Running(_) => {
                 unless_secure(status, key_refusal(draw, self.needs))
             }
-            standing => Some(InterfaceRefusal::WrongState(standing.view())),
+            managed => Some(InterfaceRefusal::WrongState(managed.view())),
         }
     }
 
     fn start_refusal(&self, status: StreamStatus) -> Option<InterfaceRefusal>
         ensures { result ≡ start_refusal status self.now.draw self.now.needs self.now.seen }
     {
-        match &self.standing {
+        match &self.managed {
             ManagedTdi::Locked(tdi) => {
                 if tdi.is_reported() {
                     unless_secure(status, key_refusal(self.draw, self.needs))
@@ -221,7 +220,7 @@ impl HostInterface {
                     Some(InterfaceRefusal::NotReported)
                 }
             }
-            standing => Some(InterfaceRefusal::WrongState(standing.view())),
+            managed => Some(InterfaceRefusal::WrongState(managed.view())),
         }
     }
 
@@ -283,8 +282,8 @@ impl HostInterface {
     pub(crate) fn take(&mut self, step: Step, draws: u32, answer: Answer)
         ensures { self.new ≡ taken_interface step draws (answer_shown answer.entry) self.old }
     {
-        let standing = mem::replace(&mut self.standing, ManagedTdi::new());
-        self.standing = standing.after(step, self.draw, answer);
+        let managed = mem::replace(&mut self.managed, ManagedTdi::new());
+        self.managed = managed.after(step, self.draw, answer);
         self.needs = needs_after(step, draws, answer, self.was_started, self.needs);
         self.was_started = was_started_after(step, self.was_started);
         ask(step, &mut self.asked);
@@ -299,8 +298,8 @@ impl HostInterface {
     fn leave(&mut self)
         ensures { self.new ≡ record self.old { seen = broken_view self.old.seen } }
     {
-        let standing = mem::replace(&mut self.standing, ManagedTdi::new());
-        self.standing = standing.broken();
+        let managed = mem::replace(&mut self.managed, ManagedTdi::new());
+        self.managed = managed.broken();
     }
 
     /// A stop of this stream began.
@@ -363,7 +362,7 @@ impl HostInterface {
     pub(crate) fn grant(&self) -> Option<Binding>
         ensures { result ≡ interface_grant self.now }
     {
-        match self.standing.floor() {
+        match self.managed.floor() {
             Some(floor) => Some(Binding {
                 stream: self.stream,
                 floor,
@@ -394,7 +393,7 @@ impl HostInterface {
             },
             Step::Start => RequestView::StartInterface {
                 function,
-                nonce: self.standing.nonce(),
+                nonce: self.managed.nonce(),
             },
             Step::Halt => RequestView::StopInterface { function },
             Step::State => RequestView::GetDeviceInterfaceState { function },
@@ -420,12 +419,12 @@ impl HostInterface {
         InterfaceFacts {
             link: self.link,
             stream: self.stream,
-            view: self.standing.view(),
+            view: self.managed.view(),
             draw: self.draw,
             needs: self.needs,
             started: self.was_started,
-            reported: self.standing.reported_in(),
-            floor: self.standing.floor(),
+            reported: self.managed.reported_in(),
+            floor: self.managed.floor(),
         }
     }
 }

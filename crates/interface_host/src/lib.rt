@@ -10,9 +10,9 @@ mod facts;
 mod interface;
 mod interfaces;
 mod judge;
+mod managed;
 mod operation;
 mod portions;
-mod standing;
 mod step;
 mod tdi;
 

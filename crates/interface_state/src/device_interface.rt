@@ -422,7 +422,7 @@ impl Interface {
     }
 
     /// The state, with what the lock that stands kept.
-    pub fn standing(&self) -> &TdiState
+    pub fn state_with_lock(&self) -> &TdiState
         ensures { result.now ≡ self.now.state }
     {
         &self.state

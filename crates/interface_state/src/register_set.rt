@@ -3,9 +3,7 @@
 ghost use Rattle.std.specs.Prelude.{◌≡◌, ◌<◌, ◌^◌, ◌==◌, ◌&&◌, [], ◌∷◌};
 ghost use Rattle.ide_types.specs.RegisterNames.{width_of};
 ghost use Rattle.interface_state.specs.RegisterValues.{bit_at, has_bit, changes_listed, planned_registers};
-ghost use Rattle.interface_state.specs.RegisterValues.{planned_base};
-ghost use Rattle.interface_state.specs.RegisterValues.{IsAmongSix};
-ghost use Rattle.interface_state.specs.RegisterValues.{value_in, with_value};
+ghost use Rattle.interface_state.specs.RegisterValues.{planned_base, IsAmongSix, value_in, with_value};
 
 use ide_types::{BarPlan, InterfacePlan, Register};
 

@@ -3,8 +3,7 @@
 ghost use Rattle.std.specs.Prelude.{◌≡◌};
 ghost use Rattle.std.specs.Str.{bytes_eq};
 ghost use Rattle.interface_state.specs.Machine.{after_change, bound_link_stream, after_failure, is_locked, is_unlocked};
-ghost use Rattle.interface_state.specs.Machine.{lock_flags};
-ghost use Rattle.interface_state.specs.Machine.{start_answer, after_start, state_code};
+ghost use Rattle.interface_state.specs.Machine.{lock_flags, start_answer, after_start, state_code};
 
 use crate::error_codes::ErrorCode;
 use crate::register_set::Registers;

@@ -1,5 +1,5 @@
 -- What stands at links for reads and for the memory of devices says of effects, of answers and of what is shown what
--- the machine says: the interfaces of a link stand at their places as the machine's do (`standings_are`), a reader's
+-- the machine says: the interfaces of a link stand at their places as the machine's do (`statuses_are`), a reader's
 -- interface is that of the manager (`reader_is`), and a completion has the same bytes and takes the same stream.
 use Rattle.std.proofs.Common.{◌≡◌, ℕ, ◌+◌, ◌<◌, ◌≤◌, ◌==◌, ◌&&◌, ◌∷◌, zero, suc, Bool, true, false, List, [], length}
 use Rattle.std.proofs.Common.{refl, sym, ap, ◌∙◌, arith, Option, Some, None, ⊎_elim, ◌⊎◌}
@@ -18,15 +18,15 @@ use Rattle.link_verdicts.specs.declared.verdict.Verdict.TheVariants as v
 use Rattle.interface_state.specs.Machine.{Tdi}
 use Rattle.interface_host.specs.Managers.{interface_of_requester}
 use Rattle.interface_host.specs.Views.{HostTdi, is_requester as is_reader}
-use Rattle.guarded_memory.specs.declared.standing.InterfaceStatus.{InterfaceStatus}
-use Rattle.guarded_memory.specs.Standings.{interface_status}
+use Rattle.guarded_memory.specs.declared.status.InterfaceStatus.{InterfaceStatus}
+use Rattle.guarded_memory.specs.Statuses.{interface_status}
 use Rattle.guarded_memory.specs.Contents.{page_counts, fits_range, has_bytes}
 use Rattle.guarded_memory.specs.Happenings.{byte_shown}
 use Rattle.trusted_memory.specs.{MemoryContents, bytes_from}
-unfoldable use Rattle.trusted_memory.specs.{byte_after, completion_bytes}
+unfoldable use Rattle.trusted_memory.specs.{byte_last_written, completion_bytes}
 use Rattle.trusted_memory.specs.declared.queue.WaitingRead.{WaitingRead}
 use Rattle.tlp_layout.specs.Outgoing.{outgoing_of, stream_taken}
-use Rattle.spec_interfaces.specs.Sites.{Site, sites, site_with, site_at}
+use Rattle.spec_interfaces.specs.Sites.{Site, sites, site_of_requester, site_at}
 use Rattle.spec_interfaces.specs.Floors.{place_of, interfaces_before}
 use Rattle.machine_whole.specs.Interfaces.{Face, grant_of}
 use Rattle.spec_links.specs.Guarded.{mmio_if, mmio_shown, mmio_by}
@@ -240,11 +240,11 @@ module _ (plan : Plan) (ends : List LinkEnds) (m : InterfacesView) (memory : Mem
 
   module _ (xs : List LinkAccesses) (whole : length xs ≡ length ends)
       (accesses : AreAccesses plan (link_seen xs) w.accesses) where
-    standings_there : (link : ℕ) (l : LinkEnds) (a : LinkAccesses) → slice_get ends link ≡ Some l
+    statuses_there : (link : ℕ) (l : LinkEnds) (a : LinkAccesses) → slice_get ends link ≡ Some l
         → slice_get xs link ≡ Some a
         → device_statuses a.floors l.device.interfaces ≡ face_statuses link (sites plan) w.faces.list
         w.accesses.floors
-    standings_there link l a is at =
+    statuses_there link l a is at =
         let floors : a.floors ≡ on_link link (sites plan) w.accesses.floors =
         ap (λ (o : Option LinkAccesses). option_map_or (λ x. x.floors) o []) (sym at) ∙ accesses.floors link in
         ap (numbered_statuses a.floors 0) (tdis_are link l is)
@@ -253,9 +253,9 @@ module _ (plan : Plan) (ends : List LinkEnds) (m : InterfacesView) (memory : Mem
         (floors_many w.accesses.floors link l is accesses.floored ∙ sym (faces_many link l is)) floors
         ∙ sym (both_on link (sites plan) w.faces.list w.accesses.floors beside.faced accesses.floored))
 
-    standings_nowhere : (link : ℕ) → length ends ≤ link
+    statuses_nowhere : (link : ℕ) → length ends ≤ link
         → [] ≡ face_statuses link (sites plan) w.faces.list w.accesses.floors
-    standings_nowhere link le =
+    statuses_nowhere link le =
         let none : on_link link (sites plan) w.faces.list ≡ [] =
         list_same (on_link link (sites plan) w.faces.list) [] (λ k.
         on_link_past plan link k w.faces.list beside.faced
@@ -267,15 +267,15 @@ module _ (plan : Plan) (ends : List LinkEnds) (m : InterfacesView) (memory : Mem
         sym (both_on link (sites plan) w.faces.list w.accesses.floors beside.faced accesses.floored
         ∙ ap (λ fs. statuses_both fs (on_link link (sites plan) w.accesses.floors)) none)
 
-    pub standings_are : (link : ℕ) → statuses_of_ends (slice_get ends link) (slice_get xs link)
+    pub statuses_are : (link : ℕ) → statuses_of_ends (slice_get ends link) (slice_get xs link)
         ≡ face_statuses link (sites plan) w.faces.list w.accesses.floors
-    standings_are link = ⊎_elim
+    statuses_are link = ⊎_elim
         (λ lt.
         let l = get_there ends link lt in
         let a = get_there xs link (omega (arith, lt, whole)) in
-        (λ i. statuses_of_ends (l.1 i) (a.1 i)) ∙ standings_there link l.0 a.0 l.1 a.1)
+        (λ i. statuses_of_ends (l.1 i) (a.1 i)) ∙ statuses_there link l.0 a.0 l.1 a.1)
         (λ le. ap (λ (o : Option LinkEnds). statuses_of_ends o (slice_get xs link)) (slice_get_past ends link le)
-        ∙ standings_nowhere link le)
+        ∙ statuses_nowhere link le)
         (cases_lt link (length ends))
 
     -- ---- answers
@@ -341,7 +341,7 @@ module _ (plan : Plan) (ends : List LinkEnds) (m : InterfacesView) (memory : Mem
             (λ not_so. not_so) cases
 
     pub reader_is : (link requester : ℕ)
-        → reader_of m link requester ≡ option_map (λ (x : Site). x.number) (site_with plan link requester)
+        → reader_of m link requester ≡ option_map (λ (x : Site). x.number) (site_of_requester plan link requester)
     reader_is link requester = ⊎_elim
         (λ s.
         ap (option_and_then small_number) (reader_known link requester s.place s.site s.site_is s.passes)
@@ -403,7 +403,7 @@ module _ (plan : Plan) (ends : List LinkEnds) (m : InterfacesView) (memory : Mem
       first_is link l [] is = refl
       first_is link l (r ∷ rs) is =
           ap (reply_numbered m l link memory r) (reader_is link r.read.requester)
-          ∙ numbered_is link l r (site_with plan link r.read.requester) is
+          ∙ numbered_is link l r (site_of_requester plan link r.read.requester) is
 
       pub reply_is : (link : ℕ)
           → reply_at_ends m (slice_get ends link) link memory (reads_at xs link) ≡ machine_completion plan w link

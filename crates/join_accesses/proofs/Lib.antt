@@ -18,7 +18,7 @@ pub use Rattle.join_world.proofs.Kept.{unasked_beside, view_beside, written_is, 
 pub use Rattle.join_world.proofs.Owners.{requester_found, requester_nowhere, requester_true}
 pub use Rattle.join_world.proofs.Places.{IsSomeSite, get_there, position_at, position_none, site_or_none, site_planned}
 pub use Rattle.join_world.proofs.Statuses.{live_is}
-pub use Rattle.join_accesses.proofs.Accessed.{standings_are}
+pub use Rattle.join_accesses.proofs.Accessed.{statuses_are}
 pub use Rattle.join_world.proofs.Rests.{draw_of_packets, is_of_packets, is_of_peer, is_of_ports}
 pub use Rattle.join_world.proofs.Rests.{managed_of_packets, next_of_ports, none_of_ports, of_ports}
 pub use Rattle.join_world.proofs.Sites.{face_found, interface_absent, interface_there, located_apart, located_kept}

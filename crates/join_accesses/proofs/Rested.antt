@@ -21,9 +21,9 @@ use Rattle.link_verdicts.specs.declared.verdict.Verdict.{Verdict}
 use Rattle.link_verdicts.specs.declared.verdict.Verdict.TheVariants as v
 use Rattle.link_verdicts.specs.declared.access.AccessVerdict.TheVariants as av
 use Rattle.trusted_memory.specs.declared.queue.WaitingRead.{WaitingRead}
-use Rattle.guarded_memory.specs.declared.standing.InterfaceStatus.{InterfaceStatus}
+use Rattle.guarded_memory.specs.declared.status.InterfaceStatus.{InterfaceStatus}
 use Rattle.spec_interfaces.specs.Devices.{is_run}
-use Rattle.spec_interfaces.specs.Floors.{floor_after}
+use Rattle.spec_interfaces.specs.Floors.{floor_after_event}
 use Rattle.spec_interfaces.specs.Sites.{Site}
 use Rattle.machine_whole.specs.Interfaces.{Face}
 unfoldable use Rattle.spec_links.specs.Ports.{port_of}
@@ -107,26 +107,26 @@ touches_memory (event.Interface (ie.Halt i loss)) = true
 touches_memory (event.Interface (ie.Flr i)) = true
 touches_memory e = false
 
-pub none_stored : (plan : Plan) (standings : ℕ → List InterfaceStatus) (e : Event) (port : PortName) (unit : UnitName)
+pub none_stored : (plan : Plan) (statuses : ℕ → List InterfaceStatus) (e : Event) (port : PortName) (unit : UnitName)
     (effects : List Effect) (link : ℕ)
-    → [] ≡ happens_by plan standings [] e (v.Accepted port unit effects) link
-none_stored plan standings e port unit effects link =
+    → [] ≡ happens_by plan statuses [] e (v.Accepted port unit effects) link
+none_stored plan statuses e port unit effects link =
     by ((port_of plan port).line == link) (is_device_port plan (port_of plan port))
   where
-    by : (a b : Bool) → [] ≡ (if a then (if b then stored_each (standings (port_of plan port).line) unit
+    by : (a b : Bool) → [] ≡ (if a then (if b then stored_each (statuses (port_of plan port).line) unit
         (plain_of plan port unit []) [] else []) else [])
     by true true = refl
     by true false = refl
     by false b = refl
 
-pub memory_rests : (plan : Plan) (standings : ℕ → List InterfaceStatus) (e : Event) (w : Verdict) (link : ℕ)
-    → touches_memory e ≡ false → [] ≡ happens_by plan standings [] e w link
-memory_rests plan standings e (v.Accepted port unit effects) link is =
-    none_stored plan standings e port unit effects link
-memory_rests plan standings (event.Reset l ends) (v.Reset k) link is = absurd cc
-memory_rests plan standings (event.Interface (ie.Halt i loss)) w link is = absurd cc
-memory_rests plan standings (event.Interface (ie.Flr i)) w link is = absurd cc
-memory_rests plan standings e w link is = refl
+pub memory_rests : (plan : Plan) (statuses : ℕ → List InterfaceStatus) (e : Event) (w : Verdict) (link : ℕ)
+    → touches_memory e ≡ false → [] ≡ happens_by plan statuses [] e w link
+memory_rests plan statuses e (v.Accepted port unit effects) link is =
+    none_stored plan statuses e port unit effects link
+memory_rests plan statuses (event.Reset l ends) (v.Reset k) link is = absurd cc
+memory_rests plan statuses (event.Interface (ie.Halt i loss)) w link is = absurd cc
+memory_rests plan statuses (event.Interface (ie.Flr i)) w link is = absurd cc
+memory_rests plan statuses e w link is = refl
 
 -- ---- floors
 
@@ -135,7 +135,7 @@ starts (event.Interface (ie.Start i loss)) = true
 starts e = false
 
 floor_rests : (e : Event) (x : Site) (ran runs : Bool) (draw floor : ℕ) → starts e ≡ false
-    → floor_after e x ran runs draw floor ≡ floor
+    → floor_after_event e x ran runs draw floor ≡ floor
 floor_rests (event.Interface (ie.Start i loss)) x ran runs draw floor is = absurd cc
 floor_rests e x ran runs draw floor is = refl
 
@@ -156,7 +156,8 @@ fewer x xs f g fs gs n ns many = record {
 -- each floor stays
 pub floors_stay : (e : Event) (draw : Site → ℕ) (xs : List Site) (fs gs : List Face) (ns : List ℕ)
     → ((i : ℕ) (x : Site) (ran runs : Bool) (floor : ℕ) → slice_get xs i ≡ Some x
-    → floor_after e x ran runs (draw x) floor ≡ floor) → AreMany xs fs gs ns → floors_after e draw xs fs gs ns ≡ ns
+    → floor_after_event e x ran runs (draw x) floor ≡ floor) → AreMany xs fs gs ns → floors_after e draw xs fs gs ns
+    ≡ ns
 floors_stay e draw [] fs gs [] stay many = refl
 floors_stay e draw [] fs gs (n ∷ ns) stay many = absurd (omega (arith, many.floors))
 floors_stay e draw (x ∷ xs) [] gs ns stay many = absurd (omega (arith, many.before))

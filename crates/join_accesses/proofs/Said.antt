@@ -19,7 +19,7 @@ use Rattle.join_world.specs.Worlds.{IsWholeState, world_of}
 use Rattle.join_world.proofs.Asked.{answer_is}
 use Rattle.join_world.proofs.Besides.{grant_is}
 use Rattle.join_world.proofs.Owners.{t_is}
-use Rattle.join_accesses.proofs.Accessed.{reply_is, shows_is, standings_are}
+use Rattle.join_accesses.proofs.Accessed.{reply_is, shows_is, statuses_are}
 
 -- effects depend on the same
 policy_is : (plan : Plan) (s : WholeLinks) (w : Whole) → AreLinks plan s.links.ends s.links.keeper.keys
@@ -33,8 +33,8 @@ policy_is plan s w links each whole =
       grants = λ link requester.
           grant_is plan ends m memory w whole.beside links.fits links.many link requester i;
       waiting = λ link. length (whole.accesses.reads link i);
-      standings = λ link.
-          standings_are plan ends m memory w whole.beside links.fits links.many s.accesses each whole.accesses link i;
+      statuses = λ link.
+          statuses_are plan ends m memory w whole.beside links.fits links.many s.accesses each whole.accesses link i;
     }
 
 -- only links have hops

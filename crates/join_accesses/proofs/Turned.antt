@@ -25,7 +25,7 @@ use Rattle.spec_keys.specs.History.{History}
 use Rattle.interface_state.specs.Machine.{Tdi}
 use Rattle.ide_prefix.specs.Packet.{Packet}
 use Rattle.trusted_memory.specs.declared.queue.WaitingRead.{WaitingRead}
-use Rattle.guarded_memory.specs.declared.standing.InterfaceStatus.{InterfaceStatus}
+use Rattle.guarded_memory.specs.declared.status.InterfaceStatus.{InterfaceStatus}
 use Rattle.guarded_memory.specs.Happenings.{Happened, InterfaceReset, AllReset, InterfaceStopped, newest_happened}
 use Rattle.spec_interfaces.specs.Devices.{is_run}
 use Rattle.spec_interfaces.specs.Exchanges.{carries, changes_device}
@@ -52,7 +52,7 @@ use Rattle.machine_whole.specs.Machine.{Whole, beside_of, ended_unit, arrival_of
 use Rattle.machine_whole.specs.Machine.{whole_faces_after}
 use Rattle.join_world.specs.Accesses.{AreAccesses, link_seen, on_link}
 use Rattle.join_world.specs.Whole.{IsPlaced, IsBeside}
-use Rattle.join_accesses.proofs.Accessed.{before_is, laid_many, place_is, site_found, site_lacking, standings_are}
+use Rattle.join_accesses.proofs.Accessed.{before_is, laid_many, place_is, site_found, site_lacking, statuses_are}
 use Rattle.join_world.proofs.Besides.{tdi_there}
 use Rattle.join_world.proofs.Kept.{AreBoth, interface_step}
 use Rattle.join_accesses.proofs.OnLinks.{on_link_set, on_link_other}
@@ -129,8 +129,8 @@ module _ (plan : Plan) (old new : WholeLinks) (w : Whole) (verdict : Verdict)
   abbrev AreAfter : Event → Type 0
   AreAfter e = AreAccesses plan (link_seen new.accesses) (whole_after plan w e verdict links_now).accesses
 
-  abbrev standings : ℕ → List InterfaceStatus
-  standings = λ link. face_statuses link (sites plan) w.faces.list w.accesses.floors
+  abbrev statuses : ℕ → List InterfaceStatus
+  statuses = λ link. face_statuses link (sites plan) w.faces.list w.accesses.floors
 
   abbrev faces_now : Event → List Face
   faces_now e = (whole_faces_after plan w e verdict links_now).list
@@ -146,7 +146,7 @@ module _ (plan : Plan) (old new : WholeLinks) (w : Whole) (verdict : Verdict)
       → ((link : ℕ) → floors_then link (on_link link (sites plan) w.accesses.floors)
       ≡ on_link link (sites plan)
       (floors_after e (device_draw_at plan w.links) (sites plan) w.faces.list (faces_now e) w.accesses.floors))
-      → ((link : ℕ) → happens link ≡ happens_by plan standings (ended_unit plan w e) e verdict link)
+      → ((link : ℕ) → happens link ≡ happens_by plan statuses (ended_unit plan w e) e verdict link)
       → ((link : ℕ) (d : Direction) (xs : List HopTlp) → link < 8 → carried_then link d xs
       ≡ waiting_next (unit_tlps plan (ended_unit plan w e) verdict) link d e verdict xs)
       → AreAfter e
@@ -199,8 +199,8 @@ module _ (plan : Plan) (old new : WholeLinks) (w : Whole) (verdict : Verdict)
       (λ link rs. reads_rest plan e verdict link rs reads
       ∙ ap (λ (ps : List Packet). waiting_reads_after plan ps e verdict link rs) (sym none))
       (floors_kept e after floors)
-      (λ link. memory_rests plan standings e verdict link memory
-      ∙ ap (λ (ps : List Packet). happens_by plan standings ps e verdict link) (sym none))
+      (λ link. memory_rests plan statuses e verdict link memory
+      ∙ ap (λ (ps : List Packet). happens_by plan statuses ps e verdict link) (sym none))
       (hops_kept e none hops)
 
   -- ---- arrivals
@@ -215,7 +215,7 @@ module _ (plan : Plan) (old new : WholeLinks) (w : Whole) (verdict : Verdict)
       (λ link rs. ap (λ (ps : List Packet). waiting_reads_after plan ps e verdict link rs) units)
       (floors_kept e after floors)
       (λ link. (λ i. happens_by plan
-      (λ l. standings_are plan old.links.ends.links old.links.keeper.interfaces old.links.trusted.contents w
+      (λ l. statuses_are plan old.links.ends.links old.links.keeper.interfaces old.links.trusted.contents w
       both.whole.beside both.links.fits both.links.many old.accesses many before l i) (units i) e verdict link))
       (λ link d xs lt.
       ap (λ (b : Bool). if b then waiting_next (unit_tlps plan (unit_in plan (links_state plan old.links)
@@ -230,7 +230,7 @@ module _ (plan : Plan) (old new : WholeLinks) (w : Whole) (verdict : Verdict)
   answered link after turn =
       let e = event.Access (ae.Answer link) in
       turned e (waiting_reads_after plan [] e verdict) same_floors nothing_happens same_carried after turn
-      (λ l rs. refl) (floors_kept e after refl) (λ l. memory_rests plan standings e verdict l refl)
+      (λ l rs. refl) (floors_kept e after refl) (λ l. memory_rests plan statuses e verdict l refl)
       (hops_kept e refl refl)
 
   -- ---- a forward
@@ -241,7 +241,7 @@ module _ (plan : Plan) (old new : WholeLinks) (w : Whole) (verdict : Verdict)
       let e = event.Forward link d in
       turned e same_reads same_floors nothing_happens (carried_after_event e verdict) after turn
       (λ l rs. reads_rest plan e verdict l rs refl) (floors_kept e after refl)
-      (λ l. memory_rests plan standings e verdict l refl) (hops_turn e refl)
+      (λ l. memory_rests plan statuses e verdict l refl) (hops_turn e refl)
 
   -- ---- a reset
 
@@ -253,7 +253,7 @@ module _ (plan : Plan) (old new : WholeLinks) (w : Whole) (verdict : Verdict)
       (carried_after_event e verdict) after
       turn (λ l rs. refl) (floors_kept e after refl)
       (λ l. ap (λ (u : Verdict). reset_happens u l) says ∙ (by (link == l)
-      ∙ sym (ap (λ (u : Verdict). happens_by plan standings [] e u l) says)))
+      ∙ sym (ap (λ (u : Verdict). happens_by plan statuses [] e u l) says)))
       (hops_turn e refl)
     where
       by : (b : Bool) → (if b then Some AllReset ∷ [] else []) ≡ happens_if b AllReset
@@ -268,7 +268,7 @@ module _ (plan : Plan) (old new : WholeLinks) (w : Whole) (verdict : Verdict)
       (carried_after_event e verdict) after
       turn (λ l rs. refl) (floors_kept e after refl)
       (λ l. ap (λ (u : Verdict). reset_happens u l) says
-      ∙ sym (ap (λ (u : Verdict). happens_by plan standings [] e u l) says))
+      ∙ sym (ap (λ (u : Verdict). happens_by plan statuses [] e u l) says))
       (hops_turn e refl)
 
   -- ---- one interface
@@ -354,9 +354,9 @@ module _ (plan : Plan) (old new : WholeLinks) (w : Whole) (verdict : Verdict)
 
   halt_happens : (i : ℕ) (loss : Option Loss) (w' : Verdict) (link : ℕ)
       → halted_at plan w' link (site_at plan i)
-      ≡ happens_by plan standings [] (event.Interface (ie.Halt i loss)) w' link
+      ≡ happens_by plan statuses [] (event.Interface (ie.Halt i loss)) w' link
   halt_happens i loss (v.Accepted port unit effects) link =
-      by (site_at plan i) ∙ none_stored plan standings (event.Interface (ie.Halt i loss)) port unit effects link
+      by (site_at plan i) ∙ none_stored plan statuses (event.Interface (ie.Halt i loss)) port unit effects link
     where
       by : (o : Option Site) → halted_at plan (v.Accepted port unit effects) link o ≡ []
       by None = refl
@@ -364,9 +364,9 @@ module _ (plan : Plan) (old new : WholeLinks) (w : Whole) (verdict : Verdict)
   halt_happens i loss w' link = refl
 
   flr_happens : (i : ℕ) (w' : Verdict) (link : ℕ)
-      → reset_at plan w' link (site_at plan i) ≡ happens_by plan standings [] (event.Interface (ie.Flr i)) w' link
+      → reset_at plan w' link (site_at plan i) ≡ happens_by plan statuses [] (event.Interface (ie.Flr i)) w' link
   flr_happens i (v.Accepted port unit effects) link =
-      by (site_at plan i) ∙ none_stored plan standings (event.Interface (ie.Flr i)) port unit effects link
+      by (site_at plan i) ∙ none_stored plan statuses (event.Interface (ie.Flr i)) port unit effects link
     where
       by : (o : Option Site) → reset_at plan (v.Accepted port unit effects) link o ≡ []
       by None = refl
@@ -546,7 +546,7 @@ module _ (plan : Plan) (old new : WholeLinks) (w : Whole) (verdict : Verdict)
         let x = get_there (sites plan) i lt in
         floors_there x.0 x.1 (both.whole.beside.placed i x.0 x.1) (after.placed i x.0 x.1) link)
         (λ le. floors_nowhere le link) (cases_lt i (length (sites plan))))
-        (λ l. memory_rests plan standings e_start verdict l refl) (hops_kept e_start refl refl)
+        (λ l. memory_rests plan statuses e_start verdict l refl) (hops_kept e_start refl refl)
 
   -- ---- all events
 

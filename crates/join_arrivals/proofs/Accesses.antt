@@ -57,7 +57,7 @@ use Rattle.gcm_seal.specs.Gcm.{masked_bytes}
 unfoldable use Rattle.gcm_seal.specs.Gcm.{open_of}
 use Rattle.gcm_seal.proofs.Sealing.{length-masked_bytes, masked_bytes-append}
 use Rattle.trusted_memory.specs.declared.queue.WaitingRead.{WaitingRead}
-use Rattle.guarded_memory.specs.declared.standing.InterfaceStatus.{InterfaceStatus}
+use Rattle.guarded_memory.specs.declared.status.InterfaceStatus.{InterfaceStatus}
 use Rattle.guarded_memory.specs.Happenings.{Happened, newest_happened}
 use Rattle.guarded_memory.specs.Contents.{MmioLeads, mmio_byte}
 use Rattle.spec_links.specs.Plan.{is_same_port, key_of}
@@ -205,13 +205,13 @@ module _ (plan : Plan) (ps : List Packet) (e : Event) (end port : PortName) (at 
 abbrev pub IsQuiet : Plan → Event → Type 0
 IsQuiet plan e = (w : Verdict) (k : ℕ) → asked_happens plan e w k ≡ []
 
-module _ (plan : Plan) (standings : ℕ → List InterfaceStatus) (ps : List Packet) (e : Event) (quiet : IsQuiet plan e)
+module _ (plan : Plan) (statuses : ℕ → List InterfaceStatus) (ps : List Packet) (e : Event) (quiet : IsQuiet plan e)
     (end port : PortName) (at : port_of plan end ≡ port) (effects : UnitName → List Effect) where
   abbrev happens : Arrival → ℕ → List (Option Happened)
-  happens answer k = happens_by plan standings ps e (arrival_verdict end port answer effects) k
+  happens answer k = happens_by plan statuses ps e (arrival_verdict end port answer effects) k
 
   abbrev stored_by_unit : UnitName → List (Option Happened)
-  stored_by_unit unit = unit_happenings (standings port.line) plan end unit ps
+  stored_by_unit unit = unit_happenings (statuses port.line) plan end unit ps
 
   happens_here : (answer : Arrival) → happens answer port.line ≡ of_unit answer stored_by_unit
   happens_here (came.Malformed fault) = quiet _ port.line
@@ -222,7 +222,7 @@ module _ (plan : Plan) (standings : ℕ → List InterfaceStatus) (ps : List Pac
   happens_here (came.Fail stream sub cause) = quiet _ port.line
   happens_here (came.Held unit) = quiet _ port.line
   happens_here (came.Accepted unit count) =
-      ap (λ (q : PortName). if q.line == port.line then unit_happenings (standings q.line) plan end unit ps else []) at
+      ap (λ (q : PortName). if q.line == port.line then unit_happenings (statuses q.line) plan end unit ps else []) at
       ∙ ap (λ (b : Bool). if b then stored_by_unit unit else []) (same-true port.line)
 
   happens_there : (answer : Arrival) (k : ℕ) → (port.line == k) ≡ false → happens answer k ≡ []
@@ -234,7 +234,7 @@ module _ (plan : Plan) (standings : ℕ → List InterfaceStatus) (ps : List Pac
   happens_there (came.Fail stream sub cause) k other = quiet _ k
   happens_there (came.Held unit) k other = quiet _ k
   happens_there (came.Accepted unit count) k other =
-      ap (λ (q : PortName). if q.line == k then unit_happenings (standings q.line) plan end unit ps else []) at
+      ap (λ (q : PortName). if q.line == k then unit_happenings (statuses q.line) plan end unit ps else []) at
       ∙ ap (λ (b : Bool). if b then stored_by_unit unit else []) other
 
 module _ (xs : List InterfaceStatus) (plan : Plan) (end port : PortName) (at : port_of plan end ≡ port)
@@ -375,8 +375,8 @@ module _ (plan : Plan) (ends : EndsView) (k : KeeperView) (packets : List LinkPa
   abbrev effects : UnitName → List Effect
   effects unit = effects_at regions m port l a unit delivered
 
-  abbrev standings : ℕ → List InterfaceStatus
-  standings = (policy_in m ends xs).standings
+  abbrev statuses : ℕ → List InterfaceStatus
+  statuses = (policy_in m ends xs).statuses
 
   agrees : {A : Type 0} (f g : UnitName → List Packet → List A) → OpensAs plan end f g
       → of_unit answer (λ unit. f unit ended) ≡ of_unit answer (λ unit. g unit delivered)
@@ -389,8 +389,8 @@ module _ (plan : Plan) (ends : EndsView) (k : KeeperView) (packets : List LinkPa
       agrees (λ unit ps. reads_by unit.draw (effects unit) ps) (λ unit ps. reads_by unit.draw (effects unit) ps)
       (λ unit ps. reads_opened unit.draw (effects unit) _ _ 0 ps)
 
-  standings_are : standings port.line ≡ link_statuses l a
-  standings_are = (λ i. statuses_of_ends (l_is i) (a_is i))
+  statuses_are : statuses port.line ≡ link_statuses l a
+  statuses_are = (λ i. statuses_of_ends (l_is i) (a_is i))
 
   stores_agree : (older : List Happened)
       → newest_happened (of_unit answer (λ unit. unit_happenings (link_statuses l a) plan end unit ended)) older
@@ -420,7 +420,7 @@ module _ (plan : Plan) (ends : EndsView) (k : KeeperView) (packets : List LinkPa
       → MmioLeads a.guarded (of_unit answer (λ unit. map (packet_stored (link_statuses l a) port unit) delivered))
       a'.guarded → a'.carried ≡ a.carried
       → TurnsHere (waiting_reads_after plan ended e says port.line) (same_floors port.line)
-      (happens_by plan standings ended e says port.line) (carried_next new e says port.line) a a'
+      (happens_by plan statuses ended e says port.line) (carried_next new e says port.line) a a'
   turns_here new a' reads floors sizes stored carried = record {
     reads_are = reads ∙ ap (λ (ws : List WaitingRead). a.reads ++ ws) (sym reads_agree)
         ∙ sym (reads_here plan ended e end port at effects answer a.reads);
@@ -429,11 +429,11 @@ module _ (plan : Plan) (ends : EndsView) (k : KeeperView) (packets : List LinkPa
     leads = λ older left.
         subst (λ (hs : List Happened). AreLeftBy (mmio_byte a'.guarded) hs)
         (sym (ap (λ (hs : List (Option Happened)). newest_happened hs older)
-        (happens_here plan standings ended e quiet end port at effects answer)
+        (happens_here plan statuses ended e quiet end port at effects answer)
         ∙ ap (λ (zs : List InterfaceStatus). newest_happened
         (of_unit answer (λ unit. unit_happenings zs plan end unit ended))
         older)
-        standings_are
+        statuses_are
         ∙ stores_agree older))
         (stored older left);
     carried_are = λ d. ap (λ (q : HopQueues). (queue_of q d).tlps) carried
@@ -441,14 +441,14 @@ module _ (plan : Plan) (ends : EndsView) (k : KeeperView) (packets : List LinkPa
   }
 
   rests_there : (new : List HopTlp) (i : ℕ) → (port.line == i) ≡ false
-      → RestsAt (waiting_reads_after plan ended e says) same_floors (happens_by plan standings ended e says)
+      → RestsAt (waiting_reads_after plan ended e says) same_floors (happens_by plan statuses ended e says)
       (carried_next new e says) i
   rests_there new i other = record {
     reads_rest = λ ws. reads_there plan ended e end port at effects answer i ws other;
     floors_rest = λ ns. refl;
     nothing = λ older.
         ap (λ (hs : List (Option Happened)). newest_happened hs older)
-        (happens_there plan standings ended e quiet end port at effects answer i other);
+        (happens_there plan statuses ended e quiet end port at effects answer i other);
     carried_rest = λ d ts. carried_same end port no_way new e effects i d ts answer;
   }
 
@@ -462,21 +462,21 @@ pub arrival_turns : (plan : Plan) (ends new : EndsView) (k : KeeperView) (packet
     → PortsStandFor plan (state_of plan ends k packets) h
     → (let ps = unit_in plan (state_of plan ends k packets) (Some (record { port = end; bytes = bytes })) in
     AccessesTurn (waiting_reads_after plan ps e verdict) same_floors
-    (happens_by plan (policy_in m ends xs).standings ps e verdict) (carried_next (unit_tlps plan ps verdict) e verdict)
+    (happens_by plan (policy_in m ends xs).statuses ps e verdict) (carried_next (unit_tlps plan ps verdict) e verdict)
     xs zs)
 arrival_turns plan ends new k packets m c d xs zs h end port here l a bytes verdict here_is l_is a_is at apart no_way
     brought e quiet links stands =
     let x = brought.arrives here l a here_is l_is a_is in
     let ps : List Packet = unit_in plan (state_of plan ends k packets) (Some (record { port = end; bytes = bytes })) in
-    let standings : ℕ → List InterfaceStatus = (policy_in m ends xs).standings in
+    let statuses : ℕ → List InterfaceStatus = (policy_in m ends xs).statuses in
     let says : Verdict = arrival_verdict end port (take_step here (cut_of bytes)).answer
     (λ unit. effects_at c.regions m port l a unit (take_step here (cut_of bytes)).port.delivered) in
     let tlps : List HopTlp = unit_tlps plan ps says in
     subst (λ (ws : List LinkAccesses). AccessesTurn (waiting_reads_after plan ps e verdict) same_floors
-    (happens_by plan standings ps e verdict) (carried_next (unit_tlps plan ps verdict) e verdict) xs ws)
+    (happens_by plan statuses ps e verdict) (carried_next (unit_tlps plan ps verdict) e verdict) xs ws)
     (sym x.accesses_are)
     (subst (λ (w : Verdict). AccessesTurn (waiting_reads_after plan ps e w) same_floors
-    (happens_by plan standings ps e w) (carried_next (unit_tlps plan ps w) e w) xs
+    (happens_by plan statuses ps e w) (carried_next (unit_tlps plan ps w) e w) xs
     (slice_set xs port.line x.access)) (sym x.came.verdict_is)
     (turn_at _ _ _ _ xs port.line a x.access a_is
     (turns_here plan ends k packets m c.regions xs h end port here l a links stands here_is l_is a_is at apart no_way e

@@ -67,7 +67,7 @@ Opens b end effects = (unit : UnitName) (key iv : List ℕ) (n : ℕ) (ps : List
 module _ (plan : Plan) (policy : Policy) (port : PortName) (unit : UnitName) (apart : at_switch plan port ≡ false) where
   abbrev effect_at : ℕ → Packet → Effect
   effect_at waiting p =
-      packet_effect plan.memory policy.grants (policy.standings port.line) waiting port unit p
+      packet_effect plan.memory policy.grants (policy.statuses port.line) waiting port unit p
 
   same_host : (waiting : ℕ) (p : Packet) (r : Result HeadView TlpFault)
       → head_effect plan.memory policy.grants port.line waiting unit p.prefix.t r
@@ -76,8 +76,8 @@ module _ (plan : Plan) (policy : Policy) (port : PortName) (unit : UnitName) (ap
   same_host waiting p (Ok head) = refl
 
   same_device : (p : Packet) (r : Result HeadView TlpFault)
-      → claimed_effect (policy.standings port.line) unit p.prefix.t r
-      ≡ device_effect (policy.standings port.line) unit p r
+      → claimed_effect (policy.statuses port.line) unit p.prefix.t r
+      ≡ device_effect (policy.statuses port.line) unit p r
   same_device p (Err f) = refl
   same_device p (Ok head) = refl
 
@@ -89,16 +89,16 @@ module _ (plan : Plan) (policy : Policy) (port : PortName) (unit : UnitName) (ap
       ∙ sym (ap (λ (b : Bool). if is_sync_packet p then effect.Sync else if b then switch_effect
       else if sent_direction port.side == 0
       then host_effect plan policy.grants waiting port unit p (read_head_of p.head)
-      else device_effect (policy.standings port.line) unit p (read_head_of p.head)) apart)
+      else device_effect (policy.statuses port.line) unit p (read_head_of p.head)) apart)
 
   -- decryption changes only bodies and tags
   pub opens_each : (waiting : ℕ) (key iv : List ℕ) (n : ℕ) (ps : List Packet)
-      → effects_from plan.memory policy.grants (policy.standings port.line) waiting port unit
+      → effects_from plan.memory policy.grants (policy.statuses port.line) waiting port unit
       (opened_from_byte key iv n ps) ≡ effects_each plan policy waiting port unit ps
   opens_each waiting key iv n [] = refl
   opens_each waiting key iv n (p ∷ ps) =
       (λ i. same_effect waiting p i
-      ∷ effects_from plan.memory policy.grants (policy.standings port.line) (waiting_then (same_effect waiting p i)
+      ∷ effects_from plan.memory policy.grants (policy.statuses port.line) (waiting_then (same_effect waiting p i)
       waiting) port unit (opened_from_byte key iv (n + length p.body) ps))
       ∙ ap (λ (es : List Effect). effect_by plan policy waiting port unit p ∷ es)
       (opens_each (waiting_then (effect_by plan policy waiting port unit p) waiting) key iv (n + length p.body) ps)

@@ -28,6 +28,6 @@ pub use Rattle.join_ends.proofs.{PairEnds, Plan, PortEnd, PortName, Side, Some, 
 pub use Rattle.join_ends.proofs.{changed_at, false, if◌then◌else◌, length, length-set, line_place, peer_live, map}
 pub use Rattle.join_ends.proofs.{nat_tests, none-some, option_map, pair_port, port_at_place, port_in, port_on, refl}
 pub use Rattle.join_ends.proofs.{rows_of, same_Some, settled_ends, settled_link, slice_get, slice_set, state_of, subst}
-pub use Rattle.join_ends.proofs.{suc, sym, take_step, true, with_pair_port, with_port, with_port_at, with_port_on, zero}
-pub use Rattle.join_ends.proofs.{ℕ, ◌++◌, ◌+◌, ◌-◌, ◌<◌, ◌==◌, ◌∙◌, ◌∷◌, ◌≡◌, ◌≤◌}
+pub use Rattle.join_ends.proofs.{suc, sym, take_step, true, with_pair_port, with_port, with_port_at_place, with_port_on}
+pub use Rattle.join_ends.proofs.{zero, ℕ, ◌++◌, ◌+◌, ◌-◌, ◌<◌, ◌==◌, ◌∙◌, ◌∷◌, ◌≡◌, ◌≤◌}
 pub use Rattle.arrival_verdicts.proofs.Writes.{IsEndOf, IsTaken, OpensAs, taken_is}

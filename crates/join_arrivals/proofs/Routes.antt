@@ -21,7 +21,8 @@ use Rattle.ide_types.specs.declared.plan.HopPlan.{HopPlan}
 use Rattle.ide_types.specs.declared.plan.PeerPlan.{PeerPlan}
 use Rattle.ide_types.specs.declared.stream.StreamPlan.{StreamPlan}
 use Rattle.ide_types.specs.Plans.{hop_has_id}
-use Rattle.ide_types.specs.Ends.{own_has_id, link_hop, port_beside_end, peer_link, hop_end, peer_end_at, end_on, end_at}
+use Rattle.ide_types.specs.Ends.{own_has_id, link_hop, port_beside_end, peer_link, hop_end, peer_end_at, end_at_port}
+use Rattle.ide_types.specs.Ends.{end_at}
 unfoldable use Rattle.ide_types.specs.Ends.{peer_end}
 use Rattle.ide_types.specs.Fits.{FitsPlan, FitsPeer}
 use Rattle.ide_types.proofs.EndsFound.{all_at}
@@ -345,7 +346,7 @@ module _ (plan : Plan) (fits : FitsPlan plan) where
   peers_there Device line id itself =
       found_there (end_of Device line) id itself (peer_end plan.peers 0 line id) refl
 
-  at_link_there : (q : PortName) (id : ℕ) → IsLinkPort q → has_port plan (end_on plan q id) ≡ true
+  at_link_there : (q : PortName) (id : ℕ) → IsLinkPort q → has_port plan (end_at_port plan q id) ≡ true
   at_link_there q id at =
       rw (lt-ltb q.line 8 at.low)
       (by (own_has_id (slice_get plan.links q.line) id) (hop_has_id (link_hop (slice_get plan.links q.line)) id) refl)
@@ -359,7 +360,8 @@ module _ (plan : Plan) (fits : FitsPlan plan) where
       by false true is = hop_there q.side q.line id at.low is
       by false false is = peers_there q.side q.line id itself
 
-  on_way_there : (q : PortName) (id : ℕ) → 8 ≤ q.line → has_port plan q ≡ true → has_port plan (end_on plan q id) ≡ true
+  on_way_there : (q : PortName) (id : ℕ) → 8 ≤ q.line → has_port plan q ≡ true → has_port plan (end_at_port plan q id)
+      ≡ true
   on_way_there q id least itself =
       let high : nat_lt q.line 8 ≡ false = grind (arith, nat_tests) in rw high itself
 
@@ -370,10 +372,10 @@ module _ (plan : Plan) (fits : FitsPlan plan) where
   met_there : (end : PortName) (id : ℕ) → has_port plan end ≡ true → StandsAt end → has_port plan (end_at plan end id)
       ≡ true
   met_there end id is (Apart at) =
-      subst (λ (q : PortName). has_port plan (end_on plan q id) ≡ true) (sym at.at_is)
+      subst (λ (q : PortName). has_port plan (end_at_port plan q id) ≡ true) (sym at.at_is)
       (at_link_there (port_of plan end) id at.port)
   met_there end id is (OnWay link d at) =
-      subst (λ (q : PortName). has_port plan (end_on plan q id) ≡ true) (sym (at.at_is ∙ at.port_is))
+      subst (λ (q : PortName). has_port plan (end_at_port plan q id) ≡ true) (sym (at.at_is ∙ at.port_is))
       (on_way_there end id at.line.0 is)
 
   pub reached_there : (end : PortName) (bytes : List ℕ) → has_port plan end ≡ true

@@ -3,7 +3,7 @@ use Rattle.std.specs.Prelude.{ℕ, ◌≡◌, List, [], length, slice_get, Optio
 use Rattle.ide_types.specs.declared.port.PortName.{PortName}
 use Rattle.link_verdicts.specs.declared.verdict.Verdict.{Verdict}
 use Rattle.link_verdicts.specs.declared.verdict.Verdict.TheVariants.{Nothing}
-use Rattle.guarded_memory.specs.declared.standing.InterfaceStatus.{InterfaceStatus}
+use Rattle.guarded_memory.specs.declared.status.InterfaceStatus.{InterfaceStatus}
 use Rattle.trusted_memory.specs.{MemoryContents}
 use Rattle.spec_links.specs.Memory.{Policy}
 pub use Rattle.join_ends.specs.Turns.{reads_at, floors_at, sizes_at, mmio_at, carried_on_link, AreLeftBy, AccessesTurn}
@@ -23,7 +23,7 @@ abbrev pub policy_in : InterfacesView → EndsView → List LinkAccesses → Pol
 policy_in m ends xs = record {
   grants = grants_in m;
   waiting = λ link. length (reads_at xs link);
-  standings = λ link. statuses_of_ends (slice_get ends.links link) (slice_get xs link);
+  statuses = λ link. statuses_of_ends (slice_get ends.links link) (slice_get xs link);
 }
 
 -- ---- arrivals

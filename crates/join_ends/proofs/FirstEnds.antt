@@ -32,7 +32,7 @@ use Rattle.link_ends.specs.LineEnds.{new_pair}
 use Rattle.all_ends.specs.{LinkEnds, new_ends, port_in, KeeperView}
 use Rattle.all_ends.specs.Requester.{requester_of}
 use Rattle.all_ends.specs.Ends.{ends_from, near_from, pairs_from, new_all_ends, port_at_place, pair_port, line_place}
-use Rattle.all_ends.specs.States.{ports_in, pair_ports, in_sixteen, rows_of, state_of, ops_in, IsLink, IsPair}
+use Rattle.all_ends.specs.States.{ports_in, pair_ports, in_sixteen, rows_of, state_of, ops_by_line, IsLink, IsPair}
 use Rattle.all_ends.specs.States.{AreLinks, IsBounded, StreamKept, KeptBy, name_of}
 use Rattle.all_ends.specs.declared.places.LinePlace.{LinePlace}
 use Rattle.all_ends.specs.declared.places.LinePlace.TheVariants.{Link, Near, Pair}
@@ -75,7 +75,7 @@ first_keeper plan = record { manager = new_manager plan.links plan.peers; pool =
 pub state_first : (plan : Plan) → FitsPlan plan
     → state_of plan (new_all_ends plan) (first_keeper plan) [] ≡ first_state plan
 state_first plan fits =
-    let ops = ap (ops_in (streams_by_line plan)) (manager_rows plan fits.links_most)
+    let ops = ap (ops_by_line (streams_by_line plan)) (manager_rows plan fits.links_most)
     ∙ ops_first 0 (streams_by_line plan) in
     λ i. record (first_state plan) { ports = rows_first plan i; ops = ops i }
 

@@ -11,24 +11,24 @@ use Rattle.machine_ports.specs.Machine.{first_ports}
 use Rattle.spec_stream.specs.Stream.{StreamState}
 use Rattle.tsm_host.specs.Streams.{StreamView, new_stream}
 use Rattle.tsm_host.specs.Managers.{new_streams}
-use Rattle.all_ends.specs.States.{ops_in, ops_of, views_after, name_of, names_of, names_from}
+use Rattle.all_ends.specs.States.{ops_by_line, line_ops, views_after, name_of, names_of, names_from_line}
 use Rattle.join_ends.proofs.FirstRows.{Rows, empty_rows, rows_from}
 
 -- ---- operations
 
 one_first : (line : ℕ) (ss : List StreamPlan) (rest : List StreamView)
-    → (ops_of ss (new_streams line ss ++ rest) ≡ map (λ (s : StreamPlan). Idle) ss)
+    → (line_ops ss (new_streams line ss ++ rest) ≡ map (λ (s : StreamPlan). Idle) ss)
     × (views_after ss (new_streams line ss ++ rest) ≡ rest)
 one_first line [] rest = (refl, refl)
 one_first line (s ∷ ss) rest = let more = one_first line ss rest in
     (ap (λ (os : List StreamStage). Idle ∷ os) more.0, more.1)
 
-pub ops_first : (line : ℕ) (rows : Rows) → ops_in rows (rows_from line rows)
+pub ops_first : (line : ℕ) (rows : Rows) → ops_by_line rows (rows_from line rows)
     ≡ map (map (λ (s : StreamPlan). Idle)) rows
 ops_first line [] = refl
 ops_first line (ss ∷ rows) =
     let one = one_first line ss (rows_from (line + 1) rows) in
-    (λ i. one.0 i ∷ ops_in rows (one.1 i))
+    (λ i. one.0 i ∷ ops_by_line rows (one.1 i))
     ∙ ap (λ (os : List (List StreamStage)). map (λ (s : StreamPlan). Idle) ss ∷ os) (ops_first (line + 1) rows)
 
 -- ---- names
@@ -37,7 +37,7 @@ names_one : (line : ℕ) (ss : List StreamPlan) → map name_of (new_streams lin
 names_one line [] = refl
 names_one line (s ∷ ss) = ap (λ (ns : List (ℕ × ℕ)). (line, s.id) ∷ ns) (names_one line ss)
 
-pub names_first : (line : ℕ) (rows : Rows) → map name_of (rows_from line rows) ≡ names_from line rows
+pub names_first : (line : ℕ) (rows : Rows) → map name_of (rows_from line rows) ≡ names_from_line line rows
 names_first line [] = refl
 names_first line (ss ∷ rows) =
     map-append name_of (new_streams line ss) (rows_from (line + 1) rows)

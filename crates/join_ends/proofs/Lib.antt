@@ -24,5 +24,5 @@ pub use Rattle.all_ends.proofs.Terms.{Some, UnitName, [], ap, append-nil, arith,
 pub use Rattle.all_ends.proofs.Terms.{length, length-set, line_place, peer_live, map, nat_tests, none-some, option_map}
 pub use Rattle.all_ends.proofs.Terms.{pair_port, port_at_place, port_in, port_on, refl, rows_of, same_Some}
 pub use Rattle.all_ends.proofs.Terms.{settled_ends, settled_link, slice_get, slice_set, state_of, subst, suc, sym}
-pub use Rattle.all_ends.proofs.Terms.{take_step, true, with_pair_port, with_port, with_port_at, with_port_on, zero, ℕ}
-pub use Rattle.all_ends.proofs.Terms.{◌++◌, ◌+◌, ◌-◌, ◌<◌, ◌==◌, ◌∙◌, ◌∷◌, ◌≡◌, ◌≤◌}
+pub use Rattle.all_ends.proofs.Terms.{take_step, true, with_pair_port, with_port, with_port_at_place, with_port_on}
+pub use Rattle.all_ends.proofs.Terms.{zero, ℕ, ◌++◌, ◌+◌, ◌-◌, ◌<◌, ◌==◌, ◌∙◌, ◌∷◌, ◌≡◌, ◌≤◌}

@@ -9,9 +9,9 @@ use Rattle.all_ends.proofs.Terms.{same_Some, nat_tests, set-get_or, Side, Host, 
 use Rattle.all_ends.proofs.Terms.{StreamStage, StreamState, streams_of, LinkState, LinkPacket, find_op}
 use Rattle.all_ends.proofs.Terms.{with_stream_state, port_at, StreamView, Named, named_stream, PortEnd, Found}
 use Rattle.all_ends.proofs.Terms.{found_stream, changed_states, LinkEnds, PairEnds, EndsView, with_port, with_pair_port}
-use Rattle.all_ends.proofs.Terms.{KeeperView, ops_in, ops_of, views_after, name_of, names_of, state_of, rows_of}
+use Rattle.all_ends.proofs.Terms.{KeeperView, ops_by_line, line_ops, views_after, name_of, names_of, state_of, rows_of}
 use Rattle.all_ends.proofs.Terms.{ports_in, pair_ports, in_sixteen, AreLinks, port_in, pair_port, port_on, with_port_on}
-use Rattle.all_ends.proofs.Terms.{port_at_place, with_port_at, line_place, changed_at, changed_same}
+use Rattle.all_ends.proofs.Terms.{port_at_place, with_port_at_place, line_place, changed_at, changed_same}
 unfoldable use Rattle.spec_links.specs.Plan.{streams_by_line}
 use Rattle.key_slots.specs.{Pool}
 use Rattle.spec_keys.specs.Operations.{Work, Reach}
@@ -24,7 +24,7 @@ use Rattle.ide_types.specs.declared.sub.SubKind.{SubKind}
 use Rattle.ide_types.specs.Lines.{is_hosted}
 use Rattle.machine_ports.specs.Touches.{touched_stream}
 use Rattle.spec_keys.specs.Keys.{Touch}
-use Rattle.tsm_host.specs.Walk.{op_by}
+use Rattle.tsm_host.specs.Walk.{op_if_reached}
 use Rattle.join_ends.proofs.Managers.{Apart, ops_changed}
 use Rattle.all_ends.proofs.ByPlace.{seen_same}
 use Rattle.all_ends.proofs.Finds.{wired, port_is, find_at, put_at, state_kept}
@@ -40,7 +40,7 @@ apart_set line id w (x ∷ vs) apart = rw (apart.0, apart_set line id w vs apart
 
 set_here : (line id : ℕ) (w : StreamView) (ss : List StreamPlan) (vs : List StreamView) (rest : List (ℕ × ℕ))
     → map name_of vs ≡ names_of line ss ++ rest → Apart line rest
-    → (ops_of ss (set_named line id w vs) ≡ machine.changed_by_id ss (ops_of ss vs) id w.op)
+    → (line_ops ss (set_named line id w vs) ≡ machine.changed_by_id ss (line_ops ss vs) id w.op)
     × (views_after ss (set_named line id w vs) ≡ views_after ss vs)
 set_here line id w [] vs rest names apart =
     (refl, apart_set line id w vs (subst (λ (ns : List (ℕ × ℕ)). Apart line ns) (sym names) apart))
@@ -52,7 +52,7 @@ set_here line id w (s ∷ ss) (x ∷ vs) rest names apart =
 
 set_other : (line id : ℕ) (w : StreamView) (from : ℕ) (ss : List StreamPlan) (vs : List StreamView)
     (rest : List (ℕ × ℕ)) → (from == line) ≡ false
-    → map name_of vs ≡ names_of from ss ++ rest → (ops_of ss (set_named line id w vs) ≡ ops_of ss vs) ×
+    → map name_of vs ≡ names_of from ss ++ rest → (line_ops ss (set_named line id w vs) ≡ line_ops ss vs) ×
     (views_after ss (set_named line id w vs) ≡ set_named line id w (views_after ss vs))
 set_other line id w from [] vs rest differs names = (refl, refl)
 set_other line id w from (s ∷ ss) [] rest differs names = absurd cc
@@ -88,7 +88,7 @@ state_ops plan v k k' packets n line id w links named streams es =
     let all = ops_changed line (set_named line id w) (λ ss os. machine.changed_by_id ss os id w.op)
     (record { here = set_here line id w; other = set_other line id w })
     (streams_by_line plan) 0 line k.manager.streams (omega arith) links.names in
-    ap (λ (vs : List StreamView). record (state_of plan es k' packets) { ops = ops_in (streams_by_line plan) vs })
+    ap (λ (vs : List StreamView). record (state_of plan es k' packets) { ops = ops_by_line (streams_by_line plan) vs })
     (streams ∙ named.sets w)
     ∙ ap (λ (os : List (List StreamStage)). record (state_of plan es k' packets) { ops = os }) all
 
@@ -104,7 +104,7 @@ port_operated e e' id x has = record {
 
 -- the far end, after a change of the near one
 pub other_at : (v : EndsView) (place : LinePlace) (e : PortEnd)
-    → port_at_place (with_port_at v Host place e) Device place ≡ port_at_place v Device place
+    → port_at_place (with_port_at_place v Host place e) Device place ≡ port_at_place v Device place
 other_at v (Link i) e = seen_same (λ (l : LinkEnds). port_in Device l) v.links i i (with_port Host e) (λ l. refl)
 other_at v (Near i) e = seen_same (λ (l : LinkEnds). port_in Device l) v.near i i (with_port Host e) (λ l. refl)
 other_at v (Pair i) e = seen_same (λ (l : PairEnds). pair_port Device l) v.pairs i i (with_pair_port Host e)
@@ -185,7 +185,7 @@ pub record IsDone (plan : Plan) (st : LinkState) (line id : ℕ) (q : StreamStag
     (x y : StreamState) (op : StreamStage) (draws : ℕ) : Type 0 where
   pub near_is : x ≡ touched_by plan st line id w Host r f.state
   pub far_is : y ≡ touched_by plan st line id w Device r g.state
-  pub op_is : op ≡ op_by (is_hosted line) q w r
+  pub op_is : op ≡ op_if_reached (is_hosted line) q w r
   pub draws_is : draws ≡ draws_by st.draws w r
 
 module _ (plan : Plan) (v v' : EndsView) (k k' : KeeperView) (packets : List LinkPacket) (line id : ℕ)
@@ -232,7 +232,7 @@ paired_rows (z ∷ ls) (suc i) l l' is =
     ap (λ (rows : List (List StreamState)). z.near.port.states ∷ z.far.port.states ∷ rows) (paired_rows ls i l l' is)
 
 abbrev pub both_at : EndsView → LinePlace → PortEnd → PortEnd → EndsView
-both_at v place near far = with_port_at (with_port_at v Host place near) Device place far
+both_at v place near far = with_port_at_place (with_port_at_place v Host place near) Device place far
 
 pub rows_link : (v : EndsView) (i : ℕ) (l l' : LinkEnds) → slice_get v.links i ≡ Some l
     → rows_of (record v { links = slice_set v.links i l' }) ≡ rows_of (both_at v (Link i) l'.host l'.device.port)

@@ -8,8 +8,8 @@ use Rattle.all_ends.proofs.Terms.{slice_set, map, if◌then◌else◌, nat_tests
 use Rattle.all_ends.proofs.Terms.{StreamStage, Idle, Side, Host, Device, PortName, Plan, StreamPlan, StreamState}
 use Rattle.all_ends.proofs.Terms.{LinkPacket, port_at, port_place, reset_state, StreamView, reset_stream, reset_manager}
 use Rattle.all_ends.proofs.Terms.{PortEnd, reset_port, EndsView, LinkEnds, PairEnds, KeeperView, ports_in, pair_ports}
-use Rattle.all_ends.proofs.Terms.{in_sixteen, rows_of, ops_in, ops_of, views_after, name_of, names_of, state_of}
-use Rattle.all_ends.proofs.Terms.{AreLinks, StreamKept, KeptBy, port_on, port_at_place, with_port_at, line_place}
+use Rattle.all_ends.proofs.Terms.{in_sixteen, rows_of, ops_by_line, line_ops, views_after, name_of, names_of, state_of}
+use Rattle.all_ends.proofs.Terms.{AreLinks, StreamKept, KeptBy, port_on, port_at_place, with_port_at_place, line_place}
 use Rattle.all_ends.proofs.Terms.{changed_at, port_in, pair_port, with_pair_port, cleared_on, cleared_ends}
 use Rattle.all_ends.proofs.Terms.{cleared_pair, unlocked_link, unlocked_ends, reset_all, reset_pair}
 use Rattle.all_ends.specs.Ends.{cleared_place, all_cleared}
@@ -142,7 +142,8 @@ module _ (plan : Plan) (k : KeeperView) (side : Side) (line : ℕ) where
       ∙ set-get_or (rows_of v) (port_place (end_of s)) [])
 
   put_row : (v : EndsView) (s : Side) (e : PortEnd) → AreLinks plan v k → port_on v (end_of s) ≡ Some e
-      → rows_of (with_port_at v s (line_place line) (reset_port e)) ≡ machine.row_cleared plan (end_of s) (rows_of v)
+      → rows_of (with_port_at_place v s (line_place line) (reset_port e))
+      ≡ machine.row_cleared plan (end_of s) (rows_of v)
   put_row v s e links is =
       rows_set v (wired plan v k links) (end_of s) e (reset_port e) is
       ∙ ap (λ (ss : List StreamPlan). slice_set (rows_of v) (port_place (end_of s))
@@ -152,7 +153,7 @@ module _ (plan : Plan) (k : KeeperView) (side : Side) (line : ℕ) where
       → port_on v (end_of Device) ≡ Some far
       → rows_of (both_at v (line_place line) (reset_port near) (reset_port far)) ≡ both_rows (rows_of v)
   both_put v near far links near_is far_is =
-      let v1 : EndsView = with_port_at v Host (line_place line) (reset_port near) in
+      let v1 : EndsView = with_port_at_place v Host (line_place line) (reset_port near) in
       let links1 : AreLinks plan v1 k =
       end_kept plan v k links (end_of Host) near (reset_port near) near_is (port_cleared near) in
       put_row v1 Device far links1 (other_at v (line_place line) (reset_port near) ∙ far_is)
@@ -253,7 +254,7 @@ module _ (plan : Plan) (k : KeeperView) (side : Side) (line : ℕ) where
       by_item (Some l) false is hop =
           ap (λ (c : Bool). rows_of (record v { pairs = changed_at v.pairs i (cleared_if c) })) hop
           ∙ (ap (λ (ls : List PairEnds). rows_of (record v { pairs = ls })) (one_put side l is)
-          ∙ (ap (λ (p : LinePlace). rows_of (with_port_at v side p (reset_port (pair_port side l)))) (sym at)
+          ∙ (ap (λ (p : LinePlace). rows_of (with_port_at_place v side p (reset_port (pair_port side l)))) (sym at)
           ∙ (put_row v side (pair_port side l) links (seen side l is) ∙ ap rows_if (sym hop))))
 
 cleared_rows : (plan : Plan) (v : EndsView) (k : KeeperView) (end : PortName) → AreLinks plan v k
@@ -291,7 +292,7 @@ apart_kept e (v ∷ vs) is = (λ i. one i ∷ apart_kept e vs is.1 i)
 
 reset_here : (e : PortName) (ss : List StreamPlan) (vs : List StreamView) (rest : List (ℕ × ℕ)) → map name_of vs
     ≡ names_of e.line ss ++ rest → Apart e.line rest
-    → (ops_of ss (map (reset_stream (e ∷ [])) vs) ≡ map (λ (s : StreamPlan). machine.op_when_cut e.line) ss)
+    → (line_ops ss (map (reset_stream (e ∷ [])) vs) ≡ map (λ (s : StreamPlan). machine.op_when_cut e.line) ss)
     × (views_after ss (map (reset_stream (e ∷ [])) vs) ≡ views_after ss vs)
 reset_here e [] vs rest names apart =
     (refl, apart_kept e vs (subst (λ (ns : List (ℕ × ℕ)). Apart e.line ns) (sym names) apart))
@@ -303,7 +304,7 @@ reset_here e (s ∷ ss) (v ∷ vs) rest names apart =
 
 reset_other : (e : PortName) (from : ℕ) (ss : List StreamPlan) (vs : List StreamView) (rest : List (ℕ × ℕ))
     → (from == e.line) ≡ false → map name_of vs ≡ names_of from ss ++ rest
-    → (ops_of ss (map (reset_stream (e ∷ [])) vs) ≡ ops_of ss vs)
+    → (line_ops ss (map (reset_stream (e ∷ [])) vs) ≡ line_ops ss vs)
     × (views_after ss (map (reset_stream (e ∷ [])) vs) ≡ map (reset_stream (e ∷ [])) (views_after ss vs))
 reset_other e from [] vs rest differs names = (refl, refl)
 reset_other e from (s ∷ ss) [] rest differs names = absurd cc
@@ -331,15 +332,16 @@ reset_nothing [] = refl
 reset_nothing (v ∷ vs) = (λ i. v ∷ reset_nothing vs i)
 
 ops_cut : (plan : Plan) (es : List PortName) (vs : List StreamView) (v : EndsView) (k : KeeperView) → AreLinks plan v k
-    → map name_of vs ≡ map name_of k.manager.streams → ops_in (streams_by_line plan) (map (reset_stream es) vs)
-    ≡ machine.all_cut plan es (ops_in (streams_by_line plan) vs)
-ops_cut plan [] vs v k links names = ap (λ (us : List StreamView). ops_in (streams_by_line plan) us) (reset_nothing vs)
+    → map name_of vs ≡ map name_of k.manager.streams → ops_by_line (streams_by_line plan) (map (reset_stream es) vs)
+    ≡ machine.all_cut plan es (ops_by_line (streams_by_line plan) vs)
+ops_cut plan [] vs v k links names = ap (λ (us : List StreamView). ops_by_line (streams_by_line plan) us)
+    (reset_nothing vs)
 ops_cut plan (e ∷ es) vs v k links names =
     let first = ops_changed e.line (map (reset_stream (e ∷ [])))
     (λ ss os. map (λ (s : StreamPlan). machine.op_when_cut e.line) ss)
     (record { here = reset_here e; other = reset_other e })
     (streams_by_line plan) 0 e.line vs (omega arith) (names ∙ links.names) in
-    ap (λ (us : List StreamView). ops_in (streams_by_line plan) us) (one_more e es vs)
+    ap (λ (us : List StreamView). ops_by_line (streams_by_line plan) us) (one_more e es vs)
     ∙ (ops_cut plan es (map (reset_stream (e ∷ [])) vs) v k links (reset_names (e ∷ []) vs ∙ names)
     ∙ ap (λ (os : List (List StreamStage)). machine.all_cut plan es os) first)
 

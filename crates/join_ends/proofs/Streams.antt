@@ -10,7 +10,7 @@ use Rattle.all_ends.proofs.Terms.{StreamStage, replicate, History, Side, Host, D
 use Rattle.all_ends.proofs.Terms.{StreamPlan, StreamState, streams_of, stream_plan, LinkPacket, find, find_op, port_at}
 use Rattle.all_ends.proofs.Terms.{port_place, machine_status, PortsStandFor, stream_state_due, op_at, ManagerView}
 use Rattle.all_ends.proofs.Terms.{Named, named_stream, op_named, PortEnd, Found, found_stream, port_stream_status}
-use Rattle.all_ends.proofs.Terms.{EndsView, KeeperView, ports_in, pair_ports, rows_of, ops_in, state_of, AreLinks}
+use Rattle.all_ends.proofs.Terms.{EndsView, KeeperView, ports_in, pair_ports, rows_of, ops_by_line, state_of, AreLinks}
 use Rattle.all_ends.proofs.Terms.{op_named_first, stream_named, port_on, port_at_place, sent_direction, PairEnds}
 use Rattle.all_ends.proofs.Terms.{LinkEnds, nat_lt, nat_le, ◌&&◌, with_id}
 use Rattle.ide_types.specs.Fits.{FitsPlan}
@@ -212,7 +212,7 @@ unnamed plan v k packets line stream links is =
     (is_some (named_stream k.manager line stream)) refl refl refl refl is
   where
     os : List StreamStage
-    os = slice_index_or (ops_in (streams_by_line plan) k.manager.streams) line []
+    os = slice_index_or (ops_by_line (streams_by_line plan) k.manager.streams) line []
 
     gone : port_on v (host_port line) ≡ None → machine.found_by_id (streams_of plan line) os stream ≡ None
     gone none = ap (λ (ss : List StreamPlan). machine.found_by_id ss os stream)

@@ -23,7 +23,7 @@ use Rattle.machine_ports.specs.Machine.{LinkState, found_by_id, port_at, status_
 unfoldable use Rattle.machine_ports.specs.Machine.{find}
 use Rattle.machine_whole.specs.Machine.{live_draw_at_end}
 use Rattle.std.specs.Option.{option_and_then}
-use Rattle.join_interfaces.specs.Says.{AreApart, says_in}
+use Rattle.join_interfaces.specs.Says.{AreApart, says_by_ports}
 
 -- ---- the IDs of streams between devices
 
@@ -80,7 +80,7 @@ not_there plan st link id lt none =
     none_found (streams_of plan link) _ id (stream_is_there plan link id ∙ line_is plan link id lt ∙ none)
 
 pub are_apart : (plan : Plan) (st : LinkState) (link : ℕ) → FitsPlan plan → link < 8
-    → AreApart (λ id. is_some (peer_end plan.peers 0 link id)) (says_in plan st link)
+    → AreApart (λ id. is_some (peer_end plan.peers 0 link id)) (says_by_ports plan st link)
 are_apart plan st link fits lt = record {
   live = λ id is. there (peer_end plan.peers 0 link id) id is;
   secure = λ id is.

@@ -95,8 +95,8 @@ module _ (x : Site) (draw drawn portion place : ℕ) (said : StreamSaid) (ps : P
     (d : DeviceTdis) (tdi : Tdi) (m : Managed) (read : Read) (host : StreamStatus) (peer : PeerStream)
     (draw_is : peer.draw ≡ ps.draw peer.line peer.id) (live_is : said.live ≡ ps.live peer.id)
     (same : slice_set d.interfaces place tdi ≡ d.interfaces) where
-  abbrev standing : Seen → AskedState
-  standing seen = stands x said ps (next_nonce d) tdi (managed_as_seen seen m) host draw drawn
+  abbrev state_asked : Seen → AskedState
+  state_asked seen = stands x said ps (next_nonce d) tdi (managed_as_seen seen m) host draw drawn
 
   abbrev there : NamedTdi
   there = record { place = place; tdi = tdi }
@@ -105,7 +105,7 @@ module _ (x : Site) (draw drawn portion place : ℕ) (said : StreamSaid) (ps : P
   answered = bind_answer tdi peer.id (ps.live peer.id)
 
   asked : (seen : Seen) (l : Option Lost) → lost_message loss 1 ≡ l → IsKey (nonce_of seen)
-      → Comes x (standing seen) place (op.Bind peer) loss d (by_loss l 1 (verdict_of_bind x peer.line answered))
+      → Comes x (state_asked seen) place (op.Bind peer) loss d (by_loss l 1 (verdict_of_bind x peer.line answered))
       (stated_once portion drawn said l there (at_step (step.Bind peer) (host_of x draw seen m) d))
   asked seen l is key = record {
     verdict = subst (λ (k : Option ℕ). outcome_verdict x.number loss []
@@ -126,15 +126,15 @@ module _ (x : Site) (draw drawn portion place : ℕ) (said : StreamSaid) (ps : P
   refused : (seen : Seen) (due : Verdict) (r : InterfaceRefusal) → IsKey (nonce_of seen) → carries due 1 ≡ false
       → on_bind peer.line (managed_as_seen seen m) due ≡ managed_as_seen seen m
       → outcome_verdict x.number loss [] (outcome.Refused r) ≡ Some due
-      → Comes x (standing seen) place (op.Bind peer) loss d due (refused_walk r (host_of x draw seen m) read d)
+      → Comes x (state_asked seen) place (op.Bind peer) loss d due (refused_walk r (host_of x draw seen m) read d)
   refused seen due r key none kept is =
-      quiet x (standing seen) place (op.Bind peer) loss d due _ _ _ same
+      quiet x (state_asked seen) place (op.Bind peer) loss d due _ _ _ same
       (ap (λ b. interface_if_called b (BindStream peer.id (ps.live peer.id)) tdi) none) refl kept
       (managed_of x draw seen _ (told_seen seen m) key) is
 
   -- if the stream was keyed since
   fresh : (seen : Seen) (stale : Bool) → IsKey (nonce_of seen)
-      → Comes x (standing seen) place (op.Bind peer) loss d
+      → Comes x (state_asked seen) place (op.Bind peer) loss d
       (if stale then v.Interface (iv.RefusedRefreshFirst (ps.draw peer.line peer.id) (managed_as_seen seen m).needs)
       else due_unless_lost loss 1 (verdict_of_bind x peer.line answered))
       (begun_walk (if stale then Some
@@ -143,13 +143,13 @@ module _ (x : Site) (draw drawn portion place : ℕ) (said : StreamSaid) (ps : P
       (stated_alone (step.Bind peer) portion drawn said loss (host_of x draw seen m) d there))
   fresh seen true key = refused seen _ _ key refl refl refl
   fresh seen false key =
-      subst (λ w. Comes x (standing seen) place (op.Bind peer) loss d w
+      subst (λ w. Comes x (state_asked seen) place (op.Bind peer) loss d w
       (stated_alone (step.Bind peer) portion drawn said loss (host_of x draw seen m) d there))
       (sym (once_lost loss (verdict_of_bind x peer.line answered))) (asked seen (lost_message loss 1) refl key)
 
   -- of a view that allows it
   abbrev Allowed : Seen → StreamStatus → Type 0
-  Allowed seen up = Comes x (standing seen) place (op.Bind peer) loss d
+  Allowed seen up = Comes x (state_asked seen) place (op.Bind peer) loss d
       (if_secure up
       (if_fresh (ps.draw peer.line peer.id) (managed_as_seen seen m).needs
       (due_unless_lost loss 1 (verdict_of_bind x peer.line answered))))
@@ -166,8 +166,8 @@ module _ (x : Site) (draw drawn portion place : ℕ) (said : StreamSaid) (ps : P
   allowed seen status.Insecure key = refused seen _ _ key refl refl refl
 
   by_view : (seen : Seen) → IsKey (nonce_of seen)
-      → Comes x (standing seen) place (op.Bind peer) loss d
-      (bind_due x (standing seen) peer.line peer.id loss)
+      → Comes x (state_asked seen) place (op.Bind peer) loss d
+      (bind_due x (state_asked seen) peer.line peer.id loss)
       (begun_walk (bind_refusal (op_status (ps.op peer.line peer.id))
       (ps.draw peer.line peer.id) (managed_as_seen seen m).needs seen) (host_of x draw seen m) read d
       (stated_alone (step.Bind peer) portion drawn said loss (host_of x draw seen m) d there))
@@ -180,14 +180,14 @@ module _ (x : Site) (draw drawn portion place : ℕ) (said : StreamSaid) (ps : P
   by_view IsBroken key = refused IsBroken _ _ key refl refl refl
 
   pub bind_comes : (seen : Seen) → IsKey (nonce_of seen)
-      → Comes x (standing seen) place (op.Bind peer) loss d
-      (bind_due x (standing seen) peer.line peer.id loss)
+      → Comes x (state_asked seen) place (op.Bind peer) loss d
+      (bind_due x (state_asked seen) peer.line peer.id loss)
       (begun_walk (bind_refusal (op_status (ps.op peer.line peer.id)) peer.draw (managed_as_seen seen m).needs seen)
       (host_of x draw seen m) read d
       (stated_alone (step.Bind peer) portion drawn said loss (host_of x draw seen m) d there))
   bind_comes seen key =
-      subst (λ (k : ℕ). Comes x (standing seen) place (op.Bind peer) loss d
-      (bind_due x (standing seen) peer.line peer.id loss)
+      subst (λ (k : ℕ). Comes x (state_asked seen) place (op.Bind peer) loss d
+      (bind_due x (state_asked seen) peer.line peer.id loss)
       (begun_walk (bind_refusal (op_status (ps.op peer.line peer.id)) k (managed_as_seen seen m).needs seen)
       (host_of x draw seen m) read d
       (stated_alone (step.Bind peer) portion drawn said loss (host_of x draw seen m) d there))) (sym draw_is)

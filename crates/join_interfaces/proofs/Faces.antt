@@ -20,7 +20,7 @@ use Rattle.spec_interfaces.specs.Views.{is_number, number_in, on_operation}
 use Rattle.spec_interfaces.specs.Devices.{Around, interface_asked, interface_if_called, lock_call}
 use Rattle.spec_interfaces.specs.Exchanges.{carries}
 use Rattle.spec_interfaces.specs.Due.{lock_answer_at}
-use Rattle.machine_whole.specs.Interfaces.{Face, Streams, ends_of, around_of, face_after}
+use Rattle.machine_whole.specs.Interfaces.{Face, Streams, ends_of_streams, around_of, next_face}
 use Rattle.interface_host.specs.declared.operation.InterfaceOperation.{InterfaceOperation}
 use Rattle.interface_host.specs.declared.operation.InterfaceOperation.TheVariants as op
 use Rattle.join_interfaces.specs.Verdicts.{op_event}
@@ -41,7 +41,7 @@ pub face_behind : (plan : Plan) (s : Streams) (used : ℕ → ℕ) (x : Site) (f
     → (let k : Face = record {
       tdi = interface_asked (around_of plan s used x f) x (op_event o x.number loss) due f.tdi;
       managed = on_operation s.drawn (op_event o x.number loss) due f.managed;
-    } in k) ≡ face_after plan s (ends_of s) used (event.Interface (op_event o x.number loss)) due x f
+    } in k) ≡ next_face plan s (ends_of_streams s) used (event.Interface (op_event o x.number loss)) due x f
 face_behind plan s used x f o loss due = ap
     (λ (b : Bool). let k : Face = record {
       tdi = if b then interface_asked (around_of plan s used x f) x (op_event o x.number loss) due f.tdi else f.tdi;

@@ -60,14 +60,14 @@ halt_managed x draw draws seen m (Some Reply) = managed_of x draw IsDoubt _ refl
 module _ (x : Site) (draw drawn portion place : ℕ) (said : StreamSaid) (ps : PeersRead) (loss : Option Loss)
     (d : DeviceTdis) (tdi : Tdi)
     (m : Managed) (seen : Seen) (host : StreamStatus) where
-  abbrev standing : AskedState
-  standing = stands x said ps (next_nonce d) tdi (managed_as_seen seen m) host draw drawn
+  abbrev state_asked : AskedState
+  state_asked = stands x said ps (next_nonce d) tdi (managed_as_seen seen m) host draw drawn
 
   abbrev there : NamedTdi
   there = record { place = place; tdi = tdi }
 
   asked : (l : Option Lost) → lost_message loss 1 ≡ l → slice_set d.interfaces place tdi ≡ d.interfaces
-      → Comes x standing place op.Halt loss d (by_loss l 1 (verdict_of_halt x drawn (managed_as_seen seen m)))
+      → Comes x state_asked place op.Halt loss d (by_loss l 1 (verdict_of_halt x drawn (managed_as_seen seen m)))
       (stated_once portion drawn said l there (at_step step.Halt (host_of x draw seen m) d))
   asked l is same = record {
     verdict = halt_verdict x drawn (managed_as_seen seen m) loss l is;
@@ -76,9 +76,9 @@ module _ (x : Site) (draw drawn portion place : ℕ) (said : StreamSaid) (ps : P
   }
 
   pub halt_comes : slice_set d.interfaces place tdi ≡ d.interfaces
-      → Comes x standing place op.Halt loss d (halt_due x standing loss)
+      → Comes x state_asked place op.Halt loss d (halt_due x state_asked loss)
       (stated_alone step.Halt portion drawn said loss (host_of x draw seen m) d there)
   halt_comes same =
-      subst (λ w. Comes x standing place op.Halt loss d w
+      subst (λ w. Comes x state_asked place op.Halt loss d w
       (stated_alone step.Halt portion drawn said loss (host_of x draw seen m) d there))
       (sym (once_lost loss (verdict_of_halt x drawn (managed_as_seen seen m)))) (asked (lost_message loss 1) refl same)

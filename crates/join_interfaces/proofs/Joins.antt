@@ -72,8 +72,8 @@ module _ (laws : Laws) (fuel : ℕ) (x : Site) (plan : Plan) (draw drawn portion
     (said : StreamSaid) (ps : PeersRead) (loss : Option Loss) (d : DeviceTdis) (tdi : Tdi) (m : Managed) (read : Read)
     (seen : Seen) (host : StreamStatus)
   where
-    abbrev standing : AskedState
-    standing = stands x said ps (next_nonce d) tdi (managed_as_seen seen m) host draw drawn
+    abbrev state_asked : AskedState
+    state_asked = stands x said ps (next_nonce d) tdi (managed_as_seen seen m) host draw drawn
 
     abbrev there : NamedTdi
     there = record { place = place; tdi = tdi }
@@ -104,13 +104,14 @@ module _ (laws : Laws) (fuel : ℕ) (x : Site) (plan : Plan) (draw drawn portion
     comes : (o : InterfaceOperation) → FitsNamedPeer (has_peer plan.peers x.link) ps.draw ps.live said.live o
         → Meets portion (host_of x draw seen m) d there → portion ≡ plan.portion
         → tdi.plan ≡ x.plan → 1140 ≤ fuel
-        → Comes x standing place o loss d (asked_due plan x standing (op_event o x.number loss))
+        → Comes x state_asked place o loss d (asked_due plan x state_asked (op_event o x.number loss))
         (begun_walk (interface_refusal_of o (op_host ps.op host o) (host_of x draw seen m))
         (host_of x draw seen m) read d
         (interface_walk fuel portion drawn said loss (begun_walking o (host_of x draw seen m) d)))
     comes op.Lock fits meet same layout enough =
         let i = host_of x draw seen m in
-        subst (λ w. Comes x standing place op.Lock loss d (asked_due plan x standing (op_event op.Lock x.number loss))
+        subst (λ w. Comes x state_asked place op.Lock loss d
+        (asked_due plan x state_asked (op_event op.Lock x.number loss))
         (begun_walk (interface_refusal_of op.Lock host i) i read d w))
         (stated_walk laws op.Lock fuel portion drawn said loss i d there tt meet (omega arith))
         (lock_comes x draw drawn portion place said ps loss d tdi m read seen host
@@ -121,45 +122,48 @@ module _ (laws : Laws) (fuel : ℕ) (x : Site) (plan : Plan) (draw drawn portion
         (report_walk (lock_of tdi.state) refl meet same meet.report enough)
     comes op.Start fits meet same layout enough =
         let i = host_of x draw seen m in
-        subst (λ w. Comes x standing place op.Start loss d (asked_due plan x standing (op_event op.Start x.number loss))
+        subst (λ w. Comes x state_asked place op.Start loss d
+        (asked_due plan x state_asked (op_event op.Start x.number loss))
         (begun_walk (interface_refusal_of op.Start host i) i read d w))
         (stated_walk laws op.Start fuel portion drawn said loss i d there tt meet (omega arith))
         (start_comes x draw drawn portion place said ps loss d tdi m read seen host
         (same_set d x.plan.requester there meet.named_is) meet.nonce)
     comes op.Halt fits meet same layout enough =
         let i = host_of x draw seen m in
-        subst (λ w. Comes x standing place op.Halt loss d (asked_due plan x standing (op_event op.Halt x.number loss))
+        subst (λ w. Comes x state_asked place op.Halt loss d
+        (asked_due plan x state_asked (op_event op.Halt x.number loss))
         (begun_walk (interface_refusal_of op.Halt host i) i read d w))
         (stated_walk laws op.Halt fuel portion drawn said loss i d there tt meet (omega arith))
         (halt_comes x draw drawn portion place said ps loss d tdi m seen host
         (same_set d x.plan.requester there meet.named_is))
     comes op.State fits meet same layout enough =
         let i = host_of x draw seen m in
-        subst (λ w. Comes x standing place op.State loss d (asked_due plan x standing (op_event op.State x.number loss))
+        subst (λ w. Comes x state_asked place op.State loss d
+        (asked_due plan x state_asked (op_event op.State x.number loss))
         (begun_walk (interface_refusal_of op.State host i) i read d w))
         (stated_walk laws op.State fuel portion drawn said loss i d there tt meet (omega arith))
         (state_comes x draw drawn portion place said ps loss d tdi m seen host
         (same_set d x.plan.requester there meet.named_is) meet.nonce)
     comes (op.Bind peer) fits meet same layout enough =
         let i = host_of x draw seen m in
-        subst (λ (b : Bool). Comes x standing place (op.Bind peer) loss d
-        (if b then bind_due x standing peer.line peer.id loss else v.Nothing)
+        subst (λ (b : Bool). Comes x state_asked place (op.Bind peer) loss d
+        (if b then bind_due x state_asked peer.line peer.id loss else v.Nothing)
         (begun_walk (interface_refusal_of (op.Bind peer) (op_host ps.op host (op.Bind peer)) i) i read d
         (interface_walk fuel portion drawn said loss (begun_walking (op.Bind peer) i d)))) (sym fits.0)
-        (subst (λ w. Comes x standing place (op.Bind peer) loss d
-        (bind_due x standing peer.line peer.id loss)
+        (subst (λ w. Comes x state_asked place (op.Bind peer) loss d
+        (bind_due x state_asked peer.line peer.id loss)
         (begun_walk (interface_refusal_of (op.Bind peer) (op_host ps.op host (op.Bind peer)) i) i read d w))
         (stated_walk laws (op.Bind peer) fuel portion drawn said loss i d there fits.1 meet (omega arith))
         (bind_comes x draw drawn portion place said ps loss d tdi m read host peer fits.2 fits.3
         (same_set d x.plan.requester there meet.named_is) seen meet.nonce))
     comes (op.Unbind peer) fits meet same layout enough =
         let i = host_of x draw seen m in
-        subst (λ (b : Bool). Comes x standing place (op.Unbind peer) loss d
-        (if b then unbind_due x standing peer.line peer.id loss else v.Nothing)
+        subst (λ (b : Bool). Comes x state_asked place (op.Unbind peer) loss d
+        (if b then unbind_due x state_asked peer.line peer.id loss else v.Nothing)
         (begun_walk (interface_refusal_of (op.Unbind peer) (op_host ps.op host (op.Unbind peer)) i) i read d
         (interface_walk fuel portion drawn said loss (begun_walking (op.Unbind peer) i d)))) (sym fits.0)
-        (subst (λ w. Comes x standing place (op.Unbind peer) loss d
-        (unbind_due x standing peer.line peer.id loss)
+        (subst (λ w. Comes x state_asked place (op.Unbind peer) loss d
+        (unbind_due x state_asked peer.line peer.id loss)
         (begun_walk (interface_refusal_of (op.Unbind peer) (op_host ps.op host (op.Unbind peer)) i) i read d w))
         (stated_walk laws (op.Unbind peer) fuel portion drawn said loss i d there fits.1 meet (omega arith))
         (unbind_comes x draw drawn portion place said ps loss d tdi m read host peer

@@ -115,15 +115,15 @@ answer_key tdi flags offset secure next key =
 module _ (x : Site) (draw drawn portion place : ℕ) (said : StreamSaid) (ps : PeersRead) (loss : Option Loss)
     (d : DeviceTdis) (tdi : Tdi)
     (m : Managed) (read : Read) where
-  abbrev standing : Seen → StreamStatus → AskedState
-  standing seen host = stands x said ps (next_nonce d) tdi (managed_as_seen seen m) host draw drawn
+  abbrev state_asked : Seen → StreamStatus → AskedState
+  state_asked seen host = stands x said ps (next_nonce d) tdi (managed_as_seen seen m) host draw drawn
 
   abbrev there : NamedTdi
   there = record { place = place; tdi = tdi }
 
   third : (l : Option Lost) → lost_message loss 3 ≡ l → slice_set d.interfaces place tdi ≡ d.interfaces
       → IfSome (next_nonce d) IsKey
-      → Comes x (standing IsUnlocked status.Secure) place op.Lock loss d
+      → Comes x (state_asked IsUnlocked status.Secure) place op.Lock loss d
       (by_loss l 3 (verdict_of_lock x (lock_answer tdi x.plan.flags x.plan.offset said.secure (next_nonce d))))
       (stated_once portion drawn said l there (at_step step.Lock (host_of x draw IsUnlocked m) d))
   third l is same key =
@@ -131,26 +131,26 @@ module _ (x : Site) (draw drawn portion place : ℕ) (said : StreamSaid) (ps : P
       record {
         verdict = lock_verdict x loss l r is;
         device = lock_device x d place tdi (new_lock tdi x.plan.flags x.plan.stream x.plan.offset)
-            (lock_call (standing IsUnlocked status.Secure).around x) l r same refl;
+            (lock_call (state_asked IsUnlocked status.Secure).around x) l r same refl;
         managed = lock_managed x draw drawn m l r
             (answer_key tdi x.plan.flags x.plan.offset said.secure (next_nonce d) key);
       }
 
   -- a loss of one of the first two
   early : (k : Lost) (n : ℕ) → n < 3 → lost_message loss n ≡ Some k → slice_set d.interfaces place tdi ≡ d.interfaces
-      → Comes x (standing IsUnlocked status.Secure) place op.Lock loss d (lost_at k n)
+      → Comes x (state_asked IsUnlocked status.Secure) place op.Lock loss d (lost_at k n)
       (lost_early n (host_of x draw IsUnlocked m) d)
   early k n lt is same =
       let none = early_carries k n lt in
-      quiet x (standing IsUnlocked status.Secure) place op.Lock loss d (lost_at k n) _ _ _ same
-      (ap (λ b. interface_if_called b (lock_call (standing IsUnlocked status.Secure).around x) tdi) none)
-      (no_lock x (standing IsUnlocked status.Secure) loss (lost_at k n) none)
+      quiet x (state_asked IsUnlocked status.Secure) place op.Lock loss d (lost_at k n) _ _ _ same
+      (ap (λ b. interface_if_called b (lock_call (state_asked IsUnlocked status.Secure).around x) tdi) none)
+      (no_lock x (state_asked IsUnlocked status.Secure) loss (lost_at k n) none)
       (early_kept k n (managed_as_seen IsUnlocked m) lt) (managed_of x draw IsUnlocked _ refl no_key) (cut loss n k is)
 
   -- none is refused before them
   begun : (a b : Option Lost) → lost_message loss 1 ≡ a → lost_message loss 2 ≡ b
       → slice_set d.interfaces place tdi ≡ d.interfaces → IfSome (next_nonce d) IsKey
-      → Comes x (standing IsUnlocked status.Secure) place op.Lock loss d
+      → Comes x (state_asked IsUnlocked status.Secure) place op.Lock loss d
       (by_loss a 1 (by_loss b 2 (by_loss (lost_message loss 3) 3
       (verdict_of_lock x (lock_answer tdi x.plan.flags x.plan.offset said.secure (next_nonce d))))))
       (walked_unless_lost a (lost_early 1 (host_of x draw IsUnlocked m) d)
@@ -166,22 +166,22 @@ module _ (x : Site) (draw drawn portion place : ℕ) (said : StreamSaid) (ps : P
       ≡ d.interfaces → IsKey (nonce_of seen)
       → carries due 3 ≡ false → on_lock (managed_as_seen seen m) due ≡ managed_as_seen seen m
       → outcome_verdict x.number loss [] (outcome.Refused r) ≡ Some due
-      → Comes x (standing seen host) place op.Lock loss d due
+      → Comes x (state_asked seen host) place op.Lock loss d due
       (refused_walk r (host_of x draw seen m) read d)
   refused seen host due r same key none kept is =
-      quiet x (standing seen host) place op.Lock loss d due _ _ _ same
-      (ap (λ b. interface_if_called b (lock_call (standing seen host).around x) tdi) none)
-      (no_lock x (standing seen host) loss due none) kept (managed_of x draw seen _ (told_seen seen m) key) is
+      quiet x (state_asked seen host) place op.Lock loss d due _ _ _ same
+      (ap (λ b. interface_if_called b (lock_call (state_asked seen host).around x) tdi) none)
+      (no_lock x (state_asked seen host) loss due none) kept (managed_of x draw seen _ (told_seen seen m) key) is
 
   pub lock_comes : (seen : Seen) (host : StreamStatus) → slice_set d.interfaces place tdi ≡ d.interfaces
       → IfSome (next_nonce d) IsKey → IsKey (nonce_of seen)
-      → Comes x (standing seen host) place op.Lock loss d (lock_due x (standing seen host) loss)
+      → Comes x (state_asked seen host) place op.Lock loss d (lock_due x (state_asked seen host) loss)
       (begun_walk (lock_refusal host seen) (host_of x draw seen m) read d
       (stated_lock portion drawn said loss (host_of x draw seen m) d there))
   lock_comes IsUnlocked status.Secure same key held =
       let due = thrice_lost loss (verdict_of_lock x (lock_answer tdi x.plan.flags x.plan.offset said.secure
       (next_nonce d))) in
-      subst (λ w. Comes x (standing IsUnlocked status.Secure) place op.Lock loss d w
+      subst (λ w. Comes x (state_asked IsUnlocked status.Secure) place op.Lock loss d w
       (stated_lock portion drawn said loss (host_of x draw IsUnlocked m) d there)) (sym due)
       (begun (lost_message loss 1) (lost_message loss 2) refl refl same key)
   lock_comes IsUnlocked status.Idle same key held = refused IsUnlocked status.Idle _ _ same held refl refl refl

@@ -113,8 +113,8 @@ read_managed x draw seen m loss report (Some n) due key is =
 module _ (x : Site) (plan : Plan) (draw drawn portion place : ℕ) (said : StreamSaid) (ps : PeersRead)
     (loss : Option Loss) (d : DeviceTdis)
     (tdi : Tdi) (m : Managed) (read : Read) where
-  abbrev standing : Seen → StreamStatus → AskedState
-  standing seen host = stands x said ps (next_nonce d) tdi (managed_as_seen seen m) host draw drawn
+  abbrev state_asked : Seen → StreamStatus → AskedState
+  state_asked seen host = stands x said ps (next_nonce d) tdi (managed_as_seen seen m) host draw drawn
 
   abbrev there : NamedTdi
   there = record { place = place; tdi = tdi }
@@ -129,7 +129,7 @@ module _ (x : Site) (plan : Plan) (draw drawn portion place : ℕ) (said : Strea
   -- no report: the device answers so
   unread : (seen : Seen) (host : StreamStatus) → slice_set d.interfaces place tdi ≡ d.interfaces
       → IsKey (nonce_of seen) → option_map (kept_report tdi.plan) (lock_of tdi.state) ≡ None
-      → Comes x (standing seen host) place op.Report loss d (by_loss (lost_message loss 1) 1 (v.RefusedDevice 1 4))
+      → Comes x (state_asked seen host) place op.Report loss d (by_loss (lost_message loss 1) 1 (v.RefusedDevice 1 4))
       (stated_alone step.Report portion drawn said loss (host_of x draw seen m) d there)
   unread seen host same key is =
       let l = lost_message loss 1 in
@@ -149,10 +149,10 @@ module _ (x : Site) (plan : Plan) (draw drawn portion place : ℕ) (said : Strea
   walked : (seen : Seen) (host : StreamStatus) (o : Option (List ℕ)) (w : WalkedInterface)
       → slice_set d.interfaces place tdi ≡ d.interfaces → IsKey (nonce_of seen)
       → option_map (kept_report tdi.plan) (lock_of tdi.state) ≡ o → IsWalk seen o w
-      → Comes x (standing seen host) place op.Report loss d (reported_as plan x loss o) w
+      → Comes x (state_asked seen host) place op.Report loss d (reported_as plan x loss o) w
   walked seen host None w same key is walk =
-      subst (λ k. Comes x (standing seen host) place op.Report loss d (reported_as plan x loss None) k) (sym walk)
-      (subst (λ k. Comes x (standing seen host) place op.Report loss d k
+      subst (λ k. Comes x (state_asked seen host) place op.Report loss d (reported_as plan x loss None) k) (sym walk)
+      (subst (λ k. Comes x (state_asked seen host) place op.Report loss d k
       (stated_alone step.Report portion drawn said loss (host_of x draw seen m) d there))
       (sym (once_lost loss (v.RefusedDevice 1 4))) (unread seen host same key is))
   walked seen host (Some report) w same key is walk =
@@ -174,24 +174,24 @@ module _ (x : Site) (plan : Plan) (draw drawn portion place : ℕ) (said : Strea
       → on_report (managed_as_seen seen m) due ≡ managed_as_seen seen m
       → outcome_verdict x.number loss read.bytes (outcome.Refused r)
       ≡ Some due
-      → Comes x (standing seen host) place op.Report loss d due (refused_walk r (host_of x draw seen m) read d)
+      → Comes x (state_asked seen host) place op.Report loss d due (refused_walk r (host_of x draw seen m) read d)
   refused seen host due r same key kept is =
-      quiet x (standing seen host) place op.Report loss d due _ _ _ same refl refl kept
+      quiet x (state_asked seen host) place op.Report loss d due _ _ _ same refl refl kept
       (managed_of x draw seen _ (told_seen seen m) key) is
 
   pub report_comes : (seen : Seen) (host : StreamStatus) (w : WalkedInterface) → slice_set d.interfaces place tdi
       ≡ d.interfaces
       → IsKey (nonce_of seen) → tdi.plan ≡ x.plan
       → IsWalk seen (option_map (kept_report tdi.plan) (lock_of tdi.state)) w
-      → Comes x (standing seen host) place op.Report loss d (report_due plan x (standing seen host) loss)
+      → Comes x (state_asked seen host) place op.Report loss d (report_due plan x (state_asked seen host) loss)
       (begun_walk (report_refusal seen) (host_of x draw seen m) read d w)
   report_comes IsUnlocked host w same key layout walk = refused IsUnlocked host _ _ same key refl refl
   report_comes (IsLocked nonce is_reported) host w same key layout walk =
-      subst (λ p. Comes x (standing (IsLocked nonce is_reported) host) place op.Report loss d
+      subst (λ p. Comes x (state_asked (IsLocked nonce is_reported) host) place op.Report loss d
       (reported_as plan x loss (option_map (kept_report p) (lock_of tdi.state))) w) layout
       (walked (IsLocked nonce is_reported) host _ w same key refl walk)
   report_comes (IsRunning floor) host w same key layout walk =
-      subst (λ p. Comes x (standing (IsRunning floor) host) place op.Report loss d
+      subst (λ p. Comes x (state_asked (IsRunning floor) host) place op.Report loss d
       (reported_as plan x loss (option_map (kept_report p) (lock_of tdi.state))) w) layout
       (walked (IsRunning floor) host _ w same key refl walk)
   report_comes IsDoubt host w same key layout walk = refused IsDoubt host _ _ same key refl refl

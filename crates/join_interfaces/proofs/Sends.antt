@@ -4,7 +4,7 @@
 use Rattle.std.proofs.Common.{◌≡◌, ℕ, ◌+◌, ◌==◌, ◌&&◌, Bool, true, false, List, [], ◌∷◌, length, Option, Some, None}
 use Rattle.std.proofs.Common.{refl, ap, sym, ◌∙◌, arith}
 use Rattle.std.specs.Prelude.{not, if◌then◌else◌, is_some, Result, Ok, Err}
-use Rattle.spec_keys.specs.Keys.{is_below}
+use Rattle.spec_keys.specs.Keys.{is_some_below}
 use Rattle.ide_types.specs.declared.port.PortName.{PortName}
 use Rattle.ide_types.specs.declared.port.Side.TheVariants.{Device, Host}
 use Rattle.ide_types.specs.declared.sub.SubKind.{SubKind}
@@ -37,7 +37,7 @@ use Rattle.std.specs.Option.{option_and_then}
 use Rattle.machine_whole.specs.Accesses.{posted_draw_at}
 use Rattle.machine_whole.specs.Machine.{live_if, live_draw_at_end}
 unfoldable use Rattle.spec_interfaces.specs.Peers.{peer_end}
-use Rattle.join_interfaces.specs.Says.{AreSecureStill, says_in}
+use Rattle.join_interfaces.specs.Says.{AreSecureStill, says_by_ports}
 use Rattle.machine_ports.specs.Machine.{BesidePorts, LinkState, LinkPacket, Stepped, port_at, status_if_planned}
 use Rattle.machine_ports.specs.Machine.{sealing_draw_at, stepped_answer, stepped_completion, stepped_on_stream}
 use Rattle.machine_ports.specs.Machine.{stepped_bytes, stepped_forward, stepped_reply, stepped_send}
@@ -207,7 +207,7 @@ sends_kept plan beside st port bytes more trusted =
 -- an answer to a read is a send, or leaves the ports as they are
 completion_kept : (plan : Plan) (beside : BesidePorts) (st : LinkState) (port : PortName) (r : BoundCompletion)
     (draw : Option ℕ) → StaySecure plan st (stepped_completion plan beside st port r draw).1
-completion_kept plan beside st port r draw = not_if plan st (is_below draw r.bound.floor) _ _
+completion_kept plan beside st port r draw = not_if plan st (is_some_below draw r.bound.floor) _ _
     (send_kept plan beside st port (outgoing_of (streams_of plan port.line) port.side r.bytes) false true)
   where
     not_if : (p : Plan) (s : LinkState) (b : Bool) (w : Verdict) (x : Stepped) → StaySecure p s x.1
@@ -254,7 +254,7 @@ live_kept plan old new (Some e) stream kept is =
 
 -- no stream that it says is Secure leaves that
 pub says_kept : (plan : Plan) (old new : LinkState) → StaySecure plan old new → (link : ℕ)
-    → AreSecureStill (says_in plan old link) (says_in plan new link)
+    → AreSecureStill (says_by_ports plan old link) (says_by_ports plan new link)
 says_kept plan old new kept link = record {
   secure = λ stream is. kept (port_at Device link) stream is;
   live = λ stream is. live_kept plan old new (peer_end plan.peers 0 link stream) stream kept is;

@@ -72,14 +72,14 @@ start_managed x draw draws nonce m (Some Reply) r = managed_of x draw IsDoubt _ 
 module _ (x : Site) (draw drawn portion place : ℕ) (said : StreamSaid) (ps : PeersRead) (loss : Option Loss)
     (d : DeviceTdis) (tdi : Tdi)
     (m : Managed) (read : Read) where
-  abbrev standing : Seen → StreamStatus → AskedState
-  standing seen host = stands x said ps (next_nonce d) tdi (managed_as_seen seen m) host draw drawn
+  abbrev state_asked : Seen → StreamStatus → AskedState
+  state_asked seen host = stands x said ps (next_nonce d) tdi (managed_as_seen seen m) host draw drawn
 
   abbrev there : NamedTdi
   there = record { place = place; tdi = tdi }
 
   asked : (nonce : List ℕ) (l : Option Lost) → lost_message loss 1 ≡ l → slice_set d.interfaces place tdi ≡ d.interfaces
-      → Comes x (standing (IsLocked nonce true) status.Secure) place op.Start loss d
+      → Comes x (state_asked (IsLocked nonce true) status.Secure) place op.Start loss d
       (by_loss l 1 (started_as x draw (start_answer tdi.state nonce)))
       (stated_once portion drawn said l there (at_step step.Start (host_of x draw (IsLocked nonce true) m) d))
   asked nonce l is same =
@@ -94,16 +94,16 @@ module _ (x : Site) (draw drawn portion place : ℕ) (said : StreamSaid) (ps : P
       → slice_set d.interfaces place tdi ≡ d.interfaces
       → IsKey (nonce_of seen) → carries due 1 ≡ false → on_start (managed_as_seen seen m) due ≡ managed_as_seen seen m
       → outcome_verdict x.number loss [] (outcome.Refused r) ≡ Some due
-      → Comes x (standing seen host) place op.Start loss d due
+      → Comes x (state_asked seen host) place op.Start loss d due
       (refused_walk r (host_of x draw seen m) read d)
   refused seen host due r same key none kept is =
-      quiet x (standing seen host) place op.Start loss d due _ _ _ same
+      quiet x (state_asked seen host) place op.Start loss d due _ _ _ same
       (ap (λ b. interface_if_called b (StartInterface (managed_as_seen seen m).nonce) tdi) none) refl kept
       (managed_of x draw seen _ (told_seen seen m) key) is
 
   -- if its stream was keyed since
   fresh : (nonce : List ℕ) (stale : Bool) → slice_set d.interfaces place tdi ≡ d.interfaces → IsKey nonce
-      → Comes x (standing (IsLocked nonce true) status.Secure) place op.Start loss d
+      → Comes x (state_asked (IsLocked nonce true) status.Secure) place op.Start loss d
       (if stale then v.Interface (iv.RefusedRefreshFirst draw m.needs)
       else due_unless_lost loss 1 (started_as x draw (start_answer tdi.state nonce)))
       (begun_walk (if stale then Some (refusal.RefreshFirst draw m.needs) else None)
@@ -111,14 +111,14 @@ module _ (x : Site) (draw drawn portion place : ℕ) (said : StreamSaid) (ps : P
       (stated_alone step.Start portion drawn said loss (host_of x draw (IsLocked nonce true) m) d there))
   fresh nonce true same key = refused (IsLocked nonce true) status.Secure _ _ same key refl refl refl
   fresh nonce false same key =
-      subst (λ w. Comes x (standing (IsLocked nonce true) status.Secure) place op.Start loss d w
+      subst (λ w. Comes x (state_asked (IsLocked nonce true) status.Secure) place op.Start loss d w
       (stated_alone step.Start portion drawn said loss (host_of x draw (IsLocked nonce true) m) d there))
       (sym (once_lost loss (started_as x draw (start_answer tdi.state nonce))))
       (asked nonce (lost_message loss 1) refl same)
 
   pub start_comes : (seen : Seen) (host : StreamStatus) → slice_set d.interfaces place tdi ≡ d.interfaces
       → IsKey (nonce_of seen)
-      → Comes x (standing seen host) place op.Start loss d (start_due x (standing seen host) loss)
+      → Comes x (state_asked seen host) place op.Start loss d (start_due x (state_asked seen host) loss)
       (begun_walk (start_refusal host draw (managed_as_seen seen m).needs seen) (host_of x draw seen m) read d
       (stated_alone step.Start portion drawn said loss (host_of x draw seen m) d there))
   start_comes (IsLocked nonce true) status.Secure same key = fresh nonce (nat_lt draw m.needs) same key

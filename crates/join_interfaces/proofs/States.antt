@@ -74,15 +74,15 @@ state_managed x draw draws code IsBroken m None key = managed_of x draw IsBroken
 module _ (x : Site) (draw drawn portion place : ℕ) (said : StreamSaid) (ps : PeersRead) (loss : Option Loss)
     (d : DeviceTdis) (tdi : Tdi)
     (m : Managed) (seen : Seen) (host : StreamStatus) where
-  abbrev standing : AskedState
-  standing = stands x said ps (next_nonce d) tdi (managed_as_seen seen m) host draw drawn
+  abbrev state_asked : AskedState
+  state_asked = stands x said ps (next_nonce d) tdi (managed_as_seen seen m) host draw drawn
 
   abbrev there : NamedTdi
   there = record { place = place; tdi = tdi }
 
   asked : (l : Option Lost) → lost_message loss 1 ≡ l → slice_set d.interfaces place tdi ≡ d.interfaces
       → IsKey (nonce_of seen)
-      → Comes x standing place op.State loss d (by_loss l 1 (told_state x (state_code tdi.state)))
+      → Comes x state_asked place op.State loss d (by_loss l 1 (told_state x (state_code tdi.state)))
       (stated_once portion drawn said l there (at_step step.State (host_of x draw seen m) d))
   asked l is same key = record {
     verdict = state_verdict x (state_code tdi.state) loss l is;
@@ -91,9 +91,9 @@ module _ (x : Site) (draw drawn portion place : ℕ) (said : StreamSaid) (ps : P
   }
 
   pub state_comes : slice_set d.interfaces place tdi ≡ d.interfaces → IsKey (nonce_of seen)
-      → Comes x standing place op.State loss d (state_due x standing loss)
+      → Comes x state_asked place op.State loss d (state_due x state_asked loss)
       (stated_alone step.State portion drawn said loss (host_of x draw seen m) d there)
   state_comes same key =
-      subst (λ w. Comes x standing place op.State loss d w
+      subst (λ w. Comes x state_asked place op.State loss d w
       (stated_alone step.State portion drawn said loss (host_of x draw seen m) d there))
       (sym (once_lost loss (told_state x (state_code tdi.state)))) (asked (lost_message loss 1) refl same key)

@@ -12,7 +12,7 @@ use Rattle.spec_interfaces.specs.Due.{asked_due, op_status}
 use Rattle.spec_interfaces.specs.Peers.{has_peer, live_by_id}
 use Rattle.spec_interfaces.specs.Terms.{StreamStage}
 use Rattle.ide_types.specs.declared.status.StreamStatus.{StreamStatus}
-use Rattle.machine_whole.specs.Interfaces.{Face, Streams, ends_of, around_of, asked_state_of_face, face_after}
+use Rattle.machine_whole.specs.Interfaces.{Face, Streams, ends_of_streams, around_of, asked_state_of_face, next_face}
 use Rattle.interface_state.specs.Machine.{Tdi}
 use Rattle.interface_host.specs.declared.operation.InterfaceOperation.{InterfaceOperation}
 use Rattle.interface_host.specs.declared.operation.InterfaceOperation.TheVariants as op
@@ -60,7 +60,7 @@ pub record IsInterfaceJoined (plan : Plan) (s : Streams) (used : ℕ → ℕ) (x
         (accepts_lock (around_of plan s used x f) x (event.Interface (op_event o number loss)) verdict f.tdi);
   }
   pub face : IsFace (s.draw x.link x.plan.stream) x interface tdi
-      (face_after plan s (ends_of s) used (event.Interface (op_event o number loss)) verdict x f)
+      (next_face plan s (ends_of_streams s) used (event.Interface (op_event o number loss)) verdict x f)
 
 -- of a stream between devices that an operation names: the device has it; its ID, its draw as the manager of keys has
 -- it, and what the device says of it

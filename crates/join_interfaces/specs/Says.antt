@@ -21,8 +21,8 @@ abbrev pub says_by : Plan → EndsRead → ℕ → DeviceSays
 says_by plan read link = record { secure = read.secure link; live = live_by_id read.live plan.peers link }
 
 -- by the ports as they are
-abbrev pub says_in : Plan → LinkState → ℕ → DeviceSays
-says_in plan st link = says_by plan (ends_in plan st) link
+abbrev pub says_by_ports : Plan → LinkState → ℕ → DeviceSays
+says_by_ports plan st link = says_by plan (ends_in plan st) link
 
 -- Secure, of the link or between devices
 abbrev pub is_said_secure : DeviceSays → ℕ → Bool

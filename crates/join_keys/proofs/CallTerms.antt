@@ -6,7 +6,7 @@ pub use Rattle.ide_types.specs.declared.sub.SubKind.{SubKind}
 pub use Rattle.ide_types.specs.declared.plan.Plan.{Plan}
 pub use Rattle.sub_stream.specs.Calls.{slots_called_out, slots_called_into, stream_after_call}
 pub use Rattle.spec_keys.specs.Operations.{Work, Reach, makes_draw, work, last_exchange_of}
-pub use Rattle.spec_keys.specs.History.{is_within, program_exchange, go_exchange, stop_exchange, touches_if}
+pub use Rattle.spec_keys.specs.History.{is_number_between, program_exchange, go_exchange, stop_exchange, touches_if}
 pub use Rattle.spec_keys.specs.History.{work_touches, program_number, go_number, stop_number}
 pub use Rattle.ide_types.specs.Lines.{is_hosted}
 pub use Rattle.ide_types.specs.declared.port.Side.{Side}
@@ -15,7 +15,7 @@ pub use Rattle.join_keys.specs.Calls.{exchanges_called, all_called, stream_call}
 pub use Rattle.ide_types.specs.declared.port.Side.TheVariants.{Device, Host}
 pub use Rattle.link_verdicts.specs.declared.verdict.Operation.{Operation}
 pub use Rattle.spec_keys.specs.Places.{is_host, is_local, lane, KeyPlace}
-pub use Rattle.machine_operations.specs.{place_at_end, port_at, touches_at, refuses_in, is_last_in, slots_touched}
+pub use Rattle.machine_operations.specs.{place_at_end, port_at, touches_at, slots_refuse, is_last_in, slots_touched}
 pub use Rattle.machine_operations.specs.{taken_touches, touched_stream}
 pub use Rattle.key_slots.specs.{is_only_live, is_last_live, live_draw, KeyCall, Program, Go, Stop}
 pub use Rattle.sub_stream.specs.{slot_pair, key_slot}

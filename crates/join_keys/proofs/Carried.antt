@@ -1,12 +1,12 @@
 -- Exchanges from one to another: which of them concern a place, if two exchanges of the operation do.
 use Rattle.join_keys.proofs.CallTerms.{◌≡◌, Bool, arith, ℕ, List, ◌++◌, ◌≤◌, ◌∙◌, ◌+◌, ◌==◌, [], zero, suc, ◌<◌}
-use Rattle.join_keys.proofs.CallTerms.{nat_tests, SubKind, KeyCall, StreamCall, is_within, calls_from}
+use Rattle.join_keys.proofs.CallTerms.{nat_tests, SubKind, KeyCall, StreamCall, is_number_between, calls_from}
 use Rattle.join_keys.proofs.Streams.{one_if, calls_at, calls_append}
 
 -- one of two calls or both, if each comes between two exchanges
 abbrev pub calls_within : (p q from below : ℕ) (first second : KeyCall) → List KeyCall
-calls_within p q from below first second = one_if (is_within from p below) first
-    ++ one_if (is_within from q below) second
+calls_within p q from below first second = one_if (is_number_between from p below) first
+    ++ one_if (is_number_between from q below) second
 
 none_within : (p q n below : ℕ) (first second : KeyCall) → n + 0 ≡ below → [] ≡ calls_within p q n below first second
 none_within p q n below first second is = grind (arith, nat_tests)

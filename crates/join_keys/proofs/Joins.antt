@@ -7,10 +7,10 @@ use Rattle.join_keys.proofs.Terms.{reach_of, work_of, sub_from, all_called_at, F
 use Rattle.join_keys.proofs.Terms.{refusal_at, operation_verdict, stays, unwrap_or, key_plan, LinkState, find, find_op}
 use Rattle.join_keys.proofs.Terms.{ports_of, machine_status, AreTouches, Side, Pool, draws_in, true-lt, StreamRefusal}
 use Rattle.join_keys.proofs.Terms.{PlaceCall, StreamView, draws_now, refusal_of, begun_stream, begun_pool, begun_calls}
-use Rattle.join_keys.proofs.Terms.{ManagerWalk, answers, walk, manager_walked, verdict_of, op_by, Comes, walk_comes}
-use Rattle.join_keys.proofs.Terms.{PortsStandFor, kept_is, StreamEnds, walk_on, begun_ends, walked_ends_unless}
-use Rattle.join_keys.proofs.Terms.{event_walk, host_of, KeysKept, verdict_due, IsJoined, OperationsJoin, first_from}
-use Rattle.join_keys.proofs.Terms.{cut_at, lost_message}
+use Rattle.join_keys.proofs.Terms.{ManagerWalk, answers, walk, manager_walked, verdict_of, op_if_reached, Comes}
+use Rattle.join_keys.proofs.Terms.{walk_comes, PortsStandFor, kept_is, StreamEnds, walk_on, begun_ends}
+use Rattle.join_keys.proofs.Terms.{walked_ends_unless, event_walk, host_of, KeysKept, verdict_due, IsJoined}
+use Rattle.join_keys.proofs.Terms.{OperationsJoin, first_from, cut_at, lost_message}
 use Rattle.tsm_host.proofs.Dues.{all_due}
 use Rattle.tsm_host.specs.Walk.{WalkIsDue}
 use Rattle.ide_types.specs.Lines.{is_hosted}
@@ -202,7 +202,7 @@ module _ (plan : Plan) (st : LinkState) (h : History) (operation : Operation) (l
               (sym (λ i. verdict_of (same i) line id loss (told w.operation).outcome)
               ∙ (comes_is.verdict_is ∙ ap Some verdict_comes));
           op_is = ap (λ (s : StreamView). s.op) rest.keeper_is ∙
-              (comes_is.op_is ∙ (λ i. op_by (is_hosted e.keeper.line) e.keeper.op w
+              (comes_is.op_is ∙ (λ i. op_if_reached (is_hosted e.keeper.line) e.keeper.op w
               (reach_of (same i) (verdict_comes i))));
           host_is = rw reached (rest.host_is ∙
               (sym (calls_append Host (begun_calls true w (pool_of plan st) id) (goes_from w id w.first r.acknowledged)

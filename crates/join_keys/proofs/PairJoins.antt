@@ -9,7 +9,7 @@ use Rattle.join_keys.proofs.Terms.{◌%◌, None, length, reach_of, work_of, nat
 use Rattle.join_keys.proofs.Terms.{History, refusal_at, operation_verdict, stays, unwrap_or, key_plan, LinkState, find}
 use Rattle.join_keys.proofs.Terms.{find_op, ports_of, machine_status, Side, Pool, true-lt, StreamRefusal, StreamView}
 use Rattle.join_keys.proofs.Terms.{HostView, refusal_of, begun_stream, ManagerWalk, answers, walk, manager_walked}
-use Rattle.join_keys.proofs.Terms.{verdict_of, op_by, Comes, walk_comes, PortsStandFor, kept_is, verdict_due}
+use Rattle.join_keys.proofs.Terms.{verdict_of, op_if_reached, Comes, walk_comes, PortsStandFor, kept_is, verdict_due}
 use Rattle.join_keys.proofs.Terms.{first_from, cut_at, lost_message}
 use Rattle.link_verdicts.specs.declared.verdict.Operation.TheVariants as op
 use Rattle.tsm_host.specs.declared.operation.StreamOutcome.TheVariants as outcome
@@ -215,7 +215,7 @@ module _ (plan : Plan) (st : LinkState) (h : History) (operation : Operation) (l
               (sym (λ i. verdict_of (same i) line id loss (told w.operation).outcome)
               ∙ (comes_is.verdict_is ∙ ap Some verdict_comes));
           op_is = ap (λ (s : StreamView). s.op) rest.keeper_is ∙
-              (comes_is.op_is ∙ (λ i. op_by (is_hosted e.keeper.line) e.keeper.op w
+              (comes_is.op_is ∙ (λ i. op_if_reached (is_hosted e.keeper.line) e.keeper.op w
               (reach_of (same i) (verdict_comes i))));
           near_is = rw reached (rest.near_is ∙ same_touches.near_touched);
           far_is = rw reached (rest.far_is ∙ same_touches.far_touched);

@@ -8,7 +8,7 @@ use Rattle.join_keys.specs.Paired.{pair_walk, HasPairKeys, PairKeysKeptIn}
 use Rattle.join_keys.proofs.Terms.{◌≡◌, Bool, arith, true, false, ℕ, Work, Plan, nat_tests, work, Operation, ◌≤◌, List}
 use Rattle.join_keys.proofs.Terms.{◌∙◌, sym, Reach, makes_draw, Host, Device, StreamState, ◌+◌, ◌==◌, []}
 use Rattle.join_keys.proofs.Terms.{zero, suc, refl, ◌-◌, ap, all_called, ◌<◌, Some, subst, last_exchange_of, Option}
-use Rattle.join_keys.proofs.Terms.{None, reach_of, StreamStage, op_at_exchange, reach, op_after, Loss, Verdict}
+use Rattle.join_keys.proofs.Terms.{None, reach_of, StreamStage, op_at_exchange, reach, op_after_reach, Loss, Verdict}
 use Rattle.join_keys.proofs.Terms.{PortView, lost_message, cut_at, exchange_judged, option_or, first_from}
 use Rattle.join_keys.proofs.Terms.{finished_verdict, different-false, StreamView, asked_of_unfinished, outcome_of}
 use Rattle.join_keys.proofs.Terms.{taken_stream, shown_at_end, ManagerWalk, answers, walk, walk_after_outcome, WireKeys}
@@ -34,7 +34,7 @@ kept_as plan op.Refresh set draw f b n keys least most has = (least, most, has r
 kept_as plan op.Stop set draw f b n keys least most has = (least, most)
 
 kept_ended : (plan : Plan) (w : Work) (n : ℕ) (keys : WireKeys) → n ≡ last_exchange_of false w.operation
-    → PairKeysKeptIn plan (op_after false (work_asked (asked_of w n)) (reach (n + 1) (n + 1))) keys
+    → PairKeysKeptIn plan (op_after_reach false (work_asked (asked_of w n)) (reach (n + 1) (n + 1))) keys
 kept_ended plan w n keys is = grind (arith, nat_tests)
 
 -- ---- what the rest of a walk gives

@@ -6,8 +6,8 @@ use Rattle.join_keys.specs.Calls.{lane_sends, lane_call, lane_key, key_number, t
 use Rattle.join_keys.specs.Paired.{PairEnds, PairExchanged, came_to_end, pair_after, HasPairKeys}
 use Rattle.join_keys.proofs.Terms.{◌≡◌, ◌≢◌, Bool, arith, true, ℕ, List, Work, Plan, false, nat_tests, Operation, ◌≤◌}
 use Rattle.join_keys.proofs.Terms.{◌∙◌, makes_draw, is_only_live, StreamState, ◌+◌, ap, refl, Host, Device, Side, []}
-use Rattle.join_keys.proofs.Terms.{◌∷◌, if◌then◌else◌, all_called, ◌<◌, last_exchange_of, refuses_in, DrawsApart}
-use Rattle.join_keys.proofs.Terms.{Option, op_at_exchange, reach, op_after, get_or-set_other, IsKey, PortView}
+use Rattle.join_keys.proofs.Terms.{◌∷◌, if◌then◌else◌, all_called, ◌<◌, last_exchange_of, slots_refuse, DrawsApart}
+use Rattle.join_keys.proofs.Terms.{Option, op_at_exchange, reach, op_after_reach, get_or-set_other, IsKey, PortView}
 use Rattle.join_keys.proofs.Terms.{refusal_at, refusal_if, exchange_judged, is_some, None, sym, slot_in_set, is_empty}
 use Rattle.join_keys.proofs.Terms.{subst, cases_lt, inl, inr, pair_slot, different-false, request_asked}
 use Rattle.join_keys.proofs.Terms.{wire_keys_after, stream_acknowledged, WorkFits, exchange_of, WireKeys, kept_key}
@@ -37,7 +37,7 @@ pub record PairKnows (plan : Plan) (ports : PortView) (w : Work) (link id reques
     pub keys : makes_draw w.operation ≡ true → (side : Side) (lane : ℕ) → lane < 6
         → IsKey (lane_key plan w.draw (key_number side lane))
     pub reads : (side : Side) (lane : ℕ) → lane < 6 → ports.refusal (pair_place link id side lane) w.set
-        ≡ refusal_if (refuses_in (lane_slots lane (state_at side before)) w.set)
+        ≡ refusal_if (slots_refuse (lane_slots lane (state_at side before)) w.set)
     pub apart : (side : Side) (lane : ℕ) → lane < 6 → DrawsApart (lane_slots lane (state_at side before))
 
 -- before exchange n: lanes whose KEY_PROG comes later are as they were, and those behind it that had no GO have a key
@@ -178,7 +178,7 @@ module _ (plan : Plan) (w : Work) (n : ℕ) (least : 1 ≤ n) (most : n ≤ last
 
 -- the operation after an exchange that is not its last
 pair_standing : (w : Work) (n : ℕ) → n < last_exchange_of false w.operation
-    → op_after false (work_asked (asked_of w n)) (reach (n + 1) (n + 1)) ≡ op_at_exchange w (n + 1)
+    → op_after_reach false (work_asked (asked_of w n)) (reach (n + 1) (n + 1)) ≡ op_at_exchange w (n + 1)
 pair_standing w n less = grind (arith, nat_tests, one_of_set)
 
 -- ---- exchange by exchange

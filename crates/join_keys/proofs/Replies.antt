@@ -12,7 +12,7 @@ use Rattle.key_messages.specs.declared.object.KmView.TheVariants.{Query, KeyProg
 use Rattle.key_messages.specs.declared.port.ProgramFault.TheVariants.{OnlyLive}
 use Rattle.key_messages.specs.declared.port.ProgramFault.{ProgramFault}
 use Rattle.key_messages.specs.{PlaceCall, place_call, shown_pair, is_done, object_spelling, FitsObject, set_of}
-use Rattle.key_messages.specs.{direction_of, sub_of, selected_place, call_for, object_reply, object_bytes}
+use Rattle.key_messages.specs.{direction_of, sub_of, selected_place, object_call, object_reply, object_bytes}
 use Rattle.key_messages.specs.{object_reading, description}
 use Rattle.key_messages.proofs.Objects.{spells_read, written_spells}
 use Rattle.tsm_host.specs.Judging.{judged_reply}
@@ -21,7 +21,8 @@ use Rattle.tsm_host.specs.Judging.{judged_reply}
 
 -- if a request makes this call, which is taken or not, and its reply is judged so
 comes_as : (requester draw id : ℕ) (request : KmView) (x : StreamState) → FitsObject request
-    → (call : Option PlaceCall) → call_for draw request ≡ call → (done : Bool) → is_done (shown_stream id x) call ≡ done
+    → (call : Option PlaceCall) → object_call draw request ≡ call → (done : Bool) → is_done (shown_stream id x) call
+    ≡ done
     → (judged : Judged) → judged_bytes request (object_bytes (object_reply requester request done)) ≡ judged
     → (device : StreamState) → port_called call x ≡ device
     → came_to requester request id draw x ≡ record { judged = judged; device = device }

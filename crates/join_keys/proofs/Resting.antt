@@ -3,13 +3,13 @@
 -- stays there (`stays`); or it is answered as expected, and its calls come before those of the rest (`back`). The
 -- host's port is called after one exchange at the most, the last receiver's GO.
 use Rattle.join_keys.proofs.Terms.{◌≡◌, Bool, arith, true, ℕ, List, ◌++◌, Work, Plan, if◌then◌else◌, nat_tests}
-use Rattle.join_keys.proofs.Terms.{Operation, ◌≤◌, ◌∙◌, sym, Reach, makes_draw, is_within, StreamCall, Host}
+use Rattle.join_keys.proofs.Terms.{Operation, ◌≤◌, ◌∙◌, sym, Reach, makes_draw, is_number_between, StreamCall, Host}
 use Rattle.join_keys.proofs.Terms.{StreamState, ◌+◌, ◌==◌, [], zero, suc, refl, ◌-◌, ap, exchange_call}
 use Rattle.join_keys.proofs.Terms.{exchanges_called, all_called, host_go, ◌&&◌, ◌<◌, Some, subst, ◌∷◌, last_exchange_of}
-use Rattle.join_keys.proofs.Terms.{Option, None, reach_of, StreamStage, op_at_exchange, reach, op_after, all_called_at}
-use Rattle.join_keys.proofs.Terms.{Loss, Verdict, PortView, lost_message, cut_at, exchange_judged, option_or}
-use Rattle.join_keys.proofs.Terms.{first_from, finished_verdict, different-false, PlaceCall, host_goes, StreamView}
-use Rattle.join_keys.proofs.Terms.{asked_of_unfinished, outcome_of, taken_stream, taken_calls, shown_at_end}
+use Rattle.join_keys.proofs.Terms.{Option, None, reach_of, StreamStage, op_at_exchange, reach, op_after_reach}
+use Rattle.join_keys.proofs.Terms.{all_called_at, Loss, Verdict, PortView, lost_message, cut_at, exchange_judged}
+use Rattle.join_keys.proofs.Terms.{option_or, first_from, finished_verdict, different-false, PlaceCall, host_goes}
+use Rattle.join_keys.proofs.Terms.{StreamView, asked_of_unfinished, outcome_of, taken_stream, taken_calls, shown_at_end}
 use Rattle.join_keys.proofs.Terms.{ManagerWalk, answers, walk, walk_after_outcome, StreamEnds, walk_on}
 use Rattle.join_keys.proofs.Terms.{ends_after_exchange, Exchanged, exchanged_unless_lost, WalkedEnds, goes_on, HasKeys}
 use Rattle.join_keys.proofs.Terms.{KeysKept, KeysKeptIn, exchange_of, WireKeys, is_last_receiver_go, Judged, Expected}
@@ -48,7 +48,7 @@ calls_one made n x = let count : n + 1 - n ≡ 1 = omega arith in rw (count, all
 
 abbrev pub goes_from : Work → ℕ → ℕ → ℕ → List PlaceCall
 goes_from w id n below = if makes_draw w.operation then
-    (if is_within n (host_go w.operation) below then host_goes id w.set else []) else []
+    (if is_number_between n (host_go w.operation) below then host_goes id w.set else []) else []
 
 -- which exchange makes the host's port go on
 go_at_host : (o : Operation) (set : KeySet) (n : ℕ) → 1 ≤ n → n ≤ last_exchange_of true o
@@ -61,9 +61,9 @@ none_from w id n = grind (arith, nat_tests)
 
 -- the GOs of one exchange, and of those after it
 host_steps : (draws t : Bool) (n go below : ℕ) (cs : List PlaceCall) (host : StreamState) → (n == go) ≡ t → n < below
-    → all_called_at Host (if draws then (if is_within (n + 1) go below then cs else []) else [])
+    → all_called_at Host (if draws then (if is_number_between (n + 1) go below then cs else []) else [])
     (all_called_at Host (if draws && t then cs else []) host)
-    ≡ all_called_at Host (if draws then (if is_within n go below then cs else []) else []) host
+    ≡ all_called_at Host (if draws then (if is_number_between n go below then cs else []) else []) host
 host_steps draws t n go below cs host e lt = grind (arith, nat_tests)
 
 host_step : (w : Work) (id n below : ℕ) (host : StreamState) → 1 ≤ n → n ≤ last_exchange_of true w.operation → n < below
@@ -83,7 +83,7 @@ kept_standing : (plan : Plan) (w : Work) (n : ℕ) (keys : WireKeys) → 1 ≤ n
 kept_standing plan w n keys least most has = grind arith
 
 kept_ended : (plan : Plan) (w : Work) (n : ℕ) (keys : WireKeys) → n ≡ last_exchange_of true w.operation
-    → KeysKeptIn plan (op_after true (work_asked (asked_of w n)) (reach (n + 1) (n + 1))) keys
+    → KeysKeptIn plan (op_after_reach true (work_asked (asked_of w n)) (reach (n + 1) (n + 1))) keys
 kept_ended plan w n keys is = grind (arith, nat_tests)
 
 -- ---- what the rest of a walk gives

@@ -1,7 +1,7 @@
 -- What a call does to the slots of a place, and which of them stay Live.
 use Rattle.join_keys.proofs.CallTerms.{◌≡◌, Bool, arith, true, ℕ, List, false, sym, ◌≢◌, nat_tests, KeyCall, Program}
 use Rattle.join_keys.proofs.CallTerms.{Go, Stop, slots_called_out, slots_called_into, Work, makes_draw, Operation}
-use Rattle.join_keys.proofs.CallTerms.{refuses_in, is_last_in, is_only_live, is_last_live, live_draw, slot_pair}
+use Rattle.join_keys.proofs.CallTerms.{slots_refuse, is_last_in, is_only_live, is_last_live, live_draw, slot_pair}
 use Rattle.join_keys.proofs.CallTerms.{key_slot, LaneSlots, LaneSlot, Live, LiveKey, WaitsBesideLive, DrawsApart}
 use Rattle.join_keys.proofs.CallTerms.{if◌then◌else◌, not, any_live, refl, is_some, refusal_if}
 
@@ -13,7 +13,7 @@ last_live_is : (k : Bool) (a b : LaneSlot) → ((x y : LiveKey) → a ≡ Live x
 last_live_is k a b apart = grind (arith, nat_tests)
 
 pub only_live_is : (sends : Bool) (s : LaneSlots) (k : Bool) → DrawsApart s → is_only_live (slot_pair sends s) k
-    ≡ refuses_in s k
+    ≡ slots_refuse s k
 only_live_is sends s false apart = last_live_is false s.first s.second apart
 only_live_is sends s true apart = last_live_is true s.second s.first
     (λ x y first second same. apart y x second first (sym same))

@@ -1,18 +1,18 @@
 -- What proofs on the walks of operations speak of.
 pub use Rattle.join_keys.proofs.CallTerms.{◌≡◌, Bool, arith, true, SubKind, ℕ, List, ◌++◌, Work, Plan, if◌then◌else◌}
 pub use Rattle.join_keys.proofs.CallTerms.{false, nat_tests, Operation, place_at_end, LaneSlots, ◌≤◌, ◌∙◌, sym, Reach}
-pub use Rattle.join_keys.proofs.CallTerms.{makes_draw, is_within, lane_key, StreamCall, Device, Host, is_only_live}
-pub use Rattle.join_keys.proofs.CallTerms.{slot_pair, StreamState, ◌+◌, ◌==◌, [], zero, suc, refl, ◌-◌, ap, work}
-pub use Rattle.join_keys.proofs.CallTerms.{exchange_call, exchanges_called, all_called, KeyPlace, SubStream, host_go}
-pub use Rattle.join_keys.proofs.CallTerms.{WaitsBesideLive, ◌&&◌, Pr, Npr, Cpl, ◌<◌, Some, subst, ◌≢◌, ◌∷◌}
-pub use Rattle.join_keys.proofs.CallTerms.{stream_after_call, last_exchange_of, port_at, slots_at, refuses_in, key_slot}
-pub use Rattle.join_keys.proofs.CallTerms.{at_sub, LaneSlot, Live, lane_out, lane_in, key_of, IsSound, ReadsStream}
-pub use Rattle.join_keys.proofs.CallTerms.{CallsAreTouches, DrawsApart, ◌||◌}
+pub use Rattle.join_keys.proofs.CallTerms.{makes_draw, is_number_between, lane_key, StreamCall, Device, Host}
+pub use Rattle.join_keys.proofs.CallTerms.{is_only_live, slot_pair, StreamState, ◌+◌, ◌==◌, [], zero, suc, refl, ◌-◌}
+pub use Rattle.join_keys.proofs.CallTerms.{ap, work, exchange_call, exchanges_called, all_called, KeyPlace, SubStream}
+pub use Rattle.join_keys.proofs.CallTerms.{host_go, WaitsBesideLive, ◌&&◌, Pr, Npr, Cpl, ◌<◌, Some, subst, ◌≢◌, ◌∷◌}
+pub use Rattle.join_keys.proofs.CallTerms.{stream_after_call, last_exchange_of, port_at, slots_at, slots_refuse}
+pub use Rattle.join_keys.proofs.CallTerms.{key_slot, at_sub, LaneSlot, Live, lane_out, lane_in, key_of, IsSound}
+pub use Rattle.join_keys.proofs.CallTerms.{ReadsStream, CallsAreTouches, DrawsApart, ◌||◌}
 pub use Rattle.std.proofs.Common.{◌/◌, Option, ◌%◌, None, length, inl, inr, ◌*◌, option_map, Ok, Err}
 pub use Rattle.std.specs.Prelude.{nat_lt, is_some, unwrap_or, All}
 pub use Rattle.std.specs.Option.{option_or}
-pub use Rattle.spec_keys.specs.Operations.{reach_of, work_of, StreamStage, op_at_exchange, reach, op_after, Manager}
-pub use Rattle.spec_keys.specs.Operations.{manager_after_operation, manager_after}
+pub use Rattle.spec_keys.specs.Operations.{reach_of, work_of, StreamStage, op_at_exchange, reach, op_after_reach}
+pub use Rattle.spec_keys.specs.Operations.{Manager, manager_after_operation, manager_after}
 pub use Rattle.join_keys.specs.Calls.{all_called_at, call_of_exchange}
 pub use Rattle.ide_prefix.specs.{sub_from}
 pub use Rattle.key_messages.specs.{PlaceCall}
@@ -44,7 +44,8 @@ pub use Rattle.tsm_host.specs.Streams.{StreamView, draws_now, refusal_of, begun_
 pub use Rattle.tsm_host.specs.Streams.{begun_calls, outcome_of, taken_stream, taken_calls, shown_at_end, is_set}
 pub use Rattle.tsm_host.specs.Streams.{request_asked, wire_keys_after, stream_acknowledged, work_asked, HostView}
 pub use Rattle.tsm_host.specs.Walk.{Walked as ManagerWalk, answers, walk, walked_unless as manager_walked, verdict_of}
-pub use Rattle.tsm_host.specs.Walk.{op_by, exchange_judged, walk_after_outcome, Reads, key_refusal_verdict, IsAsked}
+pub use Rattle.tsm_host.specs.Walk.{op_if_reached, exchange_judged, walk_after_outcome, Reads, key_refusal_verdict}
+pub use Rattle.tsm_host.specs.Walk.{IsAsked}
 pub use Rattle.tsm_host.proofs.Walks.{Comes, walk_comes, WorkFits}
 pub use Rattle.sub_stream.specs.Calls.{sends_in, pair_at}
 pub use Rattle.machine_operations.proofs.{kept_is, key_cause}

@@ -1,7 +1,7 @@
 -- The calls of an event leave the stream as its touches do.
 use Rattle.join_keys.proofs.CallTerms.{◌≡◌, Bool, arith, true, ℕ, List, ◌++◌, false, ◌∙◌, sym, ◌-◌, ap, SubKind, Plan}
 use Rattle.join_keys.proofs.CallTerms.{KeyCall, Work, Reach, lane_key, StreamCall, all_called, Device, Host, Operation}
-use Rattle.join_keys.proofs.CallTerms.{lane, KeyPlace, place_at_end, port_at, refuses_in, is_some, slots_at}
+use Rattle.join_keys.proofs.CallTerms.{lane, KeyPlace, place_at_end, port_at, slots_refuse, is_some, slots_at}
 use Rattle.join_keys.proofs.CallTerms.{touches_at, is_only_live, slot_pair, StreamState, SubStream, lane_out, lane_in}
 use Rattle.join_keys.proofs.CallTerms.{touched_stream, IsSound, ReadsStream, CallsAreTouches, is_hosted, is_host}
 use Rattle.join_keys.proofs.CallTerms.{is_local, ◌&&◌, told_call, calls_from, key_number, Pr, refl, CallsAreTold}
@@ -51,7 +51,7 @@ module _ (plan : Plan) (ports : PortView) (line stream : ℕ) (w : Work) (r : Re
       ≡ is_only_live (slot_pair sends (slots_at sends u x)) w.set
   refused_is sends u =
       ap is_some (reads sends u w.set)
-      ∙ (is_refusal (refuses_in (slots_at sends u x) w.set)
+      ∙ (is_refusal (slots_refuse (slots_at sends u x) w.set)
       ∙ sym (only_live_is sends (slots_at sends u x) w.set (sound.apart sends u)))
 
   -- calls that are the operation's first and second at each place, and leave its slots as its touches do

@@ -1,7 +1,7 @@
 -- The calls of a place leave its slots as the touches of its event do. The host's port stops both sets where it loses
 -- all keys, which is the same.
 use Rattle.join_keys.proofs.CallTerms.{◌≡◌, Bool, arith, true, ℕ, ◌++◌, false, ◌≤◌, Some, nat_tests, SubKind, Plan}
-use Rattle.join_keys.proofs.CallTerms.{Program, Go, Stop, Work, Reach, makes_draw, work, is_within, touches_if}
+use Rattle.join_keys.proofs.CallTerms.{Program, Go, Stop, Work, Reach, makes_draw, work, is_number_between, touches_if}
 use Rattle.join_keys.proofs.CallTerms.{work_touches, Host, Operation, KeyPlace, place_at_end, taken_touches}
 use Rattle.join_keys.proofs.CallTerms.{is_only_live, slot_pair, LaneSlots, SubStream, key_of, slots_touched, host_go}
 use Rattle.join_keys.proofs.CallTerms.{if◌then◌else◌, is_hosted, is_local, is_host, lane}
@@ -36,8 +36,8 @@ pub touches_told : (plan : Plan) (o : Operation) (set : Bool) (draw first : ℕ)
     (p : KeyPlace) (r : Reach) (s : SubStream) (x : LaneSlots) (refuses : Bool → Bool) → is_hosted p.line ≡ hosted
     → is_local p ≡ false → refuses set ≡ is_only_live (slot_pair p.sends x) set
     → AreTouched plan (work o set draw first begins) r p s refuses
-    (is_within first (first_number hosted (is_host p.side) o (lane p)) r.carried)
-    (is_within first (second_number hosted (is_host p.side) o (lane p)) r.carried) x
+    (is_number_between first (first_number hosted (is_host p.side) o (lane p)) r.carried)
+    (is_number_between first (second_number hosted (is_host p.side) o (lane p)) r.carried) x
 touches_told plan op.Establish set draw first begins hosted p r s x refuses line told same =
     rw (told, ← line) (keyed_touches plan s p.sends refuses set draw x same _ _)
 touches_told plan op.Refresh set draw first begins hosted p r s x refuses line told same =
@@ -51,5 +51,5 @@ pub touches_asked : (plan : Plan) (w : Work) (line stream : ℕ) (sends : Bool) 
     → is_hosted line ≡ true → refuses w.set ≡ is_only_live (slot_pair sends x) w.set → 1 ≤ w.first
     → w.first ≤ r.acknowledged → (w.begins ≡ true → w.first ≡ 1)
     → AreTouched plan w r (place_at_end line stream sends Host u) s refuses w.begins
-    (if makes_draw w.operation then is_within w.first (host_go w.operation) r.acknowledged else w.begins) x
+    (if makes_draw w.operation then is_number_between w.first (host_go w.operation) r.acknowledged else w.begins) x
 touches_asked plan w line stream sends u r s x refuses hosted same low from one = grind (arith, nat_tests)

@@ -2,8 +2,8 @@
 use Rattle.join_keys.specs.Calls.{lane_sends}
 use Rattle.join_keys.proofs.Terms.{◌≡◌, Bool, arith, true, ℕ, List, Work, Plan, false, nat_tests, Operation, ◌≤◌, ◌∙◌}
 use Rattle.join_keys.proofs.Terms.{makes_draw, lane_key, is_only_live, StreamState, ◌+◌, ap, exchange_call, all_called}
-use Rattle.join_keys.proofs.Terms.{◌<◌, Some, last_exchange_of, refuses_in, DrawsApart, Option, op_at_exchange, reach}
-use Rattle.join_keys.proofs.Terms.{op_after, call_of_exchange, get_or-set_other, IsKey, PortView, refusal_at}
+use Rattle.join_keys.proofs.Terms.{◌<◌, Some, last_exchange_of, slots_refuse, DrawsApart, Option, op_at_exchange, reach}
+use Rattle.join_keys.proofs.Terms.{op_after_reach, call_of_exchange, get_or-set_other, IsKey, PortView, refusal_at}
 use Rattle.join_keys.proofs.Terms.{refusal_if, exchange_judged, is_some, None, sym, slot_in_set, is_empty, pair_slot}
 use Rattle.join_keys.proofs.Terms.{different-false, request_asked, wire_keys_after, stream_acknowledged, WorkFits}
 use Rattle.join_keys.proofs.Terms.{StreamEnds, came_to, ends_after_exchange, HasKeys, exchange_of, WireKeys, kept_key}
@@ -32,7 +32,7 @@ pub record Knows (plan : Plan) (ports : PortView) (w : Work) (line id requester 
     pub requester_most : requester ≤ 65535
     pub keys : makes_draw w.operation ≡ true → (lane : ℕ) → lane < 6 → IsKey (lane_key plan w.draw lane)
     pub reads : (lane : ℕ) → lane < 6 → ports.refusal (lane_place line id lane) w.set
-        ≡ refusal_if (refuses_in (lane_slots lane before) w.set)
+        ≡ refusal_if (slots_refuse (lane_slots lane before) w.set)
     pub apart : (lane : ℕ) → lane < 6 → DrawsApart (lane_slots lane before)
 
 -- exchange n is next: lanes whose KEY_PROG is to come are as before the event, and those whose GO is to come have a key
@@ -48,7 +48,7 @@ pub record IsNext (plan : Plan) (w : Work) (id : ℕ) (before : StreamState) (n 
 
 -- the operation after an exchange that is not its last
 standing_behind : (w : Work) (n : ℕ) → n < last_exchange_of true w.operation
-    → op_after true (work_asked (asked_of w n)) (reach (n + 1) (n + 1)) ≡ op_at_exchange w (n + 1)
+    → op_after_reach true (work_asked (asked_of w n)) (reach (n + 1) (n + 1)) ≡ op_at_exchange w (n + 1)
 standing_behind w n less = grind (arith, nat_tests, one_of_set)
 
 -- a KEY_PROG takes its own lane's key

@@ -16,7 +16,7 @@ use Rattle.spec_links.specs.Plan.{key_plan}
 use Rattle.tsm_host.specs.Exchanges.{kept_key}
 use Rattle.key_slots.specs.Wires.{WireKeys}
 use Rattle.tsm_host.specs.Streams.{StreamView, HostView, begun_pool}
-use Rattle.tsm_host.specs.Walk.{verdict_of, due_on, op_by}
+use Rattle.tsm_host.specs.Walk.{verdict_of, due_on, op_if_reached}
 use Rattle.spec_stream.specs.Stream.{StreamState}
 use Rattle.sub_stream.specs.Calls.{pair_at, stream_status}
 use Rattle.join_keys.specs.Calls.{lane_key}
@@ -76,7 +76,7 @@ pub record IsJoined (plan : Plan) (st : LinkState) (operation : Operation) (loss
   pub verdict_is : verdict_of operation e.keeper.line e.keeper.id loss r.outcome
       ≡ Some (verdict_due plan st operation e.keeper.op e.keeper.line e.keeper.id loss)
   pub op_is : let w = work_of operation e.keeper.op st.draws in
-      r.ends.keeper.op ≡ op_by (is_hosted e.keeper.line) e.keeper.op w
+      r.ends.keeper.op ≡ op_if_reached (is_hosted e.keeper.line) e.keeper.op w
       (reach_of operation (verdict_due plan st operation e.keeper.op e.keeper.line e.keeper.id loss))
   pub host_is : let w = work_of operation e.keeper.op st.draws in
       r.ends.host ≡ touched_by plan st e.keeper.line e.keeper.id w Host

@@ -27,7 +27,7 @@ use Rattle.tsm_host.specs.Exchanges.{kept_key, wire_number}
 use Rattle.key_slots.specs.Wires.{WireKeys}
 use Rattle.tsm_host.specs.Streams.{StreamView, HostView, asked_of_unfinished, end_asked, request_asked, refusal_of}
 use Rattle.tsm_host.specs.Streams.{begun_stream, outcome_of, taken_stream}
-use Rattle.tsm_host.specs.Walk.{verdict_of, op_by}
+use Rattle.tsm_host.specs.Walk.{verdict_of, op_if_reached}
 use Rattle.spec_stream.specs.Stream.{StreamState}
 use Rattle.machine_operations.specs.{LinkState, find, find_op, port_at, PortsStandFor}
 use Rattle.join_keys.specs.Calls.{lane_key, key_number}
@@ -137,7 +137,7 @@ pub record IsPairJoined (plan : Plan) (st : LinkState) (operation : Operation) (
   pub verdict_is : verdict_of operation e.keeper.line e.keeper.id loss r.outcome
       ≡ Some (verdict_due plan st operation e.keeper.op e.keeper.line e.keeper.id loss)
   pub op_is : let w = work_of operation e.keeper.op st.draws in
-      r.ends.keeper.op ≡ op_by (is_hosted e.keeper.line) e.keeper.op w
+      r.ends.keeper.op ≡ op_if_reached (is_hosted e.keeper.line) e.keeper.op w
       (reach_of operation (verdict_due plan st operation e.keeper.op e.keeper.line e.keeper.id loss))
   pub near_is : let w = work_of operation e.keeper.op st.draws in
       r.ends.near ≡ touched_by plan st e.keeper.line e.keeper.id w Host

@@ -9,7 +9,7 @@ use Rattle.key_slots.specs.{new_pool}
 use Rattle.key_messages.specs.{PlaceCall}
 use Rattle.spec_keys.specs.Operations.{StreamStage, Work, Reach, work_of, last_exchange_of, makes_draw}
 use Rattle.link_verdicts.specs.declared.verdict.Operation.{Operation}
-use Rattle.spec_keys.specs.History.{is_within, go_exchange}
+use Rattle.spec_keys.specs.History.{is_number_between, go_exchange}
 use Rattle.spec_keys.specs.Places.{key_place_at}
 use Rattle.spec_keys.specs.Keys.{refusal_if}
 use Rattle.ide_types.specs.Lines.{is_hosted}
@@ -18,7 +18,7 @@ use Rattle.tsm_host.specs.Local.{goes}
 use Rattle.tsm_host.specs.Streams.{begun_calls}
 use Rattle.spec_stream.specs.Stream.{Live, Armed, LaneSlots, StreamState, LiveKey, slot_in_set, at_sub}
 use Rattle.spec_stream.specs.Slots.{is_live_slot, rested_stream, slots_at}
-use Rattle.machine_operations.specs.{port_at, place_at_end, refuses_in, touches_at, touched_stream}
+use Rattle.machine_operations.specs.{port_at, place_at_end, slots_refuse, touches_at, touched_stream}
 use Rattle.join_keys.specs.Calls.{StreamCall, all_called, all_called_at, exchanges_called, calls_from, told_call}
 
 -- ---- what is known of a stream at a port
@@ -45,7 +45,7 @@ pub record IsSound (x : StreamState) : Type 0 where
 abbrev pub ReadsStream : PortView → Side → ℕ → ℕ → StreamState → Type 0
 ReadsStream ports side line stream x =
     (sends : Bool) (u : SubKind) (k : Bool) → ports.refusal (place_at_end line stream sends side u) k
-    ≡ refusal_if (refuses_in (slots_at sends u x) k)
+    ≡ refusal_if (slots_refuse (slots_at sends u x) k)
 
 -- ---- the calls of an event
 
@@ -57,7 +57,8 @@ host_go o = go_exchange o (key_place_at Host 0 0 false Pr)
 abbrev pub host_calls : Plan → ℕ → Work → Reach → List PlaceCall
 host_calls plan stream w r =
     begun_calls true w (new_pool plan.pool) stream
-    ++ (if makes_draw w.operation then (if is_within w.first (host_go w.operation) r.acknowledged then goes stream w.set
+    ++ (if makes_draw w.operation then
+    (if is_number_between w.first (host_go w.operation) r.acknowledged then goes stream w.set
     else []) else [])
 
 -- the device's calls are those of the exchanges that were carried

@@ -32,12 +32,13 @@ use Rattle.join_interfaces.specs.Verdicts.{op_event}
 use Rattle.link_ends.specs.DeviceEnds.{secure_at}
 use Rattle.ide_port.specs.{port_stream_status}
 use Rattle.machine_ports.specs.Machine.{LinkPacket, LinkState, find_op, machine_status}
-use Rattle.whole_links.specs.{EndsView, peer_live, live_for, operated_on, status_for, AreLinks, ended_at, ended_in}
-use Rattle.whole_links.specs.{ended_on, flr_as, firmware_as, has_peer_at, HostKeeper, managed_peer_stream}
-use Rattle.whole_links.specs.{peer_verdict_in, state_of, interface_of_ends, interface_seen_at, verdict_at_ends}
-use Rattle.whole_links.specs.{verdict_in, viewed_as, written_as}
+use Rattle.whole_links.specs.{EndsView, peer_live, live_for, operated_on, status_for, AreLinks, ended_if_there}
+use Rattle.whole_links.specs.{ended_in, ended_on_link, flr_as, firmware_as, has_peer_if_there, HostKeeper}
+use Rattle.whole_links.specs.{managed_peer_stream, peer_verdict_in, state_of, interface_of_ends, interface_seen_at}
+use Rattle.whole_links.specs.{verdict_at_ends, verdict_in, viewed_as, written_as}
 use Rattle.whole_links.proofs.{op_is}
-use Rattle.machine_whole.specs.Machine.{Whole, live_draw_at_end, memory_shown, op_or_idle, secure_in, whole_streams}
+use Rattle.machine_whole.specs.Machine.{Whole, live_draw_at_end, memory_shown, op_or_idle, machine_secure}
+use Rattle.machine_whole.specs.Machine.{whole_streams}
 use Rattle.join_interfaces.proofs.PeerEnds.{peer_line_is}
 use Rattle.join_world.specs.Whole.{AreDrawn, IsPlaced, IsBeside}
 use Rattle.join_world.proofs.Besides.{answered, due_at, view_is, write_is, flr_is, firmware_is, memory_is}
@@ -102,8 +103,9 @@ module _ (plan : Plan) (v : EndsView) (k : HostKeeper) (packets : List LinkPacke
       p.link_ends.device.interfaces p.interface
       ≡ operated_on i o loss k.keys (peer_live v x.link) k.interfaces p.link_ends p.interface
   operated_is i o loss x p =
-      let secure : secure_in plan w.links x.link x.plan.stream ≡ secure_at p.link_ends.device.port p.interface.stream =
-      ap (λ (st : LinkState). secure_in plan st x.link x.plan.stream) state_is
+      let secure : machine_secure plan w.links x.link x.plan.stream
+      ≡ secure_at p.link_ends.device.port p.interface.stream =
+      ap (λ (st : LinkState). machine_secure plan st x.link x.plan.stream) state_is
       ∙ sym (secure_is plan v k.keys packets links x.link x.plan.stream p.link_ends p.ends_are)
       ∙ ap (secure_at p.link_ends.device.port) (sym p.keeps.managed.laid_out.stream) in
       let draws : w.links.draws ≡ k.keys.pool.draws = ap (λ (st : LinkState). st.draws) state_is in
@@ -142,12 +144,12 @@ module _ (plan : Plan) (v : EndsView) (k : HostKeeper) (packets : List LinkPacke
   -- it has a verdict, the one that is due
   verdict_is : (i : ℕ) (o : InterfaceOperation) (loss : Option Loss) (x : Site)
       (p : IsPlaced plan v.links k.interfaces w i x) → slice_get (sites plan) i ≡ Some x → PeerFits x o
-      → verdict_in i o loss (ended_at k v i o loss (Some (x.link, p.place)))
+      → verdict_in i o loss (ended_if_there k v i o loss (Some (x.link, p.place)))
       ≡ Some (asked_due plan x (asked_state_of_face plan (whole_streams plan w) w.faces.used x p.face)
       (op_event o i loss))
   verdict_is i o loss x p is peer =
       let j = joined_is i o loss x p is peer in
-      (λ n. verdict_in i o loss (ended_on k v i o loss x.link (p.ends_are n) (p.interface_is n)))
+      (λ n. verdict_in i o loss (ended_on_link k v i o loss x.link (p.ends_are n) (p.interface_is n)))
       ∙ j.ended_is ∙ ap Some j.verdict_is
 
   operation_is : (i : ℕ) (o : InterfaceOperation) (loss : Option Loss)
@@ -156,7 +158,7 @@ module _ (plan : Plan) (v : EndsView) (k : HostKeeper) (packets : List LinkPacke
       ≡ due_at plan v.links k.interfaces memory w beside links.fits links.many i (op_event o i loss)
   operation_is i o loss peer =
       answered plan v.links k.interfaces memory w beside links.fits links.many i (op_event o i loss)
-      (λ at. verdict_in i o loss (ended_at k v i o loss at)) refl
+      (λ at. verdict_in i o loss (ended_if_there k v i o loss at)) refl
       (λ x p is. verdict_is i o loss x p is (peer x p))
 
   -- of an operation on a stream between devices
@@ -166,12 +168,12 @@ module _ (plan : Plan) (v : EndsView) (k : HostKeeper) (packets : List LinkPacke
       → (has_peer plan.peers x.link line stream ≡ false → said.Nothing
       ≡ asked_due plan x (asked_state_of_face plan (whole_streams plan w) w.faces.used x p.face) (op_event o i loss))
       → (if has_peer v.peers x.link line stream then verdict_in i o loss
-      (ended_at k v i o loss (Some (x.link, p.place)))
+      (ended_if_there k v i o loss (Some (x.link, p.place)))
       else Some said.Nothing)
       ≡ Some (asked_due plan x (asked_state_of_face plan (whole_streams plan w) w.faces.used x p.face)
       (op_event o i loss))
   peer_if i o loss line stream x p is there absent =
-      let with_peer = λ (b : Bool). if b then verdict_in i o loss (ended_at k v i o loss (Some (x.link, p.place)))
+      let with_peer = λ (b : Bool). if b then verdict_in i o loss (ended_if_there k v i o loss (Some (x.link, p.place)))
       else Some said.Nothing in
       ap (λ (ps : List PeerPlan). with_peer (has_peer ps x.link line stream)) links.peers_are
       ∙ ⊎_elim
@@ -188,7 +190,8 @@ module _ (plan : Plan) (v : EndsView) (k : HostKeeper) (packets : List LinkPacke
   bind_is i line stream loss =
       let o = op.Bind (managed_peer_stream k line stream) in
       answered plan v.links k.interfaces memory w beside links.fits links.many i (ie.Bind i line stream loss)
-      (λ at. if has_peer_at v line stream at then verdict_in i o loss (ended_at k v i o loss at) else Some said.Nothing)
+      (λ at. if has_peer_if_there v line stream at then verdict_in i o loss (ended_if_there k v i o loss at) else Some
+      said.Nothing)
       refl
       (λ x p is. peer_if i o loss line stream x p is
       (λ has. (peer_fits x line stream has).0)
@@ -200,7 +203,8 @@ module _ (plan : Plan) (v : EndsView) (k : HostKeeper) (packets : List LinkPacke
   unbind_is i line stream loss =
       let o = op.Unbind (managed_peer_stream k line stream) in
       answered plan v.links k.interfaces memory w beside links.fits links.many i (ie.Unbind i line stream loss)
-      (λ at. if has_peer_at v line stream at then verdict_in i o loss (ended_at k v i o loss at) else Some said.Nothing)
+      (λ at. if has_peer_if_there v line stream at then verdict_in i o loss (ended_if_there k v i o loss at) else Some
+      said.Nothing)
       refl
       (λ x p is. peer_if i o loss line stream x p is
       (λ has. (peer_fits x line stream has).1)

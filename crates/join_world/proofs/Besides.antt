@@ -22,7 +22,7 @@ use Rattle.interface_host.specs.Managers.{running_grant, granted_at}
 use Rattle.interface_host.specs.Views.{HostTdi, Seen, IsUnlocked, IsLocked, IsRunning, IsDoubt, IsBroken, is_granted}
 use Rattle.interface_host.specs.Views.{is_running, interface_grant as host_grant, grant_by, floor_of, view_of}
 use Rattle.trusted_memory.specs.{MemoryContents, Write, IsLeftBy, byte_at, bytes_from, in_one_region}
-unfoldable use Rattle.trusted_memory.specs.{byte_after}
+unfoldable use Rattle.trusted_memory.specs.{byte_last_written}
 use Rattle.spec_interfaces.specs.Due.{asked_due, code_after, write_due}
 use Rattle.spec_interfaces.specs.Sites.{Site, sites}
 use Rattle.spec_interfaces.specs.Views.{Managed, bound_if}

@@ -19,13 +19,12 @@ use Rattle.spec_interfaces.specs.Peers.{live_by_id}
 use Rattle.spec_interfaces.specs.Sites.{Site, sites}
 use Rattle.spec_interfaces.specs.Devices.{interface_if_called, accepts_lock}
 use Rattle.spec_interfaces.specs.Views.{managed_after}
-use Rattle.machine_whole.specs.Interfaces.{Face, around_of, face_after}
+use Rattle.machine_whole.specs.Interfaces.{Face, around_of, next_face}
 use Rattle.join_interfaces.specs.Faces.{IsManaged}
-use Rattle.machine_whole.specs.Machine.{Whole, secure_in, live_draw_at_end, ends_in, whole_streams, draw_after}
+use Rattle.machine_whole.specs.Machine.{Whole, machine_secure, live_draw_at_end, ends_in, whole_streams, draw_after}
 use Rattle.machine_whole.specs.Machine.{written_after, whole_after}
 use Rattle.machine_ports.specs.Machine.{LinkPacket, LinkState}
-use Rattle.join_interfaces.specs.Says.{AreSecureStill, Keeps, says_in, is_said_secure}
-use Rattle.join_interfaces.specs.Says.{leaves_stream}
+use Rattle.join_interfaces.specs.Says.{AreSecureStill, Keeps, says_by_ports, is_said_secure, leaves_stream}
 use Rattle.join_interfaces.proofs.Settled.{settled_is, stays_is, keeps_after}
 use Rattle.join_interfaces.proofs.Apart.{are_apart}
 use Rattle.whole_links.specs.{AllFollow, AreLinks, EndsView, InterfacesView, IsSettledOrSame, KeeperView, LinkEnds}
@@ -40,14 +39,15 @@ use Rattle.join_world.proofs.Statuses.{live_is, secure_is}
 
 -- the ends at the device of a link show what the machine has of its streams
 pub record ShowsState (plan : Plan) (st : LinkState) (v : EndsView) (link : ℕ) (l : LinkEnds) : Type 0 where
-  pub secure : (stream : ℕ) → secure_in plan st link stream ≡ secure_at l.device.port stream
+  pub secure : (stream : ℕ) → machine_secure plan st link stream ≡ secure_at l.device.port stream
   pub live : (stream : ℕ) → live_by_id (live_draw_at_end plan st) plan.peers link stream ≡ peer_live v link stream
 
 -- its interfaces are settled by what is Secure after the event, or are as before, and no stream left Secure
 abbrev pub IsLed : Plan → LinkState → LinkState → ℕ → LinkEnds → LinkEnds → Type 0
 IsLed plan old new link l l' =
-    (l'.device.interfaces ≡ settled_interfaces (is_said_secure (says_in plan new link)) l.device.interfaces)
-    ⊎ ((l'.device.interfaces ≡ l.device.interfaces) × AreSecureStill (says_in plan old link) (says_in plan new link))
+    (l'.device.interfaces ≡ settled_interfaces (is_said_secure (says_by_ports plan new link)) l.device.interfaces)
+    ⊎ ((l'.device.interfaces ≡ l.device.interfaces) × AreSecureStill (says_by_ports plan old link)
+    (says_by_ports plan new link))
 
 -- if they follow the ends of its streams, and the machine's states of these are theirs
 pub led_follows : (plan : Plan) (old new : LinkState) (v v' : EndsView) (link : ℕ) (l l' : LinkEnds)
@@ -98,7 +98,8 @@ led_same plan old new link l l' led = ⊎_elim
       nonces = ap (λ (d : DeviceTdis). d.nonces) same;
       used = ap (λ (d : DeviceTdis). d.used) same;
       many = ap (λ (d : DeviceTdis). length d.interfaces) same
-          ∙ length-map l.device.interfaces.interfaces (settled_interface (is_said_secure (says_in plan new link)));
+          ∙ length-map l.device.interfaces.interfaces
+          (settled_interface (is_said_secure (says_by_ports plan new link)));
     })
     (λ kept. record {
       nonces = ap (λ (d : DeviceTdis). d.nonces) kept.0;
@@ -108,28 +109,31 @@ led_same plan old new link l l' led = ⊎_elim
 
 pub led_interface : (plan : Plan) (old new : LinkState) (x : Site) (l l' : LinkEnds) (place : ℕ) (tdi : Tdi)
     → FitsPlan plan → x.link < 8 → IsLed plan old new x.link l l'
-    → slice_get l.device.interfaces.interfaces place ≡ Some tdi → Keeps (says_in plan old x.link) x.plan tdi
+    → slice_get l.device.interfaces.interfaces place ≡ Some tdi → Keeps (says_by_ports plan old x.link) x.plan tdi
     → slice_get l'.device.interfaces.interfaces place
-    ≡ Some (interface_if_called (leaves_stream (says_in plan old x.link) (says_in plan new x.link) x.plan tdi.bindings)
+    ≡ Some (interface_if_called
+    (leaves_stream (says_by_ports plan old x.link) (says_by_ports plan new x.link) x.plan tdi.bindings)
     StreamLeft
     tdi)
 led_interface plan old new x l l' place tdi fits lt led is keeps = ⊎_elim
     (λ same. ap (λ (d : DeviceTdis). slice_get d.interfaces place) same
-    ∙ slice_get-map (settled_interface (is_said_secure (says_in plan new x.link))) l.device.interfaces.interfaces place
-    ∙ ap (option_map (settled_interface (is_said_secure (says_in plan new x.link)))) is
-    ∙ ap Some (settled_is _ (says_in plan old x.link) (says_in plan new x.link) x.plan tdi
+    ∙ slice_get-map (settled_interface (is_said_secure (says_by_ports plan new x.link))) l.device.interfaces.interfaces
+    place
+    ∙ ap (option_map (settled_interface (is_said_secure (says_by_ports plan new x.link)))) is
+    ∙ ap Some (settled_is _ (says_by_ports plan old x.link) (says_by_ports plan new x.link) x.plan tdi
     (are_apart plan old x.link fits lt) (are_apart plan new x.link fits lt) keeps))
     (λ kept. ap (λ (d : DeviceTdis). slice_get d.interfaces place) kept.0 ∙ is
-    ∙ ap Some (stays_is (says_in plan old x.link) (says_in plan new x.link) x.plan tdi kept.1)) led
+    ∙ ap Some (stays_is (says_by_ports plan old x.link) (says_by_ports plan new x.link) x.plan tdi kept.1)) led
 
 -- ---- an interface
 
 -- the event makes no more of it than that a stream that it is bound to leaves Secure, and it accepts no lock
 pub record OnlyLeaves (plan : Plan) (w : Whole) (e : Event) (verdict : Verdict) (new : LinkState) (x : Site) (f : Face)
     : Type 0 where
-  pub next : (face_after plan (whole_streams plan w) (ends_in plan new) w.faces.used e verdict x f).tdi
+  pub next : (next_face plan (whole_streams plan w) (ends_in plan new) w.faces.used e verdict x f).tdi
       ≡ interface_if_called
-      (leaves_stream (says_in plan w.links x.link) (says_in plan new x.link) x.plan f.tdi.bindings) StreamLeft
+      (leaves_stream (says_by_ports plan w.links x.link) (says_by_ports plan new x.link) x.plan f.tdi.bindings)
+      StreamLeft
       f.tdi
   pub none : accepts_lock (around_of plan (whole_streams plan w) w.faces.used x f) x e verdict f.tdi ≡ false
 
@@ -143,7 +147,7 @@ pub record IsManagedAfter (plan : Plan) (w : Whole) (e : Event) (verdict : Verdi
       (managed_after (whole_streams plan w).op w.links.draws x e verdict f.managed)
 
 pub placed_keeps : (plan : Plan) (ends : List LinkEnds) (m : InterfacesView) (w : Whole) (i : ℕ) (x : Site)
-    → (p : IsPlaced plan ends m w i x) → Keeps (says_in plan w.links x.link) x.plan p.tdi
+    → (p : IsPlaced plan ends m w i x) → Keeps (says_by_ports plan w.links x.link) x.plan p.tdi
 placed_keeps plan ends m w i x p = record {
   layout = p.keeps.layout;
   own = p.keeps.bound;
@@ -166,8 +170,8 @@ pub placed_led : (plan : Plan) (w : Whole) (e : Event) (verdict : Verdict) (new 
     → IsLed plan w.links new x.link p.link_ends l' → OnlyLeaves plan w e verdict new x p.face
     → IsManagedAfter plan w e verdict m' i x p.face → IsPlaced plan ends' m' (whole_after plan w e verdict new) i x
 placed_led plan w e verdict new ends ends' m m' i x l' fits at p is same led only managed =
-    let before = says_in plan w.links x.link in
-    let after = says_in plan new x.link in
+    let before = says_by_ports plan w.links x.link in
+    let after = says_by_ports plan new x.link in
     let keeps = placed_keeps plan ends m w i x p in
     let behind = keeps_after before after x.plan p.tdi keeps in
     record {
@@ -181,8 +185,8 @@ placed_led plan w e verdict new ends ends' m m' i x l' fits at p is same led onl
           keeps;
       interface = managed.interface;
       interface_is = managed.interface_is;
-      face = face_after plan (whole_streams plan w) (ends_in plan new) w.faces.used e verdict x p.face;
-      face_is = each_at (face_after plan (whole_streams plan w) (ends_in plan new) w.faces.used e verdict)
+      face = next_face plan (whole_streams plan w) (ends_in plan new) w.faces.used e verdict x p.face;
+      face_is = each_at (next_face plan (whole_streams plan w) (ends_in plan new) w.faces.used e verdict)
           (sites plan)
           w.faces.list i x p.face at p.face_is;
       keeps = record {
@@ -241,7 +245,7 @@ beside_led plan w e verdict new ends ends' m m' memory memory' fits b s =
     record {
       portion = s.portion ∙ b.portion;
       managed = s.interfaces ∙ b.managed;
-      faced = each_many (face_after plan (whole_streams plan w) (ends_in plan new) w.faces.used e verdict)
+      faced = each_many (next_face plan (whole_streams plan w) (ends_in plan new) w.faces.used e verdict)
           (sites plan)
           w.faces.list (sym b.faced);
       devices = λ link l' at.

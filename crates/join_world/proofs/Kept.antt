@@ -29,8 +29,8 @@ use Rattle.machine_ports.specs.Machine.{BesidePorts, LinkState, Stepped, status_
 unfoldable use Rattle.machine_ports.specs.Machine.{find_op, step_of}
 use Rattle.machine_whole.specs.Machine.{Whole, whole_streams, arrival_of, draw_after, written_after}
 use Rattle.machine_whole.specs.Machine.{beside_of, whole_after}
-use Rattle.whole_links.specs.{AreLinks, InterfacesView, Links, links_state, SidesKeep, writes_by}
-use Rattle.join_interfaces.specs.Says.{AreSecureStill, says_in}
+use Rattle.whole_links.specs.{AreLinks, InterfacesView, Links, links_state, BesideStays, writes_by}
+use Rattle.join_interfaces.specs.Says.{AreSecureStill, says_by_ports}
 use Rattle.join_interfaces.proofs.Settled.{leaves_none, stays_is}
 use Rattle.join_interfaces.proofs.Sends.{StaySecure, answer_kept, forward_kept, says_kept, sends_kept}
 use Rattle.join_world.specs.Whole.{AreDrawn, IsBeside}
@@ -42,12 +42,12 @@ use Rattle.join_world.proofs.Follows.{OnlyLeaves, IsManagedAfter, beside_led}
 -- ---- an interface
 
 only_rests : (plan : Plan) (w : Whole) (e : Event) (verdict : Verdict) (new : LinkState) (x : Site) (f : Face)
-    → AreSecureStill (says_in plan w.links x.link) (says_in plan new x.link)
+    → AreSecureStill (says_by_ports plan w.links x.link) (says_by_ports plan new x.link)
     → Rests e verdict x → OnlyLeaves plan w e verdict new x f
 only_rests plan w e verdict new x f stays rests =
     let a = around_of plan (whole_streams plan w) w.faces.used x f in
-    let before = says_in plan w.links x.link in
-    let after = says_in plan new x.link in
+    let before = says_by_ports plan w.links x.link in
+    let after = says_by_ports plan new x.link in
     record {
       next =
           ap (λ (b : Bool). next_interface a b x e verdict f.tdi) (leaves_none before after x.plan f.tdi.bindings stays)
@@ -97,14 +97,14 @@ written_kept plan w e verdict none =
 
 -- no stream left Secure, and the event rests at each interface, draw and byte
 pub record IsStill (plan : Plan) (w : Whole) (e : Event) (verdict : Verdict) (new : LinkState) : Type 0 where
-  pub stays : (link : ℕ) → AreSecureStill (says_in plan w.links link) (says_in plan new link)
+  pub stays : (link : ℕ) → AreSecureStill (says_by_ports plan w.links link) (says_by_ports plan new link)
   pub rests : (i : ℕ) (x : Site) → slice_get (sites plan) i ≡ Some x → Rests e verdict x
   pub draw : draw_after (whole_streams plan w).op w.links.draws e verdict w.draw ≡ w.draw
   pub written : written_after plan w e verdict ≡ w.written
 
 pub kept_beside : (plan : Plan) (w : Whole) (e : Event) (verdict : Verdict) (new : LinkState) (old after : Links)
     → FitsPlan plan → IsBeside plan old.ends.links old.keeper.interfaces old.trusted.contents w
-    → length after.ends.links ≡ length old.ends.links → SidesKeep old after → IsStill plan w e verdict new
+    → length after.ends.links ≡ length old.ends.links → BesideStays old after → IsStill plan w e verdict new
     → IsBeside plan after.ends.links after.keeper.interfaces after.trusted.contents (whole_after plan w e verdict new)
 kept_beside plan w e verdict new old after fits b many sides still =
     beside_led plan w e verdict new old.ends.links after.ends.links old.keeper.interfaces after.keeper.interfaces
@@ -190,7 +190,7 @@ not_there : (link n : ℕ) → n ≤ link → not (nat_lt link n) ≡ true
 not_there link n le = grind (arith, nat_tests)
 
 module _ (plan : Plan) (old new : Links) (w : Whole) (verdict : Verdict) (beside : BesidePorts)
-    (both : AreBoth plan old new w) (sides : SidesKeep old new) where
+    (both : AreBoth plan old new w) (sides : BesideStays old new) where
   still_beside : (e : Event) → IsStill plan w e verdict (links_state plan new)
       → IsBeside plan new.ends.links new.keeper.interfaces new.trusted.contents
       (whole_after plan w e verdict (links_state plan new))
@@ -201,7 +201,7 @@ module _ (plan : Plan) (old new : Links) (w : Whole) (verdict : Verdict) (beside
   -- the state of the machine after it is one in which every stream is Secure still
   stays_in : (e : Event) → (verdict, links_state plan new) ≡ step_of plan beside w.links e
       → StaySecure plan w.links (step_of plan beside w.links e).1 → (link : ℕ)
-      → AreSecureStill (says_in plan w.links link) (says_in plan (links_state plan new) link)
+      → AreSecureStill (says_by_ports plan w.links link) (says_by_ports plan (links_state plan new) link)
   stays_in e step stays =
       says_kept plan w.links (links_state plan new)
       (subst (StaySecure plan w.links) (sym (ap (λ (r : Stepped). r.1) step)) stays)

@@ -34,7 +34,7 @@ use Rattle.spec_links.specs.Ports.{at_switch}
 use Rattle.machine_ports.specs.Machine.{port_at}
 use Rattle.whole_links.specs.{EndsView, bound_on, bound_trust, far_hop_trust, link_trust, trusting_on}
 use Rattle.whole_links.specs.{AreLinks, InterfacesView, KeeperView, LinkEnds}
-use Rattle.machine_whole.specs.Machine.{Whole, t_by, t_kept}
+use Rattle.machine_whole.specs.Machine.{Whole, t_at_side, t_kept}
 use Rattle.join_world.specs.Whole.{IsPlaced, IsBeside}
 use Rattle.join_world.proofs.Places.{face_first, face_nowhere, position_at, position_none, IsSomeSite, site_or_none}
 use Rattle.join_world.proofs.Sites.{site_at_place, site_apart, located_read, held_before}
@@ -295,21 +295,24 @@ as_sent switch peer trusted bound own is = rw is refl
 
 module _ (plan : Plan) (fs : Faces) (end : PortName) (head : HeadView) (stream : ℕ) (trusted : Bool) where
   kept_own : at_switch plan end ≡ false → is_peer plan end ≡ false
-      → t_by plan fs end end.side head stream trusted ≡ t_kept plan fs end head stream trusted
+      → t_at_side plan fs end end.side head stream trusted ≡ t_kept plan fs end head stream trusted
   kept_own =
       as_own (at_switch plan end) (is_peer plan end) trusted
-      (peer_t_of plan fs (owners_link plan end) stream (owner_id head)) (t_by plan fs end end.side head stream trusted)
+      (peer_t_of plan fs (owners_link plan end) stream (owner_id head))
+      (t_at_side plan fs end end.side head stream trusted)
 
   kept_bound : at_switch plan end ≡ false → is_peer plan end ≡ true
       → peer_t_of plan fs (owners_link plan end) stream (owner_id head) ≡ t_kept plan fs end head stream trusted
   kept_bound =
       as_bound (at_switch plan end) (is_peer plan end) trusted
-      (peer_t_of plan fs (owners_link plan end) stream (owner_id head)) (t_by plan fs end end.side head stream trusted)
+      (peer_t_of plan fs (owners_link plan end) stream (owner_id head))
+      (t_at_side plan fs end end.side head stream trusted)
 
   kept_sent : at_switch plan end ≡ true → trusted ≡ t_kept plan fs end head stream trusted
   kept_sent =
       as_sent (at_switch plan end) (is_peer plan end) trusted
-      (peer_t_of plan fs (owners_link plan end) stream (owner_id head)) (t_by plan fs end end.side head stream trusted)
+      (peer_t_of plan fs (owners_link plan end) stream (owner_id head))
+      (t_at_side plan fs end end.side head stream trusted)
 
 -- ---- where the code looks
 
@@ -386,7 +389,7 @@ module _ (plan : Plan) (v : EndsView) (k : KeeperView) (m : InterfacesView) (mem
 
   link_is : (s : Side) (line : ℕ) (o : Option LinkEnds) (head : HeadView) (stream : ℕ) (trusted : Bool)
       → slice_get v.links line ≡ o
-      → link_trust s trusted o head stream ≡ t_by plan w.faces (port_at s line) s head stream trusted
+      → link_trust s trusted o head stream ≡ t_at_side plan w.faces (port_at s line) s head stream trusted
   link_is Host line o head stream trusted is = refl
   link_is Device line None head stream trusted is =
       owner_nowhere plan v.links m memory w beside links.fits links.many line stream (owner_id head) is

@@ -15,7 +15,7 @@ use Rattle.ide_types.specs.declared.plan.LinkPlan.{LinkPlan}
 use Rattle.ide_types.specs.declared.plan.Plan.{Plan}
 use Rattle.spec_interfaces.specs.Sites.{Site, sites}
 use Rattle.interface_state.specs.Machine.{Tdi}
-use Rattle.interface_ends.specs.Replies.{DeviceTdis, named_interface, named_interface_in, named_interface_at}
+use Rattle.interface_ends.specs.Replies.{DeviceTdis, named_interface, named_interface_in, named_interface_if_there}
 use Rattle.interface_ends.specs.Replies.{is_elsewhere, requester_in, has_requester}
 use Rattle.trusted_memory.specs.{MemoryContents}
 use Rattle.whole_links.specs.{interface_named, InterfacesView, LinkEnds, place_on_links}
@@ -169,7 +169,7 @@ named_by : (d : DeviceTdis) (r place : ℕ) (t : Tdi) → r ≤ 65535 → positi
 named_by d r place t le found is =
     rw (near r le) (ap (λ (n : ℕ). named_interface_in d.interfaces (position (has_requester n) d.interfaces))
     (whole_id r le)
-    ∙ ap (named_interface_in d.interfaces) found ∙ ap (named_interface_at place) is)
+    ∙ ap (named_interface_in d.interfaces) found ∙ ap (named_interface_if_there place) is)
 
 nonces_are : (ls : List LinkPlan) (i : ℕ) (l : LinkPlan) → slice_get ls i ≡ Some l
     → slice_index_or (map (λ (k : LinkPlan). k.nonces) ls) i [] ≡ l.nonces

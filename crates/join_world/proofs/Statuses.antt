@@ -28,7 +28,7 @@ use Rattle.machine_ports.specs.Machine as machine
 use Rattle.spec_interfaces.specs.Devices.{is_secure}
 unfoldable use Rattle.spec_interfaces.specs.Peers.{peer_end}
 use Rattle.spec_interfaces.specs.Peers.{live_by_id}
-use Rattle.machine_whole.specs.Machine.{live_if, live_draw_at_end, secure_in}
+use Rattle.machine_whole.specs.Machine.{live_if, live_draw_at_end, machine_secure}
 use Rattle.join_interfaces.proofs.PeerEnds.{peer_end_is}
 use Rattle.whole_links.specs.{EndsView, PairEnds, live_at_port, live_of, peer_live, pair_port, port_on}
 use Rattle.whole_links.proofs.{end_found}
@@ -79,7 +79,7 @@ module _ (plan : Plan) (v : EndsView) (k : KeeperView) (packets : List LinkPacke
   secure_says (Some status.Insecure) = refl
 
   pub secure_is : (link stream : ℕ) (l : LinkEnds) → slice_get v.links link ≡ Some l
-      → secure_at l.device.port stream ≡ secure_in plan (state_of plan v k packets) link stream
+      → secure_at l.device.port stream ≡ machine_secure plan (state_of plan v k packets) link stream
   secure_is link stream l is =
       secure_says (port_stream_status l.device.port stream)
       ∙ ap is_secure (status_is (port_at Device link) l.device.port stream (link_port plan v k Device link l links is))

@@ -8,7 +8,7 @@ use Rattle.ide_types.specs.declared.plan.PeerPlan.{PeerPlan}
 use Rattle.spec_interfaces.specs.Peers.{live_by_id}
 use Rattle.spec_interfaces.specs.Sites.{Site, sites, nonces_of}
 use Rattle.machine_whole.specs.Interfaces.{Face}
-use Rattle.machine_whole.specs.Machine.{Whole, secure_in, live_draw_at_end}
+use Rattle.machine_whole.specs.Machine.{Whole, machine_secure, live_draw_at_end}
 use Rattle.interface_state.specs.Machine.{Tdi, bound_link_stream}
 use Rattle.interface_state.specs.Bindings.{binds}
 use Rattle.interface_state.specs.Held.{IsBound}
@@ -33,7 +33,7 @@ pub record IsPlaced (plan : Plan) (ends : List LinkEnds) (m : InterfacesView) (w
     pub face : Face
     pub face_is : slice_get w.faces.list i ≡ Some face
     pub keeps : IsFace (w.draw x.link x.plan.stream) x interface tdi face
-    pub secure : IfSome (bound_link_stream tdi.state) (λ stream. secure_in plan w.links x.link stream ≡ true)
+    pub secure : IfSome (bound_link_stream tdi.state) (λ stream. machine_secure plan w.links x.link stream ≡ true)
     pub bound : (stream : ℕ) → binds stream tdi.bindings ≡ true
         → is_some (live_by_id (live_draw_at_end plan w.links) plan.peers x.link stream) ≡ true
     pub held : IsBound tdi.state tdi.bindings

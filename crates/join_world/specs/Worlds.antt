@@ -8,7 +8,7 @@ use Rattle.spec_links.specs.Due.{due}
 use Rattle.machine_ports.specs.Machine.{LinkState}
 use Rattle.machine_whole.specs.{StreamPoints}
 use Rattle.machine_whole.specs.Machine.{Whole}
-use Rattle.machine_whole.specs.Stands.{StandsFor}
+use Rattle.machine_whole.specs.Stands.{WholeStandsFor}
 use Rattle.whole_links.specs.{AreLinks, EndsView, InterfacesView, links_state}
 use Rattle.trusted_memory.specs.{MemoryContents}
 use Rattle.whole_links.specs.declared.whole.WholeLinks.{WholeLinks}
@@ -42,7 +42,7 @@ pub record IsWholeState (s : WorldView) (w : Whole) : Type 0 where
 pub record WorldStandsFor (s : WorldView) (h : History) : Type 0 where
   pub whole : Whole
   pub is : IsWholeState s whole
-  pub stands : StandsFor s.plan whole h
+  pub stands : WholeStandsFor s.plan whole h
 
 -- before the first event
 pub record IsNewWorld (plan : Plan) (s : WorldView) : Type 0 where

@@ -13,8 +13,8 @@ use Rattle.key_messages.specs.declared.object.KmFault.{KmFault}
 use Rattle.key_messages.specs.Objects.{object_reading}
 use Rattle.key_messages.specs.declared.place.Place.{Place}
 use Rattle.key_messages.specs.Calls.{place_call, SlotsShown, shown_pair, is_taken_at, is_same_place, SlotsAfter}
-use Rattle.key_messages.specs.Replies.{set_of, selected_place, call_for, call_from, call_of, Kept, is_done, status_code}
-use Rattle.key_messages.specs.Replies.{key_status_of, reading_reply, reply_object, HoldsKey, Acknowledged}
+use Rattle.key_messages.specs.Replies.{set_of, selected_place, object_call, reading_call, call_of, Kept, is_done}
+use Rattle.key_messages.specs.Replies.{status_code, key_status_of, reading_reply, reply_object, HoldsKey, Acknowledged}
 
 -- ---- replies that are no success
 
@@ -68,8 +68,9 @@ record ProgramsKey (r : Result KmView KmFault) (stream selector draw : ℕ) (aft
 
 key_stands : (shown after : SlotsShown) (unfinished : Place → Bool) (draw stream selector index : ℕ) (key : List ℕ)
     (counter : ℕ)
-    → Kept shown unfinished (call_for draw (KeyProg stream selector index key counter)) after
-    → status_code (key_status_of index (is_done shown (call_for draw (KeyProg stream selector index key counter)))) ≡ 0
+    → Kept shown unfinished (object_call draw (KeyProg stream selector index key counter)) after
+    → status_code (key_status_of index (is_done shown (object_call draw (KeyProg stream selector index key counter))))
+    ≡ 0
     → ProgramsKey (Ok (KeyProg stream selector index key counter)) stream selector draw after
 key_stands shown after unfinished draw stream selector index key counter h e = elim (cases_Bool (eqb index 0)) [
   | inr other ↦ let wrong : ◌≡◌ {A = ℕ} 2 0 = rw other at e in absurd (omega (arith, wrong))
@@ -90,8 +91,8 @@ key_stands shown after unfinished draw stream selector index key counter h e = e
 -- status 0 is only given for a KEY_PROG whose call is taken, and such a call leaves the slot Programmed
 stands : (shown after : SlotsShown) (unfinished : Place → Bool) (rid draw stream selector index : ℕ) (request : List ℕ)
     (r : Result KmView KmFault)
-    → Kept shown unfinished (call_from draw r) after
-    → reading_reply rid request r (is_done shown (call_from draw r)) ≡ Some (KpAck stream 0 selector index)
+    → Kept shown unfinished (reading_call draw r) after
+    → reading_reply rid request r (is_done shown (reading_call draw r)) ≡ Some (KpAck stream 0 selector index)
     → ProgramsKey r stream selector draw after
 stands shown after unfinished rid draw stream selector index request (Err fault) h e = absurd
     (never _ (slice_index request 4) 1 (slice_index request 6) (slice_index request 7) stream selector index
@@ -103,7 +104,7 @@ stands shown after unfinished rid draw stream selector index request
 stands shown after unfinished rid draw stream selector index request (Ok (KeyProg s sel port key counter)) h e =
     let a : s ≡ stream = cc in
     let b : sel ≡ selector = cc in
-    let call = call_for draw (KeyProg s sel port key counter) in
+    let call = object_call draw (KeyProg s sel port key counter) in
     let c : status_code (key_status_of port (is_done shown call)) ≡ 0 = cc in
     rw (← a, ← b) (key_stands shown after unfinished draw s sel port key counter h c)
 stands shown after unfinished rid draw stream selector index request (Ok (KpAck s status sel port)) h e = absurd cc

@@ -74,11 +74,11 @@ abbrev pub is_same_place : Place → Place → Bool
 is_same_place p q =
     ((p.stream == q.stream) && (direction_number p.direction == direction_number q.direction)) && (p.sub == q.sub)
 
-abbrev pub place_after : SlotsShown → (Place → Bool) → PlaceCall → Place → Option SlotPair
-place_after shown unfinished c p =
+abbrev pub slots_after_call : SlotsShown → (Place → Bool) → PlaceCall → Place → Option SlotPair
+slots_after_call shown unfinished c p =
     if is_same_place p c.place && nat_lt p.sub 3 then option_map (slots_by c.call (unfinished p)) (shown p)
     else shown p
 
 -- the slots move at the place that is called, and nowhere else
 abbrev pub SlotsAfter : SlotsShown → (Place → Bool) → PlaceCall → SlotsShown → Type 0
-SlotsAfter before unfinished c after = (p : Place) → after p ≡ place_after before unfinished c p
+SlotsAfter before unfinished c after = (p : Place) → after p ≡ slots_after_call before unfinished c p

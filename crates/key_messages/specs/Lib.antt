@@ -10,8 +10,8 @@ pub use Rattle.key_messages.specs.Objects.{object_spelling, is_reserved, FitsObj
 pub use Rattle.key_messages.specs.Objects.{object_of, object_or, object_reading}
 pub use Rattle.key_messages.specs.Calls.{place_at, PlaceCall, place_call, SlotsShown, shown_pair, program_answer_at}
 pub use Rattle.key_messages.specs.Calls.{shown_program_answer, go_answer_at, go_answer, is_there, stop_answer}
-pub use Rattle.key_messages.specs.Calls.{is_taken_at, is_taken, slots_by, is_same_place, place_after, SlotsAfter}
-pub use Rattle.key_messages.specs.Replies.{set_of, direction_of, sub_of, selected_place, call_for, call_from, call_of}
-pub use Rattle.key_messages.specs.Replies.{Moved, Kept, is_done, status_code, key_status_of, description, object_reply}
-pub use Rattle.key_messages.specs.Replies.{fault_reply, reading_reply, reply_object, object_bytes, reply_bytes}
-pub use Rattle.key_messages.specs.Replies.{HoldsKey, Acknowledged}
+pub use Rattle.key_messages.specs.Calls.{is_taken_at, is_taken, slots_by, is_same_place, slots_after_call, SlotsAfter}
+pub use Rattle.key_messages.specs.Replies.{set_of, direction_of, sub_of, selected_place, object_call, reading_call}
+pub use Rattle.key_messages.specs.Replies.{call_of, Moved, Kept, is_done, status_code, key_status_of, description}
+pub use Rattle.key_messages.specs.Replies.{object_reply, fault_reply, reading_reply, reply_object, object_bytes}
+pub use Rattle.key_messages.specs.Replies.{reply_bytes, HoldsKey, Acknowledged}

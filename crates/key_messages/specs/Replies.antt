@@ -32,23 +32,23 @@ selected_place stream selector = place_at stream (direction_of selector) (sub_of
 -- ---- the call of the port that a request makes
 
 -- the port's index is 0, and of a KEY_PROG the initial counter of units is 1
-abbrev pub call_for : ℕ → KmView → Option PlaceCall
-call_for draw (KeyProg stream selector port key counter) =
+abbrev pub object_call : ℕ → KmView → Option PlaceCall
+object_call draw (KeyProg stream selector port key counter) =
     if (port == 0) && (counter == 1) then
     Some (place_call (selected_place stream selector) (Program (set_of selector) key draw))
     else None
-call_for draw (SetGo stream selector port) =
+object_call draw (SetGo stream selector port) =
     if port == 0 then Some (place_call (selected_place stream selector) (Go (set_of selector))) else None
-call_for draw (SetStop stream selector port) =
+object_call draw (SetStop stream selector port) =
     if port == 0 then Some (place_call (selected_place stream selector) (Stop (set_of selector))) else None
-call_for draw object = None
+object_call draw object = None
 
-abbrev pub call_from : ℕ → Result KmView KmFault → Option PlaceCall
-call_from draw (Ok object) = call_for draw object
-call_from draw (Err fault) = None
+abbrev pub reading_call : ℕ → Result KmView KmFault → Option PlaceCall
+reading_call draw (Ok object) = object_call draw object
+reading_call draw (Err fault) = None
 
 abbrev pub call_of : List ℕ → ℕ → Option PlaceCall
-call_of request draw = call_from draw (object_reading request)
+call_of request draw = reading_call draw (object_reading request)
 
 -- ---- what the port keeps after it
 

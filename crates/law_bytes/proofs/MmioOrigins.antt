@@ -27,10 +27,10 @@ use Rattle.tlp_layout.specs.declared.head.Fields.{Fields}
 use Rattle.tlp_layout.specs.declared.head.Fields.TheVariants.{Memory, Config, Message, Completion}
 use Rattle.tlp_layout.specs.declared.fault.TlpFault.{TlpFault}
 use Rattle.tlp_layout.specs.Reading.{read_head_of}
-use Rattle.tlp_layout.specs.Class.{layout_of, kind_with, kind_class}
+use Rattle.tlp_layout.specs.Class.{layout_of, kind_of_layout, kind_class}
 use Rattle.tlp_layout.proofs.Readings.{read_head_spells}
 use Rattle.trusted_memory.specs.declared.span.Span.{Span}
-use Rattle.trusted_memory.specs.Spans.{write_span, span_with}
+use Rattle.trusted_memory.specs.Spans.{write_span, span_of_fields}
 use Rattle.spec_keys.specs.Keys.{Keys, key_in, on_in, no_keys}
 use Rattle.spec_keys.specs.Operations.{Begun}
 use Rattle.spec_keys.specs.History.{begun_of_draw, place_keys}
@@ -80,8 +80,8 @@ use Rattle.link_events.specs.declared.event.Event.TheVariants.{Forward}
 write_class : (head : HeadView) (s : Span) → write_span head ≡ Some s → class_of head ≡ Pr
 write_class head s is = by head.has_payload head.lead.length head.fields is
   where
-    by : (has : Bool) (n : ℕ) (fields : Fields) → (if has then span_with n fields else None) ≡ Some s
-        → kind_class (kind_with (layout_of fields) has) ≡ Pr
+    by : (has : Bool) (n : ℕ) (fields : Fields) → (if has then span_of_fields n fields else None) ≡ Some s
+        → kind_class (kind_of_layout (layout_of fields) has) ≡ Pr
     by true n (Memory f) is = refl
     by true n (Config f) is = absurd cc
     by true n (Message f) is = absurd cc

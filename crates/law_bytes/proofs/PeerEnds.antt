@@ -7,7 +7,7 @@ use Rattle.ide_types.specs.Lines.{peer_line}
 use Rattle.ide_types.specs.Ports.{host_port, device_port}
 use Rattle.ide_types.specs.declared.plan.PeerPlan.{PeerPlan}
 use Rattle.ide_types.specs.Fits.{FitsPlan}
-use Rattle.ide_types.specs.Ends.{line_has, peer_link, port_beside_end, end_on}
+use Rattle.ide_types.specs.Ends.{line_has, peer_link, port_beside_end, end_at_port}
 use Rattle.ide_types.proofs.EndsFound.{end_found}
 use Rattle.spec_links.specs.Plan.{has_link}
 unfoldable use Rattle.spec_links.specs.Ports.{port_of}
@@ -72,7 +72,7 @@ found_there (p ∷ ps) n link id e is =
 -- it is found at the device's port by the ID
 record IsFound (plan : Plan) (link id : ℕ) (e : PortName) : Type 0 where
   between : nat_le 24 e.line ≡ true
-  met : end_on plan (device_port link) id ≡ e
+  met : end_at_port plan (device_port link) id ≡ e
 
 is_found : (plan : Plan) → FitsPlan plan → (link id : ℕ) (e : PortName) → peer_end plan.peers 0 link id ≡ Some e
     → IsFound plan link id e
@@ -88,7 +88,7 @@ is_found plan fits link id e is =
     rw (a, b, c, place, at.stands) (ap device_port at.meets) in
     record {
       between = grind (arith, nat_tests, line);
-      met = ap (λ (q : PortName). end_on plan q id) (sym port) ∙ end_found plan fits e id has;
+      met = ap (λ (q : PortName). end_at_port plan q id) (sym port) ∙ end_found plan fits e id has;
     }
 
 -- ---- an end there that has the stream
@@ -114,6 +114,6 @@ is_between plan fits link id e end peer at known =
     let found = is_found plan fits link id e peer in
     let has : line_has plan end.line id ≡ true = sym (stream_is_there plan end.line id) ∙ known in
     let same : end ≡ e =
-    sym (ap (λ (q : PortName). end_on plan q id) (sym at ∙ port_is plan fits end) ∙ end_found plan fits end id has)
+    sym (ap (λ (q : PortName). end_at_port plan q id) (sym at ∙ port_is plan fits end) ∙ end_found plan fits end id has)
     ∙ found.met in
     ap (λ (q : PortName). nat_le 24 q.line) same ∙ found.between

@@ -15,7 +15,7 @@ use Rattle.tlp_layout.specs.declared.fault.TlpFault.{TlpFault}
 use Rattle.tlp_layout.specs.Reading.{read_head_of}
 use Rattle.trusted_memory.specs.Spans.{enables}
 use Rattle.trusted_memory.specs.Writes.{Write, memory_write, newest_first, last_enabling, written_byte, payload_byte}
-unfoldable use Rattle.trusted_memory.specs.Writes.{byte_after}
+unfoldable use Rattle.trusted_memory.specs.Writes.{byte_last_written}
 use Rattle.trusted_memory.specs.Admitted.{if_placed}
 use Rattle.spec_links.specs.Ports.{at_switch, port_of, goes_to_hop}
 unfoldable use Rattle.spec_links.specs.Ports.{sealing_end}
@@ -50,8 +50,8 @@ record LeftBy (ws : List Write) (at byte : ℕ) : Type 0 where
   enabled : enables write.span at ≡ true
   byte_is : payload_byte write at ≡ byte
 
-left_by : (ws : List Write) (at byte : ℕ) → byte_after ws at ≡ byte → byte ≢ 0 → LeftBy ws at byte
-unfolding byte_after
+left_by : (ws : List Write) (at byte : ℕ) → byte_last_written ws at ≡ byte → byte ≢ 0 → LeftBy ws at byte
+unfolding byte_last_written
 left_by ws at byte is some = by (last_enabling ws at) refl is
   where
     by : (o : Option Write) → last_enabling ws at ≡ o → written_byte o at ≡ byte → LeftBy ws at byte

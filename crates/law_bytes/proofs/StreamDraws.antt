@@ -7,12 +7,12 @@ use Rattle.spec_keys.proofs.Terms.{◌∷◌, ◌++◌, Option, Some, None, refl
 use Rattle.spec_keys.proofs.Terms.{if◌then◌else◌, is_some, Loss, SealedPacket, Verdict, KeyPlan, KeyPlace, is_on_stream}
 use Rattle.spec_keys.proofs.Terms.{Touch, Program, Go, Accept, Keys, key_in, on_in, refuses}
 use Rattle.spec_keys.proofs.Terms.{StreamStage, Idle, Establishing, Up, Refreshing, Stopping, Work, Reach, Manager}
-use Rattle.spec_keys.proofs.Terms.{manager_after_operation, op_after, work_of, reach_of, whole, History}
+use Rattle.spec_keys.proofs.Terms.{manager_after_operation, op_after_reach, work_of, reach_of, whole, History}
 use Rattle.spec_keys.proofs.Terms.{last_exchange_of, op_of, draws, on_it, work_touches, touches_if, touches_after, came}
 use Rattle.spec_keys.proofs.Terms.{place_keys, keeps_live, has_key, has_all, history_status, begins_keyed, KeyCauseLaw}
 use Rattle.spec_keys.proofs.Terms.{PortView, ports_at, refresh_on, operation_verdict, unless_open, finished_verdict}
 use Rattle.spec_keys.proofs.Terms.{is_hosted, is_cut, PortName, Host, Device, Pr, Operation, seal_touches, is_same_side}
-use Rattle.spec_keys.proofs.Terms.{is_same_sub, Loaded, begun_with_draw, if_secure, is_live_sender, Npr, Cpl, Lost}
+use Rattle.spec_keys.proofs.Terms.{is_same_sub, Loaded, begun_if_pool_has, if_secure, is_live_sender, Npr, Cpl, Lost}
 use Rattle.spec_keys.proofs.Terms.{length, list_any, Clear, Side, key_place_at, is_local, is_between_devices}
 use Rattle.ide_types.specs.declared.status.StreamStatus.TheVariants as status
 unfoldable use Rattle.spec_keys.proofs.Terms.{keys, manager, moments, key_due, failed_there}
@@ -140,7 +140,7 @@ follows_on draw ts us (Stopping n) more is = tt
 
 establishes_to : (hosted : Bool) (q : StreamStage) (next draw : ℕ) (ts us : List Touch) (r : Reach) → Follows draw ts q
     → Follows (if (work_of op.Establish q next).begins then next else draw) us
-    (op_after hosted (work_of op.Establish q next) r)
+    (op_after_reach hosted (work_of op.Establish q next) r)
 establishes_to hosted (Establishing j n) next draw ts us r is =
     by (nat_lt (last_exchange_of hosted op.Establish) r.acknowledged)
   where
@@ -154,14 +154,14 @@ establishes_to hosted q next draw ts us r is = by q (nat_lt (last_exchange_of ho
     by q false = refl
 
 stops_to : (hosted : Bool) (q : StreamStage) (next draw : ℕ) (us : List Touch) (r : Reach)
-    → Follows draw us (op_after hosted (work_of op.Stop q next) r)
+    → Follows draw us (op_after_reach hosted (work_of op.Stop q next) r)
 stops_to hosted q next draw us r = by (work_of op.Stop q next) (stop_is q)
   where
     stop_is : (q : StreamStage) → (work_of op.Stop q next).operation ≡ op.Stop
     stop_is (Stopping n) = refl
     stop_is q = refl
 
-    by : (w : Work) → w.operation ≡ op.Stop → Follows draw us (op_after hosted w r)
+    by : (w : Work) → w.operation ≡ op.Stop → Follows draw us (op_after_reach hosted w r)
     by w is = rw is (ends (nat_lt (last_exchange_of hosted op.Stop) r.acknowledged))
       where
         ends : (b : Bool) → Follows draw us (if b then Idle else Stopping r.acknowledged)
@@ -179,7 +179,7 @@ is_up q = false
 abbrev NoneOr : Verdict → Verdict → Type 0
 NoneOr z x = (reach_of op.Refresh x ≡ None) ⊎ (x ≡ z)
 
-drawn_or : (plan : KeyPlan) (next : ℕ) (z : Verdict) → NoneOr z (begun_with_draw plan next z)
+drawn_or : (plan : KeyPlan) (next : ℕ) (z : Verdict) → NoneOr z (begun_if_pool_has plan next z)
 drawn_or plan next z = by (nat_lt next plan.pool)
   where
     by : (b : Bool) → NoneOr z (if b then z else v.RefusedPoolEmpty next)
@@ -201,7 +201,7 @@ secure_or status.Partial z y is = inl refl
 secure_or status.Insecure z y is = inl refl
 
 up_says : (plan : KeyPlan) (host : StreamStatus) (ports : PortView) (line stream next : ℕ) (set : Bool) (z x : Verdict)
-    → x ≡ if_secure host (unless_open ports line stream set (begun_with_draw plan next z)) → NoneOr z x
+    → x ≡ if_secure host (unless_open ports line stream set (begun_if_pool_has plan next z)) → NoneOr z x
 up_says plan host ports line stream next set z x is =
     subst (NoneOr z) (sym is) (secure_or host z _ (open_or (is_live_sender ports line stream set Pr)
     (is_live_sender ports line stream set Npr) (is_live_sender ports line stream set Cpl) z _ (drawn_or plan next z)))
@@ -231,14 +231,14 @@ drawn_by (v.Refreshed l s j) draw = j
 drawn_by w draw = draw
 
 whole_ends : (hosted : Bool) (w : Work) → w.operation ≡ op.Refresh → (r : Reach)
-    → r.acknowledged ≡ last_exchange_of hosted op.Refresh + 1 → op_after hosted w r ≡ Up w.set w.draw
+    → r.acknowledged ≡ last_exchange_of hosted op.Refresh + 1 → op_after_reach hosted w r ≡ Up w.set w.draw
 whole_ends hosted w is r all = rw (is, all) (by (last_exchange_of hosted op.Refresh))
   where
     by : (n : ℕ) → (if nat_lt n (n + 1) then Up w.set w.draw else Refreshing w.set w.draw (n + 1)) ≡ Up w.set w.draw
     by n = grind (arith, nat_tests)
 
 stays_standing : (hosted : Bool) (w : Work) → w.operation ≡ op.Refresh → (r : Reach)
-    → r.acknowledged ≤ last_exchange_of hosted op.Refresh → op_after hosted w r
+    → r.acknowledged ≤ last_exchange_of hosted op.Refresh → op_after_reach hosted w r
     ≡ Refreshing w.set w.draw r.acknowledged
 stays_standing hosted w is r within = rw is (by (last_exchange_of hosted op.Refresh) within)
   where
@@ -261,7 +261,7 @@ some_reach a b is = cc (is)
 ends_or_stays : (line stream : ℕ) (w : Work) → w.operation ≡ op.Refresh → (draw : ℕ) (us : List Touch) (x : Verdict)
     (r : Reach) (ports : PortView) (loss : Option Loss) → x ≡ operation_verdict ports line stream loss w
     → reach_of op.Refresh x ≡ Some r → IsOnOr draw (not w.set) us
-    → Follows (drawn_by x draw) us (op_after (is_hosted line) w r)
+    → Follows (drawn_by x draw) us (op_after_reach (is_hosted line) w r)
 ends_or_stays line stream w refreshes draw us x r ports loss is says on =
     elim (performed_stays ports line stream loss w) [
       | inl ended ↦
@@ -278,8 +278,8 @@ ends_or_stays line stream w refreshes draw us x r ports loss is says on =
           at.exchange draw x r cut says in
           let most : at.exchange ≤ last_exchange_of (is_hosted line) op.Refresh =
           subst (λ (o : Operation). at.exchange ≤ last_exchange_of (is_hosted line) o) refreshes at.at_most in
-          let standing = stays_standing (is_hosted line) w refreshes r (omega (arith, means.0, most)) in
-          subst (Follows (drawn_by x draw) us) (sym standing)
+          let status = stays_standing (is_hosted line) w refreshes r (omega (arith, means.0, most)) in
+          subst (Follows (drawn_by x draw) us) (sym status)
           (subst (λ (d : ℕ). IsOnOr d (not w.set) us) (sym means.1) on)
     ]
 
@@ -290,7 +290,7 @@ refreshes_to : (line stream : ℕ) (p : KeyPlace) (q : StreamStage) (next draw :
     → ((k : Bool) (j : ℕ) → q ≡ Up k j → on_in (key_in (keys false ts) k) ≡ Some j)
     → x ≡ operation_verdict ports line stream loss (work_of op.Refresh q next) → reach_of op.Refresh x ≡ Some r
     → Follows (drawn_by x draw) (touches_after ts (work_touches (work_of op.Refresh q next) (Some r) p))
-    (op_after (is_hosted line) (work_of op.Refresh q next) r)
+    (op_after_reach (is_hosted line) (work_of op.Refresh q next) r)
 refreshes_to line stream p Idle next draw ts x r ports loss up is on performs says = absurd (true≢false (sym up))
 refreshes_to line stream p (Establishing j n) next draw ts x r ports loss up is on performs says =
     absurd (true≢false (sym up))
@@ -339,7 +339,7 @@ other_op m o l s (Some r) p other = rw other refl
 
 own_op : (m : Manager) (o : Operation) (r : Reach) (p : KeyPlace)
     → (manager_after_operation m o p.line p.stream (Some r)).ops p.line p.stream
-    ≡ op_after (is_hosted p.line) (work_of o (m.ops p.line p.stream) (length m.begun)) r
+    ≡ op_after_reach (is_hosted p.line) (work_of o (m.ops p.line p.stream) (length m.begun)) r
 own_op m o r p = rw (on_itself p) refl
 
 not_begun : (a b c d : ℕ) (begins : Bool) → ((a == b) && (c == d)) ≡ false → ((b == a) && (d == c) && begins) ≡ false

@@ -17,9 +17,9 @@ use Rattle.interface_state.specs.Bindings.{floor_on}
 use Rattle.trusted_memory.specs.declared.span.Span.{Span}
 use Rattle.trusted_memory.specs.Spans.{write_span, crosses}
 use Rattle.trusted_memory.specs.Writes.{Write}
-use Rattle.guarded_memory.specs.declared.standing.InterfaceStatus.{InterfaceStatus}
+use Rattle.guarded_memory.specs.declared.status.InterfaceStatus.{InterfaceStatus}
 use Rattle.guarded_memory.specs.declared.claims.Claim.{Claim}
-use Rattle.guarded_memory.specs.Standings.{is_in_run}
+use Rattle.guarded_memory.specs.Statuses.{is_in_run}
 use Rattle.guarded_memory.specs.Claims.{claim_of}
 use Rattle.guarded_memory.specs.Causes.{floor_cause, mmio_cause, cause_effect, claim_effect, mmio_effect}
 use Rattle.guarded_memory.proofs.Claimed.{claimed}
@@ -83,18 +83,18 @@ record InRunOn (x : InterfaceStatus) (stream draw : ℕ) : Type 0 where
   runs : is_in_run x.state ≡ true
   on : IsFloor (floor_on stream x.bound) draw
 
-no_cause : (x : InterfaceStatus) (c : Claim) (s : Span) (stream draw : ℕ) → c.standing ≡ x
-    → mmio_cause c.standing c.range s true stream draw ≡ None → InRunOn x stream draw
+no_cause : (x : InterfaceStatus) (c : Claim) (s : Span) (stream draw : ℕ) → c.status ≡ x
+    → mmio_cause c.status c.range s true stream draw ≡ None → InRunOn x stream draw
 no_cause x c s stream draw same is =
-    subst (λ (y : InterfaceStatus). InRunOn y stream draw) same (by (crosses s) (is_in_run c.standing.state) refl is)
+    subst (λ (y : InterfaceStatus). InRunOn y stream draw) same (by (crosses s) (is_in_run c.status.state) refl is)
   where
-    by : (a b : Bool) → is_in_run c.standing.state ≡ b
-        → (if a then Some cause.Crosses else if b then floor_cause (floor_on stream c.standing.bound) draw
-        else Some cause.NotRunning) ≡ None → InRunOn c.standing stream draw
+    by : (a b : Bool) → is_in_run c.status.state ≡ b
+        → (if a then Some cause.Crosses else if b then floor_cause (floor_on stream c.status.bound) draw
+        else Some cause.NotRunning) ≡ None → InRunOn c.status stream draw
     by true b runs none = absurd cc
     by false false runs none = absurd cc
     by false true runs none =
-        record { runs = runs; on = from_floor (floor_on stream c.standing.bound) draw none }
+        record { runs = runs; on = from_floor (floor_on stream c.status.bound) draw none }
 
 no_effect : (o : Option BlockCause) → cause_effect o ≡ effect.Stored → o ≡ None
 no_effect None is = refl
@@ -107,9 +107,9 @@ at_place place bar w to c is = elim (cases_Bool ((c.interface == place) && (c.ba
 ]
 
 one_standing : (xs : List InterfaceStatus) (place : ℕ) (x : InterfaceStatus) (c : Claim) → c.interface ≡ place
-    → slice_get xs c.interface ≡ Some c.standing → slice_get xs place ≡ Some x → c.standing ≡ x
+    → slice_get xs c.interface ≡ Some c.status → slice_get xs place ≡ Some x → c.status ≡ x
 one_standing xs place x c same at there =
-    some_is c.standing x (sym at ∙ (ap (λ (k : ℕ). slice_get xs k) same ∙ there))
+    some_is c.status x (sym at ∙ (ap (λ (k : ℕ). slice_get xs k) same ∙ there))
 
 -- a packet with T that is stored as a write of the interface at a place, which stands so
 record StoredBy (x : InterfaceStatus) (stream draw : ℕ) (p : Packet) : Type 0 where
@@ -126,7 +126,7 @@ claim_stored xs place bar stream draw s w to x at None claim stored is = absurd 
 claim_stored xs place bar stream draw s w to x at (Some c) claim stored is =
     no_cause x c s stream draw
     (one_standing xs place x c (at_place place bar w to c is) (claimed xs s c claim).interface at)
-    (no_effect (mmio_cause c.standing c.range s true stream draw) stored)
+    (no_effect (mmio_cause c.status c.range s true stream draw) stored)
 
 head_stored : (xs : List InterfaceStatus) (place bar stream draw : ℕ) (payload : List ℕ) (to : Write)
     (x : InterfaceStatus)
@@ -158,13 +158,13 @@ read_stored xs place bar unit payload to x p trusted at (Ok head) reads stored i
 
 at_device : (plan : Plan) (policy : Policy) (k link : ℕ) (unit : UnitName) (p : Packet)
     → at_switch plan (device_port link) ≡ false → effect_by plan policy k (device_port link) unit p ≡ effect.Stored
-    → device_effect (policy.standings link) unit p (read_head_of p.head) ≡ effect.Stored
+    → device_effect (policy.statuses link) unit p (read_head_of p.head) ≡ effect.Stored
 at_device plan policy k link unit p off is = by (is_sync_packet p) (at_switch plan (device_port link)) off is
   where
     by : (a c : Bool) → c ≡ false
         → (if a then effect.Sync else if c then switch_effect
-        else device_effect (policy.standings link) unit p (read_head_of p.head)) ≡ effect.Stored
-        → device_effect (policy.standings link) unit p (read_head_of p.head) ≡ effect.Stored
+        else device_effect (policy.statuses link) unit p (read_head_of p.head)) ≡ effect.Stored
+        → device_effect (policy.statuses link) unit p (read_head_of p.head) ≡ effect.Stored
     by true c off is = absurd cc
     by false true off is = absurd cc
     by false false off is = is

@@ -6,17 +6,18 @@ use Rattle.law_sealing.proofs.Terms.{◌≡◌, ◌≤◌, ℕ, suc, ◌+◌, tr
 use Rattle.law_sealing.proofs.Terms.{refl, ap, sym, ◌∙◌, subst, arith, append_assoc, length-append, length-drop, inl}
 use Rattle.law_sealing.proofs.Terms.{inr, if◌then◌else◌, ◌==◌, map, filter, slice_index, and_parts, cases_Bool}
 use Rattle.law_sealing.proofs.Terms.{eqb-true, append-nil, drop-append-le, take-append-le, take_all, flat_map-append}
-use Rattle.law_sealing.proofs.Terms.{SubKind, PortName, Plan, SubStream, is_same, key_of, units, units_after, open_unit}
-use Rattle.law_sealing.proofs.Terms.{History, base, is_sealed_under, ahead_of_packet, SealedList, KeyName, with_sealed}
-use Rattle.law_sealing.proofs.Terms.{sealed_packets, sent_packets, sub_stream_packets, sub_stream_of, packet_of}
-use Rattle.law_sealing.proofs.Terms.{arrived_packet, received_in, is_received_under, packets_in_hold, accepted_packets}
-use Rattle.law_sealing.proofs.Terms.{units_got, CauseLaw, NoForgery, IsPrefixOf, units-append, units-end, units-more}
-use Rattle.law_sealing.proofs.Terms.{open_unit-end, open_unit-more, accepted_by, packet_that_came, numbered, DrawFacts}
-use Rattle.law_sealing.proofs.Terms.{same_stream, sub_stream_packets-snoc, sealing_is, StreamsFit, Sealed, Accepted}
-use Rattle.law_sealing.proofs.Terms.{SealedPacket, Tlp, header, body, read_of, read_spells_tlp, Packet, is_sync_packet}
-use Rattle.law_sealing.proofs.Terms.{begins_sync, iv_of, encrypted_bytes, masked_bytes, open_of, length-masked_bytes}
-use Rattle.law_sealing.proofs.Terms.{length-open_of, masked_bytes-masked_bytes, masked_bytes-append, SpellsHead}
-use Rattle.law_sealing.proofs.Terms.{head_bytes, class_of, layout_of, not_sync, lane_is, sent_bytes, sending_port}
+use Rattle.law_sealing.proofs.Terms.{SubKind, PortName, Plan, SubStream, is_same, key_of, units, units_finished}
+use Rattle.law_sealing.proofs.Terms.{open_unit, History, base, is_sealed_under, ahead_of_packet, SealedList, KeyName}
+use Rattle.law_sealing.proofs.Terms.{with_sealed, sealed_packets, sent_packets, sub_stream_packets, sub_stream_of}
+use Rattle.law_sealing.proofs.Terms.{packet_of, arrived_packet, received_in, is_received_under, packets_in_hold}
+use Rattle.law_sealing.proofs.Terms.{accepted_packets, units_got, CauseLaw, NoForgery, IsPrefixOf, units-append}
+use Rattle.law_sealing.proofs.Terms.{units-end, units-more, open_unit-end, open_unit-more, accepted_by}
+use Rattle.law_sealing.proofs.Terms.{packet_that_came, numbered, DrawFacts, same_stream, sub_stream_packets-snoc}
+use Rattle.law_sealing.proofs.Terms.{sealing_is, StreamsFit, Sealed, Accepted, SealedPacket, Tlp, header, body, read_of}
+use Rattle.law_sealing.proofs.Terms.{read_spells_tlp, Packet, is_sync_packet, begins_sync, iv_of, encrypted_bytes}
+use Rattle.law_sealing.proofs.Terms.{masked_bytes, open_of, length-masked_bytes, length-open_of}
+use Rattle.law_sealing.proofs.Terms.{masked_bytes-masked_bytes, masked_bytes-append, SpellsHead, head_bytes, class_of}
+use Rattle.law_sealing.proofs.Terms.{layout_of, not_sync, lane_is, sent_bytes, sending_port}
 use Rattle.spec_links.specs.Delivered.{is_tlp_under_draw, tlps_sent, tlps_got, opened_tlps, with_payloads, DeliveryLaw}
 use Rattle.law_delivery.proofs.Received.{held_front}
 use Rattle.tlp_layout.specs.declared.head.HeadView.{HeadView}
@@ -255,10 +256,10 @@ delivered : (plan : Plan) (s : SubStream) (j : ℕ) (ps qs : List Packet) → op
     → IsPrefixOf (opened_units plan s j 1 (units ps)) (opened_all plan s j qs)
 delivered plan s j ps qs none begins =
     let us = units ps in
-    let vs = units_after [] begins.0 in
+    let vs = units_finished [] begins.0 in
     let last = opened_tlps plan s j (length (units qs) + 1) (open_unit qs) in
     let all : units qs ≡ us ++ vs = ap units (sym begins.1) ∙
-    (units-append ps begins.0 ∙ ap (λ unfinished. us ++ units_after unfinished begins.0) none) in
+    (units-append ps begins.0 ∙ ap (λ unfinished. us ++ units_finished unfinished begins.0) none) in
     let unfinished = opened_units plan s j 1 us in
     let back = opened_units plan s j (1 + length us) vs in (
       back ++ last,

@@ -2,7 +2,7 @@
 use Rattle.law_sealing.proofs.Terms.{◌≡◌, ℕ, ◌+◌, ◌≤◌, Bool, true, false, List, [], ◌∷◌, ◌++◌, length, Some, slice_get}
 use Rattle.law_sealing.proofs.Terms.{take, drop, map, refl, ap, sym, ◌∙◌, arith, append_assoc, length-append, add-one}
 use Rattle.law_sealing.proofs.Terms.{inl, inr, if◌then◌else◌, ◌==◌, AllByRecursion, and_parts, cases_Bool, eqb-true}
-use Rattle.law_sealing.proofs.Terms.{take-append-le, nil_from_length, Plan, SubStream, is_same, units, units_after}
+use Rattle.law_sealing.proofs.Terms.{take-append-le, nil_from_length, Plan, SubStream, is_same, units, units_finished}
 use Rattle.law_sealing.proofs.Terms.{open_unit, History, SealedList, sealed_packets, sent_packets, sub_stream_packets}
 use Rattle.law_sealing.proofs.Terms.{arrived_packet, received_in, is_received_under, packets_in_hold, pending_packets}
 use Rattle.law_sealing.proofs.Terms.{accepted_packets, units_got, due, unit_packets_ended, CauseLaw, NoForgery}
@@ -39,7 +39,7 @@ AreFirst-grown : (ps qs rs : List Packet) (n : ℕ) → AreFirst ps (units qs) n
     → AreFirst ps (units rs) n
 AreFirst-grown ps qs rs n are begins =
     let us = units qs in
-    let more = units_after (open_unit qs) begins.0 in
+    let more = units_finished (open_unit qs) begins.0 in
     rw (← begins.1, units-append qs begins.0) (record {
       within = omega (arith, are.within, length-append us more);
       first = are.first ∙ ap packets_of_units (sym (take-append-le n us more are.within));

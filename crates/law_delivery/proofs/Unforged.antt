@@ -1,7 +1,7 @@
 -- What arrives unchanged and in order is no forgery.
 use Rattle.law_sealing.proofs.Terms.{◌+◌, ◌≡◌, ℕ, suc, true, List, [], ◌∷◌, ◌++◌, length, Some, slice_get, take, refl}
 use Rattle.law_sealing.proofs.Terms.{ap, sym, ◌∙◌, subst, inl, inr, cases_Bool, drop, append_assoc, take-append-drop}
-use Rattle.law_sealing.proofs.Terms.{Plan, SubStream, units, units_after, open_unit, History, ahead_sent, ahead_due}
+use Rattle.law_sealing.proofs.Terms.{Plan, SubStream, units, units_finished, open_unit, History, ahead_sent, ahead_due}
 use Rattle.law_sealing.proofs.Terms.{Arrival, sent_packets, pending_packets, units_got, received_in, before_tag}
 use Rattle.law_sealing.proofs.Terms.{next_unit_name, CauseLaw, ArrivesInOrder, NotForged, WasSealed, OrderIsNoForgery}
 use Rattle.law_sealing.proofs.Terms.{units-append, units-end, unit_ending, DrawFacts, StreamsFit, PortName, Event}
@@ -16,7 +16,7 @@ ends_next : (ps : List Packet) (m : ℕ) (p : Packet) → slice_get ps m ≡ Som
     → slice_get (units ps) (length (units (take m ps))) ≡ Some (open_unit (take m ps) ++ p ∷ [])
 ends_next ps m p is ends =
     let x = open_unit (take m ps) ++ p ∷ [] in
-    let rest = units_after (open_unit (take (suc m) ps)) (drop (suc m) ps) in
+    let rest = units_finished (open_unit (take (suc m) ps)) (drop (suc m) ps) in
     let all : units ps ≡ (units (take m ps) ++ x ∷ []) ++ rest =
     ap units (sym (take-append-drop (suc m) ps))
     ∙ (units-append (take (suc m) ps) (drop (suc m) ps) ∙ ap (λ us. us ++ rest)

@@ -1,16 +1,15 @@
 -- What was accepted in a sub-stream under a draw is, TLP by TLP with T, a prefix of what was sealed in it: by bytes
 -- that is the law of deliveries, and T is in the packets, of which those that were got are a prefix of those that were
 -- sealed.
-use Rattle.law_sealing.proofs.Terms.{◌≡◌, ℕ, ◌+◌, ◌==◌, Bool, true, false, List, [], ◌∷◌, ◌++◌, length}
-use Rattle.law_sealing.proofs.Terms.{Ok, refl, ap, sym, ◌∙◌, arith, inl, inr, if◌then◌else◌}
-use Rattle.law_sealing.proofs.Terms.{cases_Bool, AllByRecursion, map, filter, drop, take, append-nil, append_assoc}
-use Rattle.law_sealing.proofs.Terms.{eqb-true, map-append, and_parts, Plan, History, base, Sealed}
-use Rattle.law_sealing.proofs.Terms.{Accepted, PortName, SealedPacket, SubKind, SubStream, Packet}
-use Rattle.law_sealing.proofs.Terms.{is_sync_packet, Tlp, header, body, read_of, class_of, CauseLaw}
-use Rattle.law_sealing.proofs.Terms.{IsPrefixOf, DrawFacts, is_received_under, is_same, same_stream}
-use Rattle.law_sealing.proofs.Terms.{received_in, arrived_packet, open_unit, sent_packets, sent_bytes, sub_stream_of}
-use Rattle.law_sealing.proofs.Terms.{is_sealed_under, SealedList, with_sealed, sub_stream_packets-snoc, ahead_of_packet}
-use Rattle.law_sealing.proofs.Terms.{sealing_is, sending_port, KeyName, Option}
+use Rattle.law_sealing.proofs.Terms.{◌≡◌, ℕ, ◌+◌, ◌==◌, Bool, true, false, List, [], ◌∷◌, ◌++◌, length, Ok, refl, ap}
+use Rattle.law_sealing.proofs.Terms.{sym, ◌∙◌, arith, inl, inr, if◌then◌else◌, cases_Bool, AllByRecursion, map, filter}
+use Rattle.law_sealing.proofs.Terms.{drop, take, append-nil, append_assoc, eqb-true, map-append, and_parts, Plan}
+use Rattle.law_sealing.proofs.Terms.{History, base, Sealed, Accepted, PortName, SealedPacket, SubKind, SubStream}
+use Rattle.law_sealing.proofs.Terms.{Packet, is_sync_packet, Tlp, header, body, read_of, class_of, CauseLaw, IsPrefixOf}
+use Rattle.law_sealing.proofs.Terms.{DrawFacts, is_received_under, is_same, same_stream, received_in, arrived_packet}
+use Rattle.law_sealing.proofs.Terms.{open_unit, sent_packets, sent_bytes, sub_stream_of, is_sealed_under, SealedList}
+use Rattle.law_sealing.proofs.Terms.{with_sealed, sub_stream_packets-snoc, ahead_of_packet, sealing_is, sending_port}
+use Rattle.law_sealing.proofs.Terms.{KeyName, Option}
 unfoldable use Rattle.law_sealing.proofs.Terms.{packets_in_hold, accepted_packets, sealed_packets, sub_stream_packets}
 unfoldable use Rattle.law_sealing.proofs.Terms.{packet_of}
 use Rattle.spec_links.specs.Delivered.{is_tlp_under_draw, opened_tlps, with_payloads}

@@ -10,7 +10,7 @@ use Rattle.ide_types.specs.declared.direction.Direction.TheVariants.{Downstream,
 use Rattle.ide_types.specs.Ends.{link_hop}
 use Rattle.ide_types.specs.declared.plan.HopPlan.{HopPlan}
 unfoldable use Rattle.tlp_layout.specs.Choice.{choice_of}
-use Rattle.tlp_layout.specs.Outgoing.{Outgoing, OnStream, outgoing_as}
+use Rattle.tlp_layout.specs.Outgoing.{Outgoing, OnStream, outgoing_as_read}
 unfoldable use Rattle.tlp_layout.specs.Outgoing.{outgoing_of}
 use Rattle.spec_links.specs.Plan.{lone_stream}
 use Rattle.spec_links.specs.Due.{send_due, verdict_of_send, forward_out, forward_first}
@@ -25,7 +25,7 @@ use Rattle.law_hops.proofs.Forwards.{own_t}
 lone_takes : (id : ℕ) (side : Side) (bytes : List ℕ) (t : Tlp) → read_of bytes ≡ Ok t
     → outgoing_of (lone_stream id 1 ∷ []) side bytes ≡ OnStream t id
 unfolding outgoing_of choice_of
-lone_takes id side bytes t reads = ap (outgoing_as (lone_stream id 1 ∷ []) side) reads
+lone_takes id side bytes t reads = ap (outgoing_as_read (lone_stream id 1 ∷ []) side) reads
 
 pub leaving_row : (plan : Plan) (link : ℕ) (d : Direction) (hop : HopPlan) → link < 8
     → link_hop (slice_get plan.links link) ≡ Some hop → streams_of plan (leaving_end link d).line ≡ lone_stream hop.id 1

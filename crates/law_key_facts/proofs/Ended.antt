@@ -8,8 +8,8 @@ use Rattle.spec_links.proofs.Terms.{◌⊎◌, nat_tests, Side, StreamStatus, Lo
 use Rattle.spec_links.proofs.Terms.{ports_at, refresh_on, base, touches_after, came, draws, manager, moments, on_it}
 use Rattle.spec_links.proofs.Terms.{op_of, touches, touches_if, work_touches, ClearTouch, GoTouch, Loaded, ProgramTouch}
 use Rattle.spec_links.proofs.Terms.{Touch, is_open, draw_of_keyed, keys, sender_draw, without_outlived}
-use Rattle.spec_links.proofs.Terms.{keys_after_touch, Idle, StreamStage, Reach, Stopping, Work, op_after, reach_of}
-use Rattle.spec_links.proofs.Terms.{work_of, is_on_stream, is_same_sub, CauseLaw, SealedList, after_ends}
+use Rattle.spec_links.proofs.Terms.{keys_after_touch, Idle, StreamStage, Reach, Stopping, Work, op_after_reach}
+use Rattle.spec_links.proofs.Terms.{reach_of, work_of, is_on_stream, is_same_sub, CauseLaw, SealedList, after_ends}
 use Rattle.spec_links.proofs.Terms.{ahead_of_packet, ended_keys, ends_port_unit, is_sealed_under, port_keys, packet_of}
 use Rattle.spec_links.proofs.Terms.{place_in_sub_stream, sealed_packets, sent_packets, sub_stream_packets}
 use Rattle.spec_links.proofs.Terms.{sub_stream_of, with_sealed, SubStream, is_same, key_plan, lane_in, lane_out}
@@ -144,7 +144,7 @@ if_only true ts only = only
 if_only false ts only = tt
 
 stop_after : (hosted : Bool) (q : StreamStage) (next : ℕ) (r : Reach)
-    → stops (op_after hosted (work_of op.Stop q next) r) ≡ true
+    → stops (op_after_reach hosted (work_of op.Stop q next) r) ≡ true
 stop_after hosted q next r = grind arith
 
 came_out : (p : KeyPlace) (w : Verdict) → p.sends ≡ true → seals_none w ≡ true → came p w ≡ []

@@ -7,12 +7,12 @@ use Rattle.spec_links.proofs.Terms.{suc, sym, true, zero, ℕ, ◌++◌, ◌+◌
 use Rattle.spec_links.proofs.Terms.{append-nil, filter-append, suffix_len, max, Pr, base, touches_after}
 use Rattle.spec_links.proofs.Terms.{draws as draws_made, is_sender, manager, moments, seal_touches, touches, touches_if}
 use Rattle.spec_links.proofs.Terms.{Seal, Touch, is_open, CauseLaw, SealedList, ahead_of_packet, ends_unit_since}
-use Rattle.spec_links.proofs.Terms.{got_since, packets_in_hold, is_sealed_since, is_sealed_under, port_keys, packet_of}
-use Rattle.spec_links.proofs.Terms.{place_in_sub_stream, posted_since_last, received_in, sealed_packets, sends_it}
-use Rattle.spec_links.proofs.Terms.{sub_stream_packets, sub_stream_of, total_in, units_got, units_since, with_sealed}
-use Rattle.spec_links.proofs.Terms.{SubStream, is_same, lane_in, lane_out, Accepted, AllByRecursion, Event, Held}
-use Rattle.spec_links.proofs.Terms.{History, Keys, Packet, KeyPlace, Plan, PortName, Sealed, SealedPacket, SubKind}
-use Rattle.spec_links.proofs.Terms.{UnitName, Verdict, if◌then◌else◌, key_in, nat_le, nat_lt, not, on_in}
+use Rattle.spec_links.proofs.Terms.{got_since, packets_in_hold, is_sealed_from_draw, is_sealed_under, port_keys}
+use Rattle.spec_links.proofs.Terms.{packet_of, place_in_sub_stream, posted_since_last, received_in, sealed_packets}
+use Rattle.spec_links.proofs.Terms.{sends_it, sub_stream_packets, sub_stream_of, total_in, units_got, units_since}
+use Rattle.spec_links.proofs.Terms.{with_sealed, SubStream, is_same, lane_in, lane_out, Accepted, AllByRecursion, Event}
+use Rattle.spec_links.proofs.Terms.{Held, History, Keys, Packet, KeyPlace, Plan, PortName, Sealed, SealedPacket}
+use Rattle.spec_links.proofs.Terms.{SubKind, UnitName, Verdict, if◌then◌else◌, key_in, nat_le, nat_lt, not, on_in}
 use Rattle.spec_links.proofs.Terms.{sent_direction, ◌&&◌, open_unit, sent_bytes, subst}
 use Rattle.spec_keys.proofs.Tests.{both-true}
 use Rattle.spec_keys.proofs.Shapes.{draws_used, draws_started}
@@ -57,7 +57,7 @@ sends_lane port stream u = rw (eqb-refl port.line, eqb-refl (sent_direction port
 
 -- none of a draw from this one on
 abbrev NoneIn : SubStream → ℕ → SealedList → Type 0
-NoneIn s from xs = filter (is_sealed_since s from) xs ≡ []
+NoneIn s from xs = filter (is_sealed_from_draw s from) xs ≡ []
 
 -- whether a packet is of the sub-stream and of a draw from this one on
 abbrev is_from : SubStream → ℕ → SealedPacket → Bool
@@ -104,8 +104,8 @@ none_in plan ((e, Sealed ds) ∷ h) law port s from here le =
     let ts = moments h (place_in_sub_stream port s true) in
     let touched = sealing_touches (manager h).ops (draws_made h) e ds (place_in_sub_stream port s true)
     (sealed_by_sealing plan h e ds law.0) in
-    left_alone (filter (is_sealed_since s from)) (λ d. is_from s from d ≡ false)
-    (λ xs d q off. filter-append (is_sealed_since s from) xs ((d, q) ∷ []) ∙ rw off (append-nil _))
+    left_alone (filter (is_sealed_from_draw s from)) (λ d. is_from s from d ≡ false)
+    (λ xs d q off. filter-append (is_sealed_from_draw s from) xs ((d, q) ∷ []) ∙ rw off (append-nil _))
     plan (ahead_of_packet plan (sealed_packets plan h) (base h)) (sent_bytes plan h e) ds (sealed_packets plan h)
     (none_used port s from here ts ds (subst (λ (us : List Touch). draws_used (touches_after ts us) ≤ from) touched le))
     ∙ none_in plan h law.1 port s from here (earlier_used h e (Sealed ds) (place_in_sub_stream port s true) from le)
@@ -117,7 +117,7 @@ pub none_sent : (plan : Plan) (h : History) → CauseLaw plan h → (port : Port
     → sub_stream_packets (sealed_packets plan h) s j ≡ []
 unfolding sub_stream_packets
 none_sent plan h law port s j here le =
-    rw (filter_less (is_sealed_since s j) (is_sealed_under s j) (sealed_packets plan h)
+    rw (filter_less (is_sealed_from_draw s j) (is_sealed_under s j) (sealed_packets plan h)
     (λ x is. grind (arith, nat_tests))
     (none_in plan h law port s j here le)) refl
 
@@ -129,8 +129,8 @@ pub none_posted : (plan : Plan) (h : History) → CauseLaw plan h
     (lane_out port stream u) from ≡ 0
 unfolding posted_since_last
 none_posted plan h law port stream u from le =
-    ap length (filter_drop (is_sealed_since (lane_out port stream Pr) from)
-    (length (sealed_packets plan h) - suffix_len (λ x. not (is_sealed_since (lane_out port stream u) from x))
+    ap length (filter_drop (is_sealed_from_draw (lane_out port stream Pr) from)
+    (length (sealed_packets plan h) - suffix_len (λ x. not (is_sealed_from_draw (lane_out port stream u) from x))
     (sealed_packets plan h)) (sealed_packets plan h)
     (none_in plan h law port (lane_out port stream Pr) from (sends_lane port stream Pr) le))
 
@@ -140,8 +140,8 @@ pub none_finished : (plan : Plan) (h : History) → CauseLaw plan h → (port : 
     → total_in (sealed_packets plan h) s from ≡ 0
 unfolding total_in
 none_finished plan h law port s from here le =
-    ap length (filter_less (is_sealed_since s from) (ends_unit_since s from) (sealed_packets plan h)
-    (λ x is. (both-true (is_sealed_since s from x) x.1.prefix.m is).0) (none_in plan h law port s from here le))
+    ap length (filter_less (is_sealed_from_draw s from) (ends_unit_since s from) (sealed_packets plan h)
+    (λ x is. (both-true (is_sealed_from_draw s from x) x.1.prefix.m is).0) (none_in plan h law port s from here le))
 
 -- ---- receivers
 

@@ -8,7 +8,7 @@ use Rattle.spec_links.proofs.Terms.{◌≡◌, ◌≤◌, nat_tests, slice_get_w
 use Rattle.spec_links.proofs.Terms.{touches_after, draws, manager, moments, touches, touches_if, Accept, Touch, Manager}
 use Rattle.spec_links.proofs.Terms.{Reach, manager_after_operation, reach_of, work_of, is_on_stream, is_same_side}
 use Rattle.spec_links.proofs.Terms.{is_same_sub, CauseLaw, due, KeyName, SealedList, ahead_of_packet, draws_got}
-use Rattle.spec_links.proofs.Terms.{is_sealed_since, port_keys, lesser, packet_of, place_in_sub_stream, received_in}
+use Rattle.spec_links.proofs.Terms.{is_sealed_from_draw, port_keys, lesser, packet_of, place_in_sub_stream, received_in}
 use Rattle.spec_links.proofs.Terms.{sealed_packets, sub_stream_packets, sub_stream_of, with_sealed, BaseStays, is_quiet}
 use Rattle.spec_links.proofs.Terms.{SubStream, is_same, lane_in, lane_out, AllByRecursion, Effect, Establish, Event}
 use Rattle.spec_links.proofs.Terms.{History, Keyed, Keys, On, Packet, Plan, PortName, Refresh, Reset, SealedPacket}
@@ -45,7 +45,7 @@ on_above plan h law port stream u k j on i x at same =
     let s = lane_out port stream u in
     let most = used_most plan h law (place_in_sub_stream port s true) k j
     (ap (λ (ks : Keys). key_in ks k) (sym (keys_out h port stream u)) ∙ on) in
-    let none = none_at (is_sealed_since s (j + 1)) (sealed_packets plan h) i x
+    let none = none_at (is_sealed_from_draw s (j + 1)) (sealed_packets plan h) i x
     (none_in plan h law port s (j + 1) (sends_lane port stream u) most) at in
     grind (arith, nat_tests)
 

@@ -1,7 +1,7 @@
 -- A stream that the plan does not have gets no keys.
 use Rattle.spec_links.proofs.Terms.{Bool, None, Option, Some, [], ap, arith, false, inl, inr, length, refl, sym, true}
 use Rattle.spec_links.proofs.Terms.{ℕ, ◌==◌, ◌∙◌, ◌∷◌, ◌≡◌, ◌⊎◌, Operation, key_due, manager, on_it, Idle, StreamStage}
-use Rattle.spec_links.proofs.Terms.{work_touches, KeyCauseLaw, Manager, Reach, Work, op_after}
+use Rattle.spec_links.proofs.Terms.{work_touches, KeyCauseLaw, Manager, Reach, Work, op_after_reach}
 use Rattle.spec_links.proofs.Terms.{manager_after_operation, reach_of, work_of, is_on_stream, CauseLaw, port_keys}
 use Rattle.spec_links.proofs.Terms.{keys_by_role, place_in_sub_stream, receives_it, sends_it, SubStream, key_plan}
 use Rattle.spec_links.proofs.Terms.{stream_plan, List, ◌&&◌, draw_of_keyed, AllByRecursion, Begun, Keyed, Off, Loaded}
@@ -24,7 +24,7 @@ pub record Acts (m : Manager) (o : Operation) (l s : ℕ) (r : Option Reach) (p 
   pub is : r ≡ Some reached
   pub here : is_on_stream p l s ≡ true
   pub ops : (manager_after_operation m o l s r).ops p.line p.stream
-      ≡ op_after (is_hosted l) (work_of o (m.ops l s) (length m.begun))
+      ≡ op_after_reach (is_hosted l) (work_of o (m.ops l s) (length m.begun))
       reached
 
 pub acts : (m : Manager) (o : Operation) (l s : ℕ) (r : Option Reach) (p : KeyPlace)
@@ -38,7 +38,8 @@ acts m o l s (Some r) p = by_test (is_on_stream p l s) refl
     w = work_of o (m.ops l s) (length m.begun)
 
     by_test : (b : Bool) → is_on_stream p l s ≡ b
-        → (((if is_on_stream p l s then op_after (is_hosted l) w r else m.ops p.line p.stream) ≡ m.ops p.line p.stream)
+        → (((if is_on_stream p l s then op_after_reach (is_hosted l) w r else m.ops p.line p.stream)
+        ≡ m.ops p.line p.stream)
         × (on_it (is_on_stream p l s) (work_touches w (Some r) p) ≡ []))
         ⊎ Acts m o l s (Some r) p
     by_test false other = inl (rw other refl, rw other refl)

@@ -6,8 +6,8 @@ use Rattle.law_keys.proofs.Terms.{Reach, Manager, work_of, reach_of, manager_aft
 use Rattle.law_keys.proofs.Terms.{manager, op_of, draws, work_touches, on_it, touches, moments, base, begins_keyed}
 use Rattle.law_keys.proofs.Terms.{draw_on_at, key_due, KeyCauseLaw, both-true, keys_of, OwnedKeys, AllOwned}
 use Rattle.law_keys.proofs.Terms.{behind_owned, came_owned, cleared_owned, owned_on, same_place, op_cut, is_cleared}
-use Rattle.law_keys.proofs.Terms.{PortName, Begun, Work, begun_after_work, by_stream, is_hosted, makes_draw, op_after}
-use Rattle.law_keys.proofs.Terms.{worked_owned, None, if◌then◌else◌}
+use Rattle.law_keys.proofs.Terms.{PortName, Begun, Work, begun_after_work, by_stream, is_hosted, makes_draw}
+use Rattle.law_keys.proofs.Terms.{op_after_reach, worked_owned, None, if◌then◌else◌}
 use Rattle.link_events.specs.declared.event.Event.TheVariants as event
 use Rattle.link_verdicts.specs.declared.verdict.Operation.TheVariants as op
 use Rattle.link_verdicts.specs.declared.verdict.Verdict.TheVariants as v
@@ -34,7 +34,7 @@ work_from : (b : ℕ) (o : Operation) (q : StreamStage) (next : ℕ) → b ≤ n
 work_from b o q next low from draws = grind arith
 
 after_from : (b : ℕ) (hosted : Bool) (o : Operation) (q : StreamStage) (next : ℕ) (r : Reach) → b ≤ next → OpFrom b q
-    → OpFrom b (op_after hosted (work_of o q next) r)
+    → OpFrom b (op_after_reach hosted (work_of o q next) r)
 after_from b hosted o q next r low from = grind arith
 
 low_more : (b : ℕ) (bs : List Begun) (line stream : ℕ) (w : Work) → b ≤ length bs
@@ -52,7 +52,7 @@ operated_leads m o l s None p b low from = record {
 operated_leads m o l s (Some r) p b low from = record {
   low = low_more b m.begun l s (work_of o (m.ops l s) (length m.begun)) low;
   op_from = by_stream p.line p.stream (λ x y f. OpFrom b
-      (if f then op_after (is_hosted x) (work_of o (m.ops x y) (length m.begun)) r else m.ops p.line p.stream))
+      (if f then op_after_reach (is_hosted x) (work_of o (m.ops x y) (length m.begun)) r else m.ops p.line p.stream))
       (after_from b (is_hosted p.line) o (m.ops p.line p.stream) (length m.begun) r low from) (λ x y. from) l s;
   from = by_stream p.line p.stream
       (λ x y f. AllOwned (From b) (on_it f (work_touches (work_of o (m.ops x y) (length m.begun)) (Some r) p)))

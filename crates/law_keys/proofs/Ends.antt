@@ -2,9 +2,9 @@
 use Rattle.law_keys.proofs.Terms.{◌≡◌, ℕ, Bool, true, false, Option, Some, List, [], ◌∷◌, refl, ap, sym, ◌∙◌, arith}
 use Rattle.law_keys.proofs.Terms.{if◌then◌else◌, Host, Event, Loss, StreamStatus, Verdict, KeyPlan, KeyPlace}
 use Rattle.law_keys.proofs.Terms.{is_on_stream, Touch, Keys, keys, key_in, draw_of_keyed, on_in, StreamStage, Idle}
-use Rattle.law_keys.proofs.Terms.{Establishing, Up, Refreshing, Stopping, whole, work_of, op_after, History, is_hosted}
-use Rattle.law_keys.proofs.Terms.{manager, op_of, draws, work_touches, touches_after, moments, kept_draw, draw_on_at}
-use Rattle.law_keys.proofs.Terms.{history_status, PortView, ports_at, establish_on, refresh_on, key_due}
+use Rattle.law_keys.proofs.Terms.{Establishing, Up, Refreshing, Stopping, whole, work_of, op_after_reach, History}
+use Rattle.law_keys.proofs.Terms.{is_hosted, manager, op_of, draws, work_touches, touches_after, moments, kept_draw}
+use Rattle.law_keys.proofs.Terms.{draw_on_at, history_status, PortView, ports_at, establish_on, refresh_on, key_due}
 use Rattle.law_keys.proofs.Terms.{finished_verdict, is_cut, performed_is, may_establish, may_refresh, unless_open, ◌⊎◌}
 use Rattle.law_keys.proofs.Terms.{KeyCauseLaw, OperationsSettle, SettledAt, same-true, Alone, IsAt, FitsAt}
 use Rattle.law_keys.proofs.Terms.{establish_ends, establish_takes, establish_begins, establish_goes_on, fits, elsewhere}
@@ -22,7 +22,7 @@ pub on_same : (p : KeyPlace) (line stream : ℕ) → (p.line ≡ line) × (p.str
     ≡ true
 on_same p line stream same = elsewhere p line stream (λ (x y : ℕ). is_on_stream p x y ≡ true) same (on_its_stream p)
 
-stopped_op : (line : ℕ) (q : StreamStage) (next : ℕ) → op_after (is_hosted line) (work_of op.Stop q next)
+stopped_op : (line : ℕ) (q : StreamStage) (next : ℕ) → op_after_reach (is_hosted line) (work_of op.Stop q next)
     (whole line op.Stop)
     ≡ Idle
 stopped_op line q next = grind arith
@@ -46,7 +46,7 @@ stop_settles plan h line stream loss l t cause p on_link on_id set =
 -- ---- a refresh
 
 refreshed_op : (line : ℕ) (q : StreamStage) (next : ℕ)
-    → op_after (is_hosted line) (work_of op.Refresh q next) (whole line op.Refresh)
+    → op_after_reach (is_hosted line) (work_of op.Refresh q next) (whole line op.Refresh)
     ≡ Up (work_of op.Refresh q next).set (work_of op.Refresh q next).draw
 refreshed_op line q next = grind arith
 

@@ -3,7 +3,7 @@ use Rattle.spec_keys.specs.Due.{has_refresh}
 use Rattle.law_keys.proofs.Terms.{◌≡◌, ℕ, Bool, true, false, Option, Some, None, [], ◌∷◌, refl, ap, ◌∙◌, arith, ◌&&◌}
 use Rattle.law_keys.proofs.Terms.{◌||◌, if◌then◌else◌, Host, Event, Loss, StreamStatus, Verdict, KeyPlan, KeyPlace}
 use Rattle.law_keys.proofs.Terms.{key_place_at, places_of, is_on_stream, keys, StreamStage, Reach, work_of, reach_of}
-use Rattle.law_keys.proofs.Terms.{op_after, manager_after_operation, History, manager, op_of, draws, work_touches}
+use Rattle.law_keys.proofs.Terms.{op_after_reach, manager_after_operation, History, manager, op_of, draws, work_touches}
 use Rattle.law_keys.proofs.Terms.{on_it, touches_after, moments, place_keys, keeps_live, has_key, has_all, is_hosted}
 use Rattle.law_keys.proofs.Terms.{fails_there, failed_there, keyed_status, history_status, PortView, ports_at}
 use Rattle.law_keys.proofs.Terms.{refresh_on, key_due, KeyCauseLaw, StaysSecure, StaysSecureAt, finished_verdict}
@@ -20,7 +20,7 @@ use Rattle.law_keys.proofs.Ends.{on_same}
 -- ---- a stream that is being refreshed has a key in each place
 
 refreshed_up : (hosted : Bool) (q : StreamStage) (next : ℕ) (r : Reach)
-    → is_up (op_after hosted (work_of op.Refresh q next) r) ≡ true
+    → is_up (op_after_reach hosted (work_of op.Refresh q next) r) ≡ true
 refreshed_up hosted q next r = grind arith
 
 place_keyed : (plan : KeyPlan) (h : History) (line stream : ℕ) (loss : Option Loss) (x : Verdict)

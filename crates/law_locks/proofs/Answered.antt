@@ -22,7 +22,7 @@ use Rattle.trusted_memory.specs.Spans.{span_of}
 use Rattle.trusted_memory.specs.declared.read.MemReadView.{MemReadView}
 use Rattle.trusted_memory.specs.Requests.{memory_read, read_with}
 use Rattle.spec_interfaces.specs.Terms.{Running}
-use Rattle.spec_interfaces.specs.Sites.{Site, site_with}
+use Rattle.spec_interfaces.specs.Sites.{Site, site_of_requester}
 use Rattle.spec_interfaces.specs.Views.{view_at, floor_at}
 use Rattle.spec_interfaces.specs.Devices.{locks_accepted}
 use Rattle.spec_interfaces.specs.Cause.{owner_id}
@@ -217,7 +217,7 @@ owner_is head r is = by head.has_payload head.lead head.fields (span_of head) is
 
 -- the pair that queued it, as one at which the interface was admitted
 abbrev admitted_of : (plan : Plan) (h : History) (link : ℕ) (r : WaitingRead) (x : Site) → QueuedAt plan h link r
-    → site_with plan link r.read.requester ≡ Some x → AdmittedAt plan h x
+    → site_of_requester plan link r.read.requester ≡ Some x → AdmittedAt plan h x
 admitted_of plan h link r x q owns = record {
   event = q.event;
   port = q.port;
@@ -234,16 +234,17 @@ admitted_of plan h link r x q owns = record {
   admitted = refl;
   head = q.at.head;
   reads = q.at.reads;
-  owns = ap (option_and_then (site_with plan (port_of plan q.port).line)) (owner_is q.at.head r.read q.at.is_read)
-      ∙ (ap (λ (l : ℕ). site_with plan l r.read.requester) q.link_is ∙ owns);
+  owns = ap (option_and_then (site_of_requester plan (port_of plan q.port).line))
+      (owner_is q.at.head r.read q.at.is_read)
+      ∙ (ap (λ (l : ℕ). site_of_requester plan l r.read.requester) q.link_is ∙ owns);
 }
 
 -- the requester of a read that was queued is an interface of the link
 pub reader_there : (plan : Plan) (h : History) → CauseLaw plan h → (link k : ℕ) (r : WaitingRead)
-    → slice_get (queued_reads plan h link) k ≡ Some r → is_some (site_with plan link r.read.requester) ≡ true
+    → slice_get (queued_reads plan h link) k ≡ Some r → is_some (site_of_requester plan link r.read.requester) ≡ true
 reader_there plan h cause link k r is =
     let q = queued_at plan (sealed_packets plan h) h cause ([], append-nil (sealed_packets plan h)) link k r is in
-    subst (λ (l : ℕ). is_some (site_with plan l r.read.requester) ≡ true) q.link_is
+    subst (λ (l : ℕ). is_some (site_of_requester plan l r.read.requester) ≡ true) q.link_is
     (owner_there plan h cause q.since q.older q.event q.port q.unit q.effects q.came q.at.number q.at.packet
     effect.Queued q.at.stands q.at.queues refl q.at.head q.at.reads r.read.requester
     (owner_is q.at.head r.read q.at.is_read))
@@ -253,7 +254,8 @@ in_lock : (plan : Plan) (h : History) (link : ℕ) (ds : List SealedPacket) → 
 in_lock plan h link ds cause is =
     let first = first_means plan h link (Sealed ds) refl is in
     let r = first.read in
-    let owned = owned_means plan h link (Sealed ds) r (site_with plan link r.read.requester) refl refl first.is in
+    let owned = owned_means plan h link (Sealed ds) r (site_of_requester plan link r.read.requester) refl refl first.is
+    in
     let x = owned.site in
     let under = under_means plan h link ds x r.draw (granted_to h (Some x)) refl owned.is in
     let bound = if_bound (view_at h x) x.plan.stream (floor_at h x) under.bound under.is in

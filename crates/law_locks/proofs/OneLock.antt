@@ -24,7 +24,7 @@ use Rattle.trusted_memory.specs.Admitted.{is_on_bound}
 use Rattle.trusted_memory.specs.declared.read.MemReadView.{MemReadView}
 use Rattle.trusted_memory.specs.Requests.{memory_read}
 use Rattle.trusted_memory.specs.Waiting.{full_cause, read_effect, effect_by_read, request_effect}
-use Rattle.guarded_memory.specs.declared.standing.InterfaceStatus.{InterfaceStatus}
+use Rattle.guarded_memory.specs.declared.status.InterfaceStatus.{InterfaceStatus}
 use Rattle.guarded_memory.specs.declared.claims.Claim.{Claim}
 use Rattle.guarded_memory.specs.Claims.{claim_of}
 use Rattle.guarded_memory.specs.Causes.{mmio_cause, cause_effect, claim_effect, mmio_effect}
@@ -35,7 +35,7 @@ use Rattle.spec_keys.proofs.Owners.{owner}
 use Rattle.link_verdicts.specs.declared.verdict.BlockCause.{BlockCause}
 use Rattle.link_verdicts.specs.declared.verdict.Effect.TheVariants as effect
 use Rattle.spec_interfaces.specs.Terms.{View, Running}
-use Rattle.spec_interfaces.specs.Sites.{Site, site_at, site_with}
+use Rattle.spec_interfaces.specs.Sites.{Site, site_at, site_of_requester}
 use Rattle.spec_interfaces.specs.Devices.{locks_accepted}
 use Rattle.spec_interfaces.specs.Views.{view_at, floor_at, grant_at, granted_to, bound_if}
 use Rattle.spec_interfaces.specs.Cause.{owner_id}
@@ -99,7 +99,7 @@ span_not xs t stream draw (Some s) = by (claim_of xs s)
   where
     by : (o : Option Claim) → is_admitted_effect (claim_effect o s t stream draw) ≡ false
     by None = refl
-    by (Some c) = stored_not (mmio_cause c.standing c.range s t stream draw)
+    by (Some c) = stored_not (mmio_cause c.status c.range s t stream draw)
 
 -- the packet's requester is granted its stream and draw
 granted : (plan : Plan) (h : History) (n : ℕ) (port : PortName) (unit : UnitName) (p : Packet) (head : HeadView)
@@ -115,7 +115,7 @@ granted plan h n port unit p head reads is =
         → (r : Result HeadView TlpFault) → r ≡ Ok head
         → is_admitted_effect (if a then effect.Sync else if c then switch_effect
         else if b then host_effect plan (grant_at plan h) n port unit p r
-        else device_effect ((policy_at plan h).standings port.line) unit p r) ≡ true
+        else device_effect ((policy_at plan h).statuses port.line) unit p r) ≡ true
         → bound ≡ true
     by a c b true at r reads is = refl
     by true c b false at r reads is = absurd (true≢false (sym is))
@@ -127,7 +127,7 @@ granted plan h n port unit p head reads is =
         (subst (λ (z : HeadView). is_on_bound unit.stream unit.draw (requester_bound (grant_at plan h) port z) ≡ false)
         (sym same) at)))
     by false false false false at (Ok k) reads is =
-        absurd (true≢false (sym is ∙ span_not ((policy_at plan h).standings port.line) p.prefix.t unit.stream unit.draw
+        absurd (true≢false (sym is ∙ span_not ((policy_at plan h).statuses port.line) p.prefix.t unit.stream unit.draw
         (write_span k)))
 
 -- so the view of the interface that owns it is Running, with a floor up to the draw
@@ -142,7 +142,7 @@ on_bound stream draw Running own floor is = (refl, grind (arith, nat_tests, is))
 on_bound stream draw view own floor is = absurd cc
 
 pub owner_runs : (plan : Plan) (h : History) (link stream draw : ℕ) (x : Site) (o : Option ℕ)
-    → option_and_then (site_with plan link) o ≡ Some x
+    → option_and_then (site_of_requester plan link) o ≡ Some x
     → is_on_bound stream draw (option_and_then (grant_at plan h link) o) ≡ true → Runs h x draw
 owner_runs plan h link stream draw x None owns is = absurd cc
 owner_runs plan h link stream draw x (Some rid) owns is =
@@ -151,7 +151,8 @@ owner_runs plan h link stream draw x (Some rid) owns is =
     let both = on_bound stream draw (view_at h x) x.plan.stream (floor_at h x) there in
     record { view = both.0; floor = both.1 }
 
-pub number_owned : (plan : Plan) (link : ℕ) (o : Option ℕ) (x : Site) → option_and_then (site_with plan link) o ≡ Some x
+pub number_owned : (plan : Plan) (link : ℕ) (o : Option ℕ) (x : Site) → option_and_then (site_of_requester plan link) o
+    ≡ Some x
     → site_at plan x.number ≡ Some x
 number_owned plan link None x owns = absurd cc
 number_owned plan link (Some rid) x owns =
@@ -204,8 +205,9 @@ runs_there plan h x a cause =
     a.has_effect a.admitted a.head a.reads)
 
 -- an interface that is granted something is there
-site_there : (plan : Plan) (h : History) (link rid stream draw : ℕ) (o : Option Site) → site_with plan link rid ≡ o
-    → is_on_bound stream draw (granted_to h o) ≡ true → is_some (site_with plan link rid) ≡ true
+site_there : (plan : Plan) (h : History) (link rid stream draw : ℕ) (o : Option Site) → site_of_requester plan link rid
+    ≡ o
+    → is_on_bound stream draw (granted_to h o) ≡ true → is_some (site_of_requester plan link rid) ≡ true
 site_there plan h link rid stream draw None at is = absurd cc
 site_there plan h link rid stream draw (Some x) at is = ap is_some at
 
@@ -214,13 +216,13 @@ pub owner_there : (plan : Plan) (h : History) → CauseLaw plan h → (since old
     → (n : ℕ) (p : Packet) (effect : Effect) → slice_get (unit_ended plan older e port unit) n ≡ Some p
     → slice_get effects n ≡ Some effect → is_admitted_effect effect ≡ true → (head : HeadView)
     → read_head_of p.head ≡ Ok head → (rid : ℕ) → owner_id head ≡ Some rid
-    → is_some (site_with plan (port_of plan port).line rid) ≡ true
+    → is_some (site_of_requester plan (port_of plan port).line rid) ≡ true
 owner_there plan h cause since older e port unit effects came n p effect stands has_effect admitted head reads rid owns
     =
     let there = bound_there plan h cause since older e port unit effects came n p effect stands has_effect admitted head
     reads in
     let link = (port_of plan port).line in
-    site_there plan older link rid unit.stream unit.draw (site_with plan link rid) refl
+    site_there plan older link rid unit.stream unit.draw (site_of_requester plan link rid) refl
     (subst (λ (o : Option ℕ). is_on_bound unit.stream unit.draw (option_and_then (grant_at plan older link) o) ≡ true)
     owns there)
 

@@ -15,9 +15,9 @@ use Rattle.spec_interfaces.specs.Devices.{interface_at, is_stream_left, reset_ca
 unfoldable use Rattle.spec_interfaces.specs.Devices.{devices}
 use Rattle.interface_state.specs.Machine.{is_unlocked, new_lock, interface_after_lock}
 use Rattle.interface_state.proofs.Bound.{bound_state, unbound_state}
-use Rattle.guarded_memory.specs.Standings.{has_open_range}
+use Rattle.guarded_memory.specs.Statuses.{has_open_range}
 unfoldable use Rattle.law_mmio.specs.Stored.{writes_since_zero}
-unfoldable use Rattle.trusted_memory.specs.Writes.{byte_after}
+unfoldable use Rattle.trusted_memory.specs.Writes.{byte_last_written}
 use Rattle.law_mmio.specs.Stored.{sets_to_zero, stored_byte}
 use Rattle.law_locks.specs.Locks.{Scrubs}
 use Rattle.link_events.specs.declared.event.Event.TheVariants as event
@@ -96,7 +96,7 @@ zeroed a left x e w t bar held closed is = stays_not true left StreamLeft t refl
 
 zero_then : (plan : Plan) (h : History) (e : Event) (w : Verdict) (x : Site) (bar offset : ℕ)
     → sets_to_zero e w x bar ≡ true → stored_byte plan ((e, w) ∷ h) x bar offset ≡ 0
-unfolding writes_since_zero byte_after
+unfolding writes_since_zero byte_last_written
 zero_then plan h e w x bar offset is = rw is refl
 
 pub scrubs : (plan : Plan) (h : History) (e : Event) (w : Verdict) → Scrubs plan h e w

@@ -11,7 +11,7 @@ use Rattle.spec_interfaces.specs.Devices.{interface_at, locks_accepted, runs_at,
 use Rattle.spec_interfaces.specs.Devices.{is_bound_at}
 use Rattle.spec_interfaces.specs.Peers.{peer_end, is_secure}
 use Rattle.spec_interfaces.specs.Laws.{IsLocked}
-use Rattle.guarded_memory.specs.Standings.{has_open_range}
+use Rattle.guarded_memory.specs.Statuses.{has_open_range}
 use Rattle.interface_state.specs.Machine.{is_unlocked}
 use Rattle.law_mmio.specs.Stored.{stored_byte}
 use Rattle.law_locks.specs.Fronts.{AtEach, AtPairs}

@@ -1,7 +1,7 @@
 -- Each key serves one lock of an interface: what is admitted of it under a draw is admitted under one lock.
 use Rattle.std.specs.Prelude.{◌≡◌, ℕ, ◌++◌, ◌∷◌, Bool, true, false, List, Some, Ok, slice_get}
 use Rattle.spec_links.specs.Terms.{PortName, Plan, Event, Effect, UnitName, Accepted, Packet, History, read_head_of}
-use Rattle.spec_links.specs.Terms.{owner_site, site_with, Access, Verdict, Sealed, WaitingRead, memory_read}
+use Rattle.spec_links.specs.Terms.{owner_site, site_of_requester, Access, Verdict, Sealed, WaitingRead, memory_read}
 use Rattle.spec_links.specs.Sent.{reads_taken}
 use Rattle.law_locks.specs.Fronts.{AtPairs}
 use Rattle.link_events.specs.declared.event.AccessEvent.TheVariants as ae
@@ -49,7 +49,7 @@ pub record IsReadInLock (plan : Plan) (h : History) (link : ℕ) : Type 0 where
   pub read : WaitingRead
   pub oldest : slice_get (queued_reads plan h link) (reads_taken h link) ≡ Some read
   pub interface : Site
-  pub owns : site_with plan link read.read.requester ≡ Some interface
+  pub owns : site_of_requester plan link read.read.requester ≡ Some interface
   pub from : AdmittedAt plan h interface
   pub draw : from.unit.draw ≡ read.draw
   pub is_read : memory_read from.head ≡ Some read.read

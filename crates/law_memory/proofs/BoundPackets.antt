@@ -16,7 +16,7 @@ use Rattle.ide_types.specs.declared.direction.Direction.{Direction}
 use Rattle.ide_types.specs.declared.direction.Direction.TheVariants.{Downstream, Upstream}
 use Rattle.ide_types.specs.declared.plan.PeerPlan.{PeerPlan}
 use Rattle.ide_types.specs.Fits.{FitsPlan, FitsPeer}
-use Rattle.ide_types.specs.Ends.{end_on, hop_end, line_has, link_hop, own_has_id, peer_link, port_beside_end}
+use Rattle.ide_types.specs.Ends.{end_at_port, hop_end, line_has, link_hop, own_has_id, peer_link, port_beside_end}
 use Rattle.ide_types.specs.Plans.{hop_has_id}
 use Rattle.ide_types.proofs.EndsFound.{all_at, end_found}
 use Rattle.spec_links.specs.Plan.{has_link}
@@ -80,7 +80,7 @@ at_device plan fits e id late has = by (slice_get plan.peers (e.line - 24)) refl
     by (Some p) is =
         let port : port_beside_end plan.peers e ≡ device_port (peer_link e.side p) = rw (a, b, c, is) refl in
         let fit = all_at (FitsPeer plan.links) plan.peers (e.line - 24) p fits.each_peer is in
-        let met = ap (λ (q : PortName). end_on plan q id) (sym port) ∙ end_found plan fits e id has in
+        let met = ap (λ (q : PortName). end_at_port plan q id) (sym port) ∙ end_found plan fits e id has in
         let there = among_peers (nat_lt (peer_link e.side p) 8)
         (own_has_id (slice_get plan.links (peer_link e.side p)) id)
         (hop_has_id (link_hop (slice_get plan.links (peer_link e.side p))) id)

@@ -21,7 +21,7 @@ use Rattle.trusted_memory.specs.Writes.{memory_write}
 use Rattle.trusted_memory.specs.declared.read.MemReadView.{MemReadView}
 use Rattle.trusted_memory.specs.Requests.{read_with}
 use Rattle.trusted_memory.specs.Waiting.{read_cause, read_effect, effect_by_read, request_effect}
-use Rattle.guarded_memory.specs.declared.standing.InterfaceStatus.{InterfaceStatus}
+use Rattle.guarded_memory.specs.declared.status.InterfaceStatus.{InterfaceStatus}
 use Rattle.guarded_memory.specs.declared.claims.Claim.{Claim}
 use Rattle.guarded_memory.specs.Claims.{claim_of}
 use Rattle.guarded_memory.specs.Causes.{mmio_cause, cause_effect, claim_effect, mmio_effect}
@@ -29,7 +29,7 @@ use Rattle.tlp_layout.specs.declared.head.Lead.{Lead}
 use Rattle.tlp_layout.specs.declared.head.Fields.{Fields}
 use Rattle.link_verdicts.specs.declared.verdict.BlockCause.{BlockCause}
 use Rattle.link_verdicts.specs.declared.verdict.Effect.TheVariants.{Delivered}
-unfoldable use Rattle.trusted_memory.specs.Writes.{byte_after}
+unfoldable use Rattle.trusted_memory.specs.Writes.{byte_last_written}
 use Rattle.trusted_memory.specs.Regions.{in_one_region}
 use Rattle.trusted_memory.specs.Causes.{is_applied, write_effect}
 use Rattle.trusted_memory.specs.Admitted.{admitted_write}
@@ -93,7 +93,7 @@ cause_says (Some c) = refl
 claim_says : (o : Option Claim) (s : Span) (t : Bool) (stream draw : ℕ) → is_applied (claim_effect o s t stream draw)
     ≡ false
 claim_says None s t stream draw = refl
-claim_says (Some c) s t stream draw = cause_says (mmio_cause c.standing c.range s t stream draw)
+claim_says (Some c) s t stream draw = cause_says (mmio_cause c.status c.range s t stream draw)
 
 mmio_says : (xs : List InterfaceStatus) (t : Bool) (stream draw : ℕ) (o : Option Span)
     → is_applied (mmio_effect xs t stream draw o) ≡ false
@@ -116,12 +116,12 @@ effect_says plan policy n port unit p payload = by (is_sync_packet p) (at_switch
     by : (s c b : Bool) → is_applied
         (if s then effect.Sync else if c then switch_effect else if b then host_effect plan policy.grants n port unit p
         (read_head_of p.head)
-        else device_effect (policy.standings port.line) unit p (read_head_of p.head))
+        else device_effect (policy.statuses port.line) unit p (read_head_of p.head))
         ≡ is_some (if not s && (not c && b) then payload_write plan policy.grants port unit p.prefix.t payload
         (read_head_of p.head) else None)
     by true c b = refl
     by false true b = refl
-    by false false false = device_says (policy.standings port.line) unit p (read_head_of p.head)
+    by false false false = device_says (policy.statuses port.line) unit p (read_head_of p.head)
     by false false true = head_says plan policy n port unit p payload (read_head_of p.head)
 
 each_says : (plan : Plan) (policy : Policy) (n : ℕ) (port : PortName) (unit : UnitName) (plain : List ℕ)
@@ -166,10 +166,11 @@ shows : (plan : Plan) (h : History) (at len : ℕ) (bytes : List ℕ) → v.Inte
     → ShowsWrites plan h (event.Interface (ie.Memory at len)) (v.Interface (iv.Memory bytes))
 unfolding due interface_due
 shows plan h at len bytes is =
-    let same = shown_is (in_one_region plan.memory at len) bytes (bytes_from (byte_after (writes plan h)) at len) is
+    let same = shown_is (in_one_region plan.memory at len) bytes (bytes_from (byte_last_written (writes plan h)) at len)
+    is
     in (
-      ap length same ∙ length-bytes (byte_after (writes plan h)) at len,
-      λ k less. ap (λ (bs : List ℕ). slice_get bs k) same ∙ bytes_at (byte_after (writes plan h)) at len k less,
+      ap length same ∙ length-bytes (byte_last_written (writes plan h)) at len,
+      λ k less. ap (λ (bs : List ℕ). slice_get bs k) same ∙ bytes_at (byte_last_written (writes plan h)) at len k less,
     )
 
 -- ---- the law

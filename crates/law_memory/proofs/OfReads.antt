@@ -12,18 +12,18 @@ use Rattle.law_sealing.proofs.Sealings.{AllOf, all_of_sealing, live_at, from_at}
 use Rattle.tlp_layout.proofs.Readings.{read_spells_tlp}
 use Rattle.tlp_layout.specs.Numbers.{bit, routing_bits}
 use Rattle.tlp_layout.specs.Head.{type_of}
-use Rattle.tlp_layout.specs.Class.{layout_of, kind_with, kind_class}
+use Rattle.tlp_layout.specs.Class.{layout_of, kind_of_layout, kind_class}
 use Rattle.tlp_layout.specs.declared.head.Fields.{Fields}
 use Rattle.tlp_layout.specs.declared.head.Fields.TheVariants.{Memory, Config, Message, Completion}
 use Rattle.tlp_layout.specs.declared.head.Routing.{Routing}
 use Rattle.tlp_layout.specs.Outgoing.{Outgoing, NoTlp, OnNone, OnStream, stream_taken}
-use Rattle.spec_links.proofs.Terms.{Access, WaitingRead, Site, site_with, granted_to, answer_due, site_answer}
+use Rattle.spec_links.proofs.Terms.{Access, WaitingRead, Site, site_of_requester, granted_to, answer_due, site_answer}
 use Rattle.spec_links.proofs.Terms.{completion_verdict, outgoing_completion, is_stream, is_before}
 use Rattle.spec_links.proofs.Terms.{binding_cause, judged_by, answer_judged}
 use Rattle.spec_links.specs.Due.{send_due, draw_of, first_that_holds, refusals}
 use Rattle.spec_links.specs.Memory.{writes}
 use Rattle.spec_links.specs.History.{no_packet}
-use Rattle.trusted_memory.specs.Writes.{byte_after}
+use Rattle.trusted_memory.specs.Writes.{byte_last_written}
 use Rattle.trusted_memory.specs.declared.read.MemReadView.{MemReadView}
 unfoldable use Rattle.trusted_memory.specs.Completions.{completion_bytes}
 use Rattle.spec_interfaces.specs.Views.{view_at, floor_at}
@@ -53,13 +53,13 @@ use Rattle.std.proofs.lemmas.Bool.{true≢false}
 
 pub record Owned (plan : Plan) (h : History) (link : ℕ) (w : Verdict) (read : WaitingRead) : Type 0 where
   pub site : Site
-  pub owns : site_with plan link read.read.requester ≡ Some site
+  pub owns : site_of_requester plan link read.read.requester ≡ Some site
   pub is : w ≡ completion_verdict plan h (sending_port plan (Access (ae.Answer link))) site.number read.draw
       (granted_to h (Some site))
       (outgoing_completion plan h link)
 
 pub owned_means : (plan : Plan) (h : History) (link : ℕ) (w : Verdict) (read : WaitingRead) (o : Option Site)
-    → takes w ≡ true → site_with plan link read.read.requester ≡ o
+    → takes w ≡ true → site_of_requester plan link read.read.requester ≡ o
     → w ≡ site_answer plan h (sending_port plan (Access (ae.Answer link))) read.draw o (outgoing_completion plan h link)
     → Owned plan h link w read
 owned_means plan h link w read None take owns is = absurd (clash w v.Nothing take refl is)
@@ -139,7 +139,7 @@ dropped plan h link i cause is =
     let w = v.Access (av.Dropped i cause) in
     let first = first_means plan h link w refl is in
     dropped_with plan h link i cause first
-    (owned_means plan h link w first.read (site_with plan link first.read.read.requester) refl refl first.is)
+    (owned_means plan h link w first.read (site_of_requester plan link first.read.read.requester) refl refl first.is)
 
 -- ---- sealed
 
@@ -279,7 +279,7 @@ no_config : (has wide one : Bool) → 74 ≡ 64 * bit has + 32 * bit wide + (4 +
 no_config has wide one is = grind arith
 
 class_by : (has wide : Bool) (fields : Fields) → 74 ≡ 64 * bit has + 32 * bit wide + type_of fields
-    → kind_class (kind_with (layout_of fields) has) ≡ Cpl
+    → kind_class (kind_of_layout (layout_of fields) has) ≡ Cpl
 class_by has wide (Memory f) is = absurd (no_memory has wide is)
 class_by has wide (Config f) is = absurd (no_config has wide f.one is)
 class_by has wide (Message f) is = absurd (no_message f.routing has wide is)
@@ -308,7 +308,8 @@ answered_with plan facts h link ds cause due_is first owned under =
     let view = if_bound (view_at h owned.site) owned.site.plan.stream (floor_at h owned.site) under.bound under.is in
     let sealing = sealing_is plan h e ds due_is in
     let reads = subst (λ (bs : List ℕ). read_of bs ≡ Ok sealing.tlp) bytes sealing.reads in
-    let class = sealing.class ∙ completion_class (byte_after (writes plan h)) first.read.read sealing.tlp reads in
+    let class = sealing.class ∙ completion_class (byte_last_written (writes plan h)) first.read.read sealing.tlp reads
+    in
     let t = sealing.sending in
     let stream =
     took (outgoing_completion plan h link) sealing.tlp under.bound.stream t.stream sealing.comes under.stream in
@@ -336,7 +337,8 @@ answered : (plan : Plan) → DrawFacts plan → (h : History) (link : ℕ) (ds :
     → IsReadAnswered plan h link ds
 answered plan facts h link ds cause due_is is =
     let first = first_means plan h link (Sealed ds) refl is in
-    let owned = owned_means plan h link (Sealed ds) first.read (site_with plan link first.read.read.requester) refl refl
+    let owned = owned_means plan h link (Sealed ds) first.read (site_of_requester plan link first.read.read.requester)
+    refl refl
     first.is in
     answered_with plan facts h link ds cause due_is first owned
     (under_means plan h link ds owned.site first.read.draw (granted_to h (Some owned.site)) refl owned.is)

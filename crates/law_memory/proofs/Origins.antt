@@ -46,7 +46,7 @@ use Rattle.law_sealing.proofs.Fronts.{at_front}
 use Rattle.law_sealing.proofs.Sums.{in_parts}
 use Rattle.law_delivery.proofs.Prefixes.{got_begins}
 use Rattle.spec_interfaces.specs.Terms.{Running, View}
-use Rattle.spec_interfaces.specs.Sites.{Site, site_at, site_with}
+use Rattle.spec_interfaces.specs.Sites.{Site, site_at, site_of_requester}
 unfoldable use Rattle.spec_interfaces.specs.Sites.{sites}
 use Rattle.spec_interfaces.specs.Views.{view_at, floor_at, bound_if, granted_to, grant_at}
 use Rattle.spec_interfaces.specs.Devices.{locks_accepted}
@@ -145,14 +145,14 @@ pub owner_means : (plan : Plan) (h : History) (link stream draw : ℕ) (head : H
 owner_means plan h link stream draw head None named e = absurd cc
 owner_means plan h link stream draw head (Some rid) named e =
     let b = bound_means stream draw (grant_at plan h link rid) e in
-    let g = granted_means h (site_with plan link rid) b.bound b.is in
+    let g = granted_means h (site_of_requester plan link rid) b.bound b.is in
     let meets = requester_meets plan link rid g.site g.is in
     record {
       site = g.site;
       known = found_by_number plan (λ x. (x.link == link) && (x.plan.requester == rid)) g.site g.is;
       own = λ fits. own_stream plan fits link rid g.site g.is;
       link_is = meets.0;
-      owns = ap (option_and_then (site_with plan link)) named ∙ g.is;
+      owns = ap (option_and_then (site_of_requester plan link)) named ∙ g.is;
       requester = named ∙ ap (λ (r : ℕ). Some r) (sym meets.1);
       view = g.view;
       stream_is = ap (λ (c : Binding). c.stream) (sym g.bound) ∙ b.stream_is;

@@ -9,7 +9,7 @@ use Rattle.ide_types.specs.declared.plan.LinkPlan.{LinkPlan}
 use Rattle.ide_types.specs.Plans.{has_selective, has_stream_id, is_selective}
 use Rattle.ide_types.specs.Fits.{FitsPlan, FitsLink, FitsInterface}
 use Rattle.ide_types.specs.Ends.{own_has_id}
-use Rattle.spec_interfaces.specs.Sites.{Site, site_with, sites_of_plans, sites_of_links}
+use Rattle.spec_interfaces.specs.Sites.{Site, site_of_requester, sites_of_plans, sites_of_links}
 unfoldable use Rattle.spec_interfaces.specs.Sites.{sites}
 
 -- its link has the stream
@@ -67,7 +67,7 @@ found_all P test (y ∷ ys) x all is = by (test y) is (found_all P test ys x all
     by true is more = let same : y ≡ x = cc (is) in subst P same all.0
     by false is more = more is
 
-pub own_stream : (plan : Plan) → FitsPlan plan → (link requester : ℕ) (x : Site) → site_with plan link requester
+pub own_stream : (plan : Plan) → FitsPlan plan → (link requester : ℕ) (x : Site) → site_of_requester plan link requester
     ≡ Some x
     → own_has_id (slice_get plan.links x.link) x.plan.stream ≡ true
 unfolding sites

@@ -58,11 +58,11 @@ queued_means plan h k port unit p is =
     by : (a c b : Bool) → (sent_direction port.side == 0) ≡ b → (r : Result HeadView TlpFault) → read_head_of p.head ≡ r
         → (if a then effect.Sync else if c then switch_effect else if b then host_effect plan (grant_at plan h) k port
         unit p r
-        else device_effect ((policy_at plan h).standings port.line) unit p r) ≡ effect.Queued
+        else device_effect ((policy_at plan h).statuses port.line) unit p r) ≡ effect.Queued
         → Admitted plan h port unit p
     by true c b host r reads is = absurd cc
     by false true b host r reads is = absurd cc
-    by false false false host r reads is = absurd (device_waits ((policy_at plan h).standings port.line) unit p r is)
+    by false false false host r reads is = absurd (device_waits ((policy_at plan h).statuses port.line) unit p r is)
     by false false true host (Err f) reads is = absurd cc
     by false false true host (Ok head) reads is =
         let tests = request_means plan.memory p.prefix.t (unit_grant (grant_at plan h) port unit head) k head is in

@@ -6,7 +6,7 @@ use Rattle.spec_links.specs.Plan.{SubStream}
 use Rattle.spec_links.specs.History.{sealed_packets, accepted_packets, received_in}
 use Rattle.spec_links.specs.Memory.{writes, unit_ended, accepted_unit_writes}
 use Rattle.spec_links.specs.Ordered.{IsPacketAtPlace}
-use Rattle.trusted_memory.specs.Writes.{Write, byte_after}
+use Rattle.trusted_memory.specs.Writes.{Write, byte_last_written}
 use Rattle.trusted_memory.specs.Causes.{is_applied}
 use Rattle.spec_interfaces.specs.Sites.{Site, site_at}
 use Rattle.spec_interfaces.specs.Terms.{Running}
@@ -23,7 +23,7 @@ use Rattle.ide_types.specs.declared.verdict.InterfaceVerdict.TheVariants as iv
 -- at a memory verdict byte k is what the last admitted write left that enables it, else 0
 abbrev pub ShowsWrites : Plan → History → Event → Verdict → Type 0
 ShowsWrites plan h (event.Interface (ie.Memory at len)) (v.Interface (iv.Memory bytes)) =
-    (length bytes ≡ len) × ((k : ℕ) → k < len → slice_get bytes k ≡ Some (byte_after (writes plan h) (at + k)))
+    (length bytes ≡ len) × ((k : ℕ) → k < len → slice_get bytes k ≡ Some (byte_last_written (writes plan h) (at + k)))
 ShowsWrites plan h e w = Unit {0}
 
 -- at an accepted verdict exactly the packets whose writes are admitted are applied

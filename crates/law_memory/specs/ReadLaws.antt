@@ -1,7 +1,7 @@
 -- Trusted reads: they are answered in order, each from memory as it is then, and each was sealed by its interface.
 use Rattle.std.specs.Prelude.{ℕ, ◌+◌, ◌≤◌, ◌≡◌, ◌∷◌, true, false, [], length, List, Some, Ok, slice_get}
 use Rattle.spec_links.specs.Terms.{AllByRecursion, Host, Plan, Event, Access, Verdict, Accepted, Sealed, SealedPacket}
-use Rattle.spec_links.specs.Terms.{Packet, History, Tlp, read_of, byte_after, completion_bytes, WaitingRead}
+use Rattle.spec_links.specs.Terms.{Packet, History, Tlp, read_of, byte_last_written, completion_bytes, WaitingRead}
 use Rattle.spec_links.specs.History.{sent_bytes, accepted_packets, received_in}
 use Rattle.spec_links.specs.Memory.{queued_reads, writes, unit_ended}
 use Rattle.spec_links.specs.Sent.{reads_taken}
@@ -45,7 +45,7 @@ pub record IsReadAnswered (plan : Plan) (h : History) (link : ℕ) (ds : List Se
   pub view : view_at h of.interface ≡ Running
   pub floor : floor_at h of.interface ≤ of.read.draw
   pub bytes : sent_bytes plan h (Access (ae.Answer link))
-      ≡ completion_bytes (byte_after (writes plan h)) of.read.read
+      ≡ completion_bytes (byte_last_written (writes plan h)) of.read.read
   pub tlp : Tlp
   pub reads : read_of (sent_bytes plan h (Access (ae.Answer link))) ≡ Ok tlp
   pub packets : AllByRecursion (Carries h link of.interface) ds

@@ -9,7 +9,8 @@ use Rattle.std.specs.Prelude.{slice_get, slice_index, take, drop}
 use Rattle.std.specs.Option.{option_map, option_map_or}
 use Rattle.std.proofs.lemmas.Bool.{and_parts, cases_Bool, true≢false, eqb-true, leb-true}
 use Rattle.spec_links.specs.Terms.{PortName, Plan, Event, Effect, UnitName, Verdict, Accepted, Packet, History}
-use Rattle.spec_links.specs.Terms.{is_sync_packet, read_head_of, TlpFault, Write, newest_first, write_span, byte_after}
+use Rattle.spec_links.specs.Terms.{is_sync_packet, read_head_of, TlpFault, Write, newest_first, write_span}
+use Rattle.spec_links.specs.Terms.{byte_last_written}
 use Rattle.tlp_layout.specs.declared.head.HeadView.{HeadView}
 use Rattle.spec_links.specs.Plan.{is_same_port}
 unfoldable use Rattle.spec_links.specs.Due.{due}
@@ -37,15 +38,15 @@ use Rattle.ide_types.specs.declared.interface.InterfacePlan.{InterfacePlan}
 use Rattle.trusted_memory.specs.declared.span.Span.{Span}
 use Rattle.trusted_memory.specs.Spans.{enables}
 use Rattle.trusted_memory.specs.Writes.{payload_byte}
-use Rattle.trusted_memory.proofs.Turns.{byte_after-next}
-use Rattle.guarded_memory.specs.declared.standing.InterfaceStatus.{InterfaceStatus}
+use Rattle.trusted_memory.proofs.Turns.{byte_last_written-next}
+use Rattle.guarded_memory.specs.declared.status.InterfaceStatus.{InterfaceStatus}
 use Rattle.guarded_memory.specs.declared.claims.Claim.{Claim}
-use Rattle.guarded_memory.specs.Standings.{is_open_range, has_open_range, is_in_run, is_locked_or_run}
-use Rattle.guarded_memory.specs.Standings.{state_of_interface}
+use Rattle.guarded_memory.specs.Statuses.{is_open_range, has_open_range, is_in_run, is_locked_or_run}
+use Rattle.guarded_memory.specs.Statuses.{state_of_interface}
 use Rattle.guarded_memory.specs.Claims.{claim_of}
 use Rattle.guarded_memory.specs.Causes.{mmio_cause, cause_effect, claim_effect, mmio_effect}
-use Rattle.guarded_memory.specs.Happenings.{WriteStored, contents_by}
-use Rattle.guarded_memory.specs.Stored.{write_happened, stored_by_claim, stored_unless, write_from}
+use Rattle.guarded_memory.specs.Happenings.{WriteStored, contents_if_happened}
+use Rattle.guarded_memory.specs.Stored.{write_happened, stored_by_claim, stored_unless, write_from_base}
 use Rattle.guarded_memory.proofs.Guarding.{stays}
 use Rattle.law_mmio.specs.Stored.{write_read, if_claims, claimed_write, if_stored, unit_stored_writes, stores}
 use Rattle.ide_types.specs.Ports.{device_port}
@@ -116,13 +117,14 @@ one_later o os offset at =
     record { number = suc at.number; write = at.write; stands = at.stands; enabled = at.enabled }
 
 changed_by : (os : List (Option Write)) (ws : List Write) (offset : ℕ)
-    → byte_after (newest_first os ws) offset ≢ byte_after ws offset → IsEnabled os offset
+    → byte_last_written (newest_first os ws) offset ≢ byte_last_written ws offset → IsEnabled os offset
 changed_by [] ws offset differs = absurd (differs refl)
 changed_by (None ∷ os) ws offset differs = one_later None os offset (changed_by os ws offset differs)
 changed_by (Some w ∷ os) ws offset differs = elim (cases_Bool (enables w.span offset)) [
   | inl is ↦ record { number = 0; write = w; stands = refl; enabled = is }
   | inr not ↦
-      let same : byte_after (w ∷ ws) offset ≡ byte_after ws offset = byte_after-next w ws offset ∙ rw not refl in
+      let same : byte_last_written (w ∷ ws) offset ≡ byte_last_written ws offset = byte_last_written-next w ws offset ∙
+      rw not refl in
       one_later (Some w) os offset (changed_by os (w ∷ ws) offset (λ e. differs (e ∙ same)))
 ]
 
@@ -172,10 +174,10 @@ device_effect_of xs unit p = if is_sync_packet p then effect.Sync else device_ef
 effect_at : (plan : Plan) (policy : Policy) (k link : ℕ) (unit : UnitName) (ps : List Packet) (n : ℕ) (p : Packet)
     → at_switch plan (device_port link) ≡ false → slice_get ps n ≡ Some p
     → slice_get (effects_each plan policy k (device_port link) unit ps) n
-    ≡ Some (device_effect_of (policy.standings link) unit p)
+    ≡ Some (device_effect_of (policy.statuses link) unit p)
 effect_at plan policy k link unit [] n p off is = absurd (none_is_not p is)
 effect_at plan policy k link unit (q ∷ ps) zero p off is =
-    rw off (ap (λ (r : Packet). Some (device_effect_of (policy.standings link) unit r)) (some_is q p is))
+    rw off (ap (λ (r : Packet). Some (device_effect_of (policy.statuses link) unit r)) (some_is q p is))
 effect_at plan policy k link unit (q ∷ ps) (suc n) p off is =
     effect_at plan policy (waiting_then (effect_by plan policy k (device_port link) unit q) k) link unit ps n p off is
 
@@ -199,7 +201,7 @@ cause_stores (Some cause) c w place bar to stored is = absurd cc
 cause_stores None c w place bar to stored is = elim (cases_Bool ((c.interface == place) && (c.bar == bar))) [
   | inl there ↦
       let at = and_parts (c.interface == place) (c.bar == bar) there in
-      let same = some_is (write_from c.range.base w) to (rw there at is) in
+      let same = some_is (write_from_base c.range.base w) to (rw there at is) in
       (λ k. Some (WriteStored (eqb-true c.interface place at.0 k) (eqb-true c.bar bar at.1 k) (same k)))
   | inr other ↦ absurd (none_is_not to (rw other at is))
 ]
@@ -209,7 +211,7 @@ claim_stores : (o : Option Claim) (w : Write) (t : Bool) (stream draw place bar 
     → stored_by_claim o w t stream draw ≡ Some (WriteStored place bar to)
 claim_stores None w t stream draw place bar to stored is = absurd (none_is_not to is)
 claim_stores (Some c) w t stream draw place bar to stored is =
-    cause_stores (mmio_cause c.standing c.range w.span t stream draw) c w place bar to stored is
+    cause_stores (mmio_cause c.status c.range w.span t stream draw) c w place bar to stored is
 
 span_stores : (xs : List InterfaceStatus) (t : Bool) (stream draw place bar : ℕ) (payload : List ℕ) (o : Option Span)
     (to : Write) → mmio_effect xs t stream draw o ≡ effect.Stored
@@ -238,8 +240,9 @@ by_stays xs t stream draw place bar offset w x happening enabled there guarded =
       | inr not ↦
           let old : ℕ → ℕ → ℕ → ℕ = λ i b a. payload_byte w offset + 1 in
           let same = stays xs t stream draw happening.of old place bar offset x there guarded not in
-          let changed : contents_by (Some (WriteStored place bar w)) old place bar offset ≡ payload_byte w offset + 1 =
-          ap (λ h. contents_by h old place bar offset) (sym happening.is) ∙ same in
+          let changed : contents_if_happened (Some (WriteStored place bar w)) old place bar offset
+          ≡ payload_byte w offset + 1 =
+          ap (λ h. contents_if_happened h old place bar offset) (sym happening.is) ∙ same in
           let wrong : payload_byte w offset ≡ payload_byte w offset + 1 =
           rw (eqb-refl place, eqb-refl bar, enabled) at changed in
           absurd (omega (arith, wrong))

@@ -23,8 +23,8 @@ use Rattle.spec_interfaces.specs.Sites.{Site, site_at}
 use Rattle.spec_interfaces.specs.Exchanges.{carries, changes_device}
 use Rattle.spec_interfaces.specs.Floors.{place_of, history_statuses}
 use Rattle.spec_interfaces.proofs.Floors.{places_apart}
-use Rattle.guarded_memory.specs.declared.standing.InterfaceStatus.{InterfaceStatus}
-use Rattle.guarded_memory.specs.Standings.{has_open_range}
+use Rattle.guarded_memory.specs.declared.status.InterfaceStatus.{InterfaceStatus}
+use Rattle.guarded_memory.specs.Statuses.{has_open_range}
 use Rattle.guarded_memory.specs.Happenings.{Happened, InterfaceReset, AllReset, InterfaceStopped, clears, stored_write}
 use Rattle.guarded_memory.specs.Happenings.{writes_since, newest_happened}
 use Rattle.law_mmio.specs.Stored.{unit_stored_writes, stores, asked_zero, sets_to_zero}

@@ -3,7 +3,7 @@ use Rattle.std.proofs.Common.{◌≡◌, ℕ, ◌+◌, ◌*◌, ◌<◌, zero, s
 use Rattle.std.proofs.Common.{length, refl, ap, ◌∙◌, arith}
 use Rattle.std.specs.Prelude.{slice_get, slice_index}
 use Rattle.spec_links.specs.Terms.{Plan, Event, Verdict, History, bytes_from}
-unfoldable use Rattle.spec_links.specs.Terms.{byte_after}
+unfoldable use Rattle.spec_links.specs.Terms.{byte_last_written}
 use Rattle.spec_links.specs.Cause.{CauseLaw}
 unfoldable use Rattle.spec_links.specs.Due.{due}
 use Rattle.spec_links.specs.Guarded.{link_happenings, mmio_if, mmio_shown}
@@ -49,7 +49,7 @@ shown_of plan h i bar offset len bytes cause (Some x) at is =
       known = at;
       as_many = ap length same ∙ length-bytes shown offset len;
       shown = λ k less. ap (λ (bs : List ℕ). slice_get bs k) same ∙ bytes_at shown offset len k less
-          ∙ ap (λ ws. Some (byte_after ws (offset + k))) (same_writes plan h cause x bar known);
+          ∙ ap (λ ws. Some (byte_last_written ws (offset + k))) (same_writes plan h cause x bar known);
     }
 
 pub shows_stored : (plan : Plan) (h : History) (e : Event) (w : Verdict) → CauseLaw plan h → w ≡ due plan h e

@@ -17,7 +17,7 @@ use Rattle.spec_interfaces.specs.Views.{is_number, number_in}
 unfoldable use Rattle.spec_interfaces.specs.Devices.{devices}
 use Rattle.spec_interfaces.specs.Devices.{Around, around_at, interface_at, interface_if_called, next_interface}
 use Rattle.spec_interfaces.specs.Devices.{is_stream_left, is_run, runs_at, has_secure_stream, lock_call, reset_call}
-use Rattle.spec_interfaces.specs.Floors.{greatest_on, posted_receiver, draw_at_device, floor_after}
+use Rattle.spec_interfaces.specs.Floors.{greatest_on, posted_receiver, draw_at_device, floor_after_event}
 unfoldable use Rattle.spec_interfaces.specs.Floors.{device_floor}
 use Rattle.interface_state.specs.declared.states.TdiState.{TdiState}
 use Rattle.interface_state.specs.declared.states.TdiState.TheVariants as tdi
@@ -103,7 +103,7 @@ same_at_rest false t rests runs = true≢false (sym runs ∙ rests)
 
 -- it is a start of this interface, from CONFIG_LOCKED: the floor is the draw
 record StartsIt (e : Event) (x : Site) (t : Tdi) (draw floor : ℕ) : Type 0 where
-  floor_is : floor_after e x false true draw floor ≡ draw
+  floor_is : floor_after_event e x false true draw floor ≡ draw
   held : Held t.state
 
 start_starts : (n b : Bool) (nonce : List ℕ) (t : Tdi) (draw floor : ℕ) → is_run t.state ≡ false
@@ -142,13 +142,13 @@ starts_it a left e w x t draw floor rests runs = absurd (left_at_rest true left 
 -- ---- all pairs
 
 -- in RUN it stays
-floor_stays : (e : Event) (x : Site) (draw floor : ℕ) → floor_after e x true true draw floor ≡ floor
+floor_stays : (e : Event) (x : Site) (draw floor : ℕ) → floor_after_event e x true true draw floor ≡ floor
 floor_stays (event.Interface (ie.Start i loss)) x draw floor = rw (and_none (i == x.number)) refl
 floor_stays e x draw floor = refl
 
 floor_next : (plan : Plan) (h : History) (e : Event) (w : Verdict) (x : Site) (ran : Bool) → runs_at plan h x ≡ ran
     → runs_at plan ((e, w) ∷ h) x ≡ true
-    → device_floor plan ((e, w) ∷ h) x ≡ floor_after e x ran true (draw_at_device h x) (device_floor plan h x)
+    → device_floor plan ((e, w) ∷ h) x ≡ floor_after_event e x ran true (draw_at_device h x) (device_floor plan h x)
 unfolding device_floor
 floor_next plan h e w x ran before now = rw (before, now) refl
 

@@ -14,7 +14,7 @@ use Rattle.spec_links.specs.Guarded.{tlp_happened, stored_packet, stored_each}
 use Rattle.trusted_memory.specs.declared.span.Span.{Span}
 use Rattle.link_verdicts.specs.declared.verdict.BlockCause.{BlockCause}
 use Rattle.link_verdicts.specs.declared.verdict.Effect.TheVariants as effect
-use Rattle.guarded_memory.specs.declared.standing.InterfaceStatus.{InterfaceStatus}
+use Rattle.guarded_memory.specs.declared.status.InterfaceStatus.{InterfaceStatus}
 use Rattle.guarded_memory.specs.declared.claims.Claim.{Claim}
 use Rattle.guarded_memory.specs.Claims.{claim_of}
 use Rattle.guarded_memory.specs.Causes.{mmio_cause, cause_effect, claim_effect, mmio_effect}
@@ -40,7 +40,7 @@ by_claim : (o : Option Claim) (w : Write) (t : Bool) (stream draw place bar : �
     (if_stored (claim_effect o w.span t stream draw) (if_claims place bar w o))
 by_claim None w t stream draw place bar older = refl
 by_claim (Some c) w t stream draw place bar older =
-    by_cause c w place bar (mmio_cause c.standing c.range w.span t stream draw) older
+    by_cause c w place bar (mmio_cause c.status c.range w.span t stream draw) older
 
 by_span : (xs : List InterfaceStatus) (t : Bool) (stream draw place bar : ℕ) (payload : List ℕ) (o : Option Span)
     → StoresAs (write_happened xs t stream draw (option_map (λ s. record { span = s; payload = payload }) o)) place bar
@@ -60,24 +60,24 @@ by_head xs unit p place bar payload (Ok head) older =
 
 one_packet : (plan : Plan) (policy : Policy) (n link : ℕ) (unit : UnitName) (p : Packet) (place bar : ℕ)
     (payload : List ℕ) → at_switch plan (device_port link) ≡ false
-    → StoresAs (stored_packet (policy.standings link) unit p payload) place bar
+    → StoresAs (stored_packet (policy.statuses link) unit p payload) place bar
     (if_stored (effect_by plan policy n (device_port link) unit p)
-    (claimed_write (policy.standings link) place bar (write_read payload (read_head_of p.head))))
+    (claimed_write (policy.statuses link) place bar (write_read payload (read_head_of p.head))))
 one_packet plan policy n link unit p place bar payload off older =
     by (is_sync_packet p) (at_switch plan (device_port link)) off
   where
     by : (s c : Bool) → c ≡ false
         → writes_since (cons_option
-        (if s then None else tlp_happened (policy.standings link) unit p.prefix.t payload (read_head_of p.head)) older)
+        (if s then None else tlp_happened (policy.statuses link) unit p.prefix.t payload (read_head_of p.head)) older)
         place bar
         ≡ cons_option (if_stored
         (if s then effect.Sync else if c then switch_effect
-        else device_effect (policy.standings link) unit p (read_head_of p.head))
-        (claimed_write (policy.standings link) place bar (write_read payload (read_head_of p.head))))
+        else device_effect (policy.statuses link) unit p (read_head_of p.head))
+        (claimed_write (policy.statuses link) place bar (write_read payload (read_head_of p.head))))
         (writes_since older place bar)
     by true c is = refl
     by false true is = absurd cc
-    by false false is = by_head (policy.standings link) unit p place bar payload (read_head_of p.head) older
+    by false false is = by_head (policy.statuses link) unit p place bar payload (read_head_of p.head) older
 
 -- ---- all of them
 
@@ -88,16 +88,16 @@ first_of (Some w) os ws = refl
 
 pub unit_stores : (plan : Plan) (policy : Policy) (n link : ℕ) (unit : UnitName) (place bar : ℕ) (plain : List ℕ)
     (ps : List Packet) (older : List Happened) → at_switch plan (device_port link) ≡ false
-    → writes_since (newest_happened (stored_each (policy.standings link) unit plain ps) older) place bar
-    ≡ newest_first (unit_stored_writes (policy.standings link) place bar plain
+    → writes_since (newest_happened (stored_each (policy.statuses link) unit plain ps) older) place bar
+    ≡ newest_first (unit_stored_writes (policy.statuses link) place bar plain
     (effects_each plan policy n (device_port link) unit ps) ps) (writes_since older place bar)
 unit_stores plan policy n link unit place bar plain [] older off = refl
 unit_stores plan policy n link unit place bar plain (p ∷ ps) older off =
     let e = effect_by plan policy n (device_port link) unit p in
-    let h = stored_packet (policy.standings link) unit p (take (length p.body) plain) in
-    let o = if_stored e (claimed_write (policy.standings link) place bar
+    let h = stored_packet (policy.statuses link) unit p (take (length p.body) plain) in
+    let o = if_stored e (claimed_write (policy.statuses link) place bar
     (write_read (take (length p.body) plain) (read_head_of p.head))) in
-    let os = unit_stored_writes (policy.standings link) place bar (drop (length p.body) plain)
+    let os = unit_stored_writes (policy.statuses link) place bar (drop (length p.body) plain)
     (effects_each plan policy (waiting_then e n) (device_port link) unit ps) ps in
     unit_stores plan policy (waiting_then e n) link unit place bar (drop (length p.body) plain) ps (cons_option h older)
     off

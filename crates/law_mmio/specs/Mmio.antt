@@ -13,7 +13,7 @@ use Rattle.spec_interfaces.specs.Laws.{IsLocked}
 use Rattle.interface_state.specs.Machine.{all_bindings}
 use Rattle.interface_state.specs.Bindings.{floor_on}
 use Rattle.trusted_memory.specs.Spans.{enables}
-use Rattle.guarded_memory.specs.Standings.{has_open_range}
+use Rattle.guarded_memory.specs.Statuses.{has_open_range}
 use Rattle.law_mmio.specs.Stored.{stores, stored_byte}
 use Rattle.ide_types.specs.Ports.{device_port}
 use Rattle.link_events.specs.declared.event.Event.TheVariants as event

@@ -4,18 +4,18 @@ use Rattle.std.specs.Prelude.{◌==◌, ◌&&◌, ◌∷◌, Bool, false, Err, L
 use Rattle.std.specs.Prelude.{length, not, take, if◌then◌else◌, ℕ}
 use Rattle.ide_types.specs.Ports.{device_port}
 use Rattle.spec_links.specs.Terms.{Plan, Event, Effect, Verdict, Accepted, read_head_of, TlpFault}
-use Rattle.spec_links.specs.Terms.{Packet, History, Write, memory_write, newest_first, byte_after}
+use Rattle.spec_links.specs.Terms.{Packet, History, Write, memory_write, newest_first, byte_last_written}
 use Rattle.spec_links.specs.Plan.{is_same_port}
 use Rattle.spec_links.specs.Memory.{unit_ended, plain_of}
 use Rattle.tlp_layout.specs.declared.head.HeadView.{HeadView}
 use Rattle.spec_interfaces.specs.Sites.{Site}
 use Rattle.spec_interfaces.specs.Exchanges.{carries, changes_device}
 use Rattle.spec_interfaces.specs.Floors.{place_of, history_statuses}
-use Rattle.guarded_memory.specs.declared.standing.InterfaceStatus.{InterfaceStatus}
+use Rattle.guarded_memory.specs.declared.status.InterfaceStatus.{InterfaceStatus}
 use Rattle.guarded_memory.specs.declared.claims.Claim.{Claim}
-use Rattle.guarded_memory.specs.Standings.{has_open_range}
+use Rattle.guarded_memory.specs.Statuses.{has_open_range}
 use Rattle.guarded_memory.specs.Claims.{claim_of}
-use Rattle.guarded_memory.specs.Stored.{write_from}
+use Rattle.guarded_memory.specs.Stored.{write_from_base}
 use Rattle.link_events.specs.declared.event.Event.TheVariants as event
 use Rattle.link_events.specs.declared.event.InterfaceEvent.TheVariants as ie
 use Rattle.link_verdicts.specs.declared.verdict.Effect.TheVariants as effect
@@ -33,7 +33,7 @@ write_read payload (Ok head) = memory_write head payload
 abbrev pub if_claims : ℕ → ℕ → Write → Option Claim → Option Write
 if_claims place bar w None = None
 if_claims place bar w (Some c) =
-    if (c.interface == place) && (c.bar == bar) then Some (write_from c.range.base w) else None
+    if (c.interface == place) && (c.bar == bar) then Some (write_from_base c.range.base w) else None
 
 abbrev pub claimed_write : List InterfaceStatus → ℕ → ℕ → Option Write → Option Write
 claimed_write xs place bar None = None
@@ -84,4 +84,4 @@ writes_since_zero plan ((e, w) ∷ h) x bar =
 
 -- the byte at an offset: that of the last of them that enables it, else 0
 abbrev pub stored_byte : Plan → History → Site → ℕ → ℕ → ℕ
-stored_byte plan h x bar offset = byte_after (writes_since_zero plan h x bar) offset
+stored_byte plan h x bar offset = byte_last_written (writes_since_zero plan h x bar) offset

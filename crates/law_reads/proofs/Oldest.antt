@@ -2,14 +2,14 @@
 use Rattle.spec_links.proofs.Terms.{◌≡◌, ℕ, Bool, true, false, List, [], ◌∷◌, slice_get, Option, Some, refl, ap, sym}
 use Rattle.spec_links.proofs.Terms.{◌∙◌, if◌then◌else◌, append-nil, Plan, History, Verdict, Sealed, CauseLaw, Access}
 use Rattle.spec_links.proofs.Terms.{WaitingRead, waiting_reads, has_link, sending_port, sealed_packets, sent_bytes}
-use Rattle.spec_links.proofs.Terms.{site_with, answer_due, answer_first, site_answer, outgoing_completion}
+use Rattle.spec_links.proofs.Terms.{site_of_requester, answer_due, answer_first, site_answer, outgoing_completion}
 unfoldable use Rattle.spec_links.proofs.Terms.{bytes_by}
 use Rattle.std.specs.Option.{option_map_or}
 use Rattle.std.proofs.lemmas.Bool.{true≢false}
 use Rattle.spec_links.specs.Terms.{Write}
 use Rattle.spec_links.specs.Memory.{queued_reads, writes}
 use Rattle.spec_links.specs.Sent.{reads_taken, writes_in}
-use Rattle.trusted_memory.specs.Writes.{byte_after}
+use Rattle.trusted_memory.specs.Writes.{byte_last_written}
 use Rattle.trusted_memory.specs.Completions.{completion_bytes}
 use Rattle.link_events.specs.declared.event.AccessEvent.TheVariants as ae
 use Rattle.link_verdicts.specs.declared.access.AccessVerdict.TheVariants as av
@@ -32,7 +32,7 @@ pub record First (plan : Plan) (h : History) (link : ℕ) (w : Verdict) : Type 0
   pub read : WaitingRead
   pub oldest : slice_get (queued_reads plan h link) (reads_taken h link) ≡ Some read
   pub is : w ≡ site_answer plan h (sending_port plan (Access (ae.Answer link))) read.draw
-      (site_with plan link read.read.requester) (outgoing_completion plan h link)
+      (site_of_requester plan link read.read.requester) (outgoing_completion plan h link)
 
 pub first_means : (plan : Plan) (h : History) (link : ℕ) (w : Verdict) → takes w ≡ true → w ≡ answer_due plan h link
     → First plan h link w
@@ -55,10 +55,11 @@ first_means plan h link w take is = by (has_link plan link) (waiting_reads plan 
 -- the bytes that it seals: the completion, from what the writes so far left in memory
 pub bytes_are : (plan : Plan) (h : History) (link : ℕ) (read : WaitingRead) → CauseLaw plan h
     → slice_get (queued_reads plan h link) (reads_taken h link) ≡ Some read
-    → sent_bytes plan h (Access (ae.Answer link)) ≡ completion_bytes (byte_after (writes plan h)) read.read
+    → sent_bytes plan h (Access (ae.Answer link)) ≡ completion_bytes (byte_last_written (writes plan h)) read.read
 unfolding bytes_by
 bytes_are plan h link read cause oldest =
     ap (λ (o : Option WaitingRead). option_map_or
-    (λ (r : WaitingRead). completion_bytes (byte_after (writes_in plan (sealed_packets plan h) h)) r.read) o []) oldest
-    ∙ ap (λ (ws : List Write). completion_bytes (byte_after ws) read.read)
+    (λ (r : WaitingRead). completion_bytes (byte_last_written (writes_in plan (sealed_packets plan h) h)) r.read) o [])
+    oldest
+    ∙ ap (λ (ws : List Write). completion_bytes (byte_last_written ws) read.read)
     (writes_same plan h cause (sealed_packets plan h) ([], append-nil (sealed_packets plan h)))

@@ -25,7 +25,7 @@ use Rattle.trusted_memory.specs.Requests.{memory_read}
 use Rattle.trusted_memory.specs.Spans.{write_span}
 use Rattle.trusted_memory.specs.Causes.{block_cause, block_effect, write_effect}
 use Rattle.trusted_memory.specs.Waiting.{read_cause, read_effect, effect_by_read, request_effect}
-use Rattle.guarded_memory.specs.declared.standing.InterfaceStatus.{InterfaceStatus}
+use Rattle.guarded_memory.specs.declared.status.InterfaceStatus.{InterfaceStatus}
 use Rattle.guarded_memory.specs.declared.claims.Claim.{Claim}
 use Rattle.guarded_memory.specs.Claims.{claim_of}
 use Rattle.guarded_memory.specs.Causes.{mmio_cause, cause_effect, claim_effect, mmio_effect}
@@ -175,7 +175,7 @@ claim_waits : (o : Option Claim) (s : Span) (t : Bool) (stream draw : ℕ) → c
     ≡ effect.Queued
     → ⊥
 claim_waits None s t stream draw is = absurd cc
-claim_waits (Some c) s t stream draw is = cause_waits (mmio_cause c.standing c.range s t stream draw) is
+claim_waits (Some c) s t stream draw is = cause_waits (mmio_cause c.status c.range s t stream draw) is
 
 mmio_waits : (xs : List InterfaceStatus) (t : Bool) (stream draw : ℕ) (o : Option Span)
     → mmio_effect xs t stream draw o ≡ effect.Queued → ⊥
@@ -196,10 +196,10 @@ effect_room plan policy n port unit p is =
     by : (a c b : Bool) (r : Result HeadView TlpFault)
         → (if a then effect.Sync else if c then switch_effect else if b then host_effect plan policy.grants n port
         unit p r
-        else device_effect (policy.standings port.line) unit p r) ≡ effect.Queued → n < 64
+        else device_effect (policy.statuses port.line) unit p r) ≡ effect.Queued → n < 64
     by true c b r is = absurd cc
     by false true b r is = absurd cc
-    by false false false r is = absurd (device_waits (policy.standings port.line) unit p r is)
+    by false false false r is = absurd (device_waits (policy.statuses port.line) unit p r is)
     by false false true (Err f) is = absurd cc
     by false false true (Ok head) is = request_room plan.memory p.prefix.t
         (unit_grant policy.grants port unit head) n head is

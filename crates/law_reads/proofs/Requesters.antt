@@ -3,7 +3,7 @@ use Rattle.std.proofs.Common.{◌≡◌, ℕ, ◌==◌, ◌&&◌, Bool, true, fa
 use Rattle.std.proofs.lemmas.Bool.Decides.{nat_tests}
 use Rattle.std.specs.Prelude.{find, if◌then◌else◌}
 use Rattle.ide_types.specs.declared.plan.Plan.{Plan}
-use Rattle.spec_links.specs.{Site, site_with}
+use Rattle.spec_links.specs.{Site, site_of_requester}
 unfoldable use Rattle.spec_links.specs.{sites}
 
 -- what is found meets the test
@@ -24,7 +24,7 @@ pub same_number : (m n : ℕ) → (m == n) ≡ true → m ≡ n
 same_number m n e = grind (arith, nat_tests)
 
 -- it is on the link, and has the ID
-pub requester_meets : (plan : Plan) (link rid : ℕ) (x : Site) → site_with plan link rid ≡ Some x
+pub requester_meets : (plan : Plan) (link rid : ℕ) (x : Site) → site_of_requester plan link rid ≡ Some x
     → (x.link ≡ link) × (x.plan.requester ≡ rid)
 requester_meets plan link rid x is =
     let test : Site → Bool = λ y. (y.link == link) && (y.plan.requester == rid) in

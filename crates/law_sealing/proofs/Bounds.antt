@@ -9,7 +9,7 @@ use Rattle.law_sealing.proofs.Terms.{SubKind, Pr, PortName, Event, Verdict, Seal
 use Rattle.law_sealing.proofs.Terms.{SubStream, lane_out, aggregation_of, stream_plan, is_same, is_same_port, open_unit}
 use Rattle.law_sealing.proofs.Terms.{History, base, ahead_of_packet, SealedList, KeyName, sealed_packets, with_sealed}
 use Rattle.law_sealing.proofs.Terms.{packet_of, prefix_of, sub_stream_packets, posted_since_last, posted_lane}
-use Rattle.law_sealing.proofs.Terms.{is_sealed_since, sub_stream_of, is_posted, CauseLaw, DrawFacts, NoneFrom}
+use Rattle.law_sealing.proofs.Terms.{is_sealed_from_draw, sub_stream_of, is_posted, CauseLaw, DrawFacts, NoneFrom}
 use Rattle.law_sealing.proofs.Terms.{is_same_sub, same_sub, same_stream, same_port, open_unit-snoc}
 use Rattle.law_sealing.proofs.Terms.{sub_stream_packets-snoc, posted-own, posted-more, sent_elsewhere, posted_elsewhere}
 use Rattle.law_sealing.proofs.Terms.{any_out, is_out, in_lane, sealing_is, StreamsFit, Sealed, sent_bytes, sending_port}
@@ -175,8 +175,8 @@ none_from : (plan : Plan) (h : History) (port : PortName) (stream : ℕ) (u : Su
     → posted_since_last (sealed_packets plan h) (lane_out port stream u) from ≡ 0
 unfolding posted_since_last
 none_from plan h port stream u from none =
-    ap length (none_filtered (is_sealed_since (posted_lane s) from)
-    (after_last (is_sealed_since s from) (sealed_packets plan h))
+    ap length (none_filtered (is_sealed_from_draw (posted_lane s) from)
+    (after_last (is_sealed_from_draw s from) (sealed_packets plan h))
     (λ i x is here.
     let at = at_dropped (sealed_packets plan h) _ i x is in
     let parts = and_parts (is_same (sub_stream_of x.0) (posted_lane s)) (nat_le from x.0.draw) here in

@@ -11,8 +11,8 @@ use Rattle.link_verdicts.specs.declared.verdict.Verdict.TheVariants as v
 use Rattle.spec_keys.specs.Places.{KeyPlan}
 use Rattle.spec_keys.specs.Operations.{StreamStage, Idle, Establishing, Up, Refreshing, Work, Reach, Manager, work_of}
 use Rattle.spec_keys.specs.Operations.{reach_of, makes_draw, manager_after_operation}
-use Rattle.spec_keys.specs.Due.{PortView, ports_at, begun_with_draw, may_establish, may_refresh, unless_open, if_secure}
-use Rattle.spec_keys.specs.Due.{has_refresh, is_live_sender}
+use Rattle.spec_keys.specs.Due.{PortView, ports_at, begun_if_pool_has, may_establish, may_refresh, unless_open}
+use Rattle.spec_keys.specs.Due.{if_secure, has_refresh, is_live_sender}
 unfoldable use Rattle.spec_keys.specs.Due.{key_due}
 use Rattle.spec_keys.specs.History.{draws}
 unfoldable use Rattle.spec_keys.specs.History.{manager}
@@ -38,7 +38,7 @@ planned_finds pool next o true w finds = finds
 planned_finds pool next o false w finds = inr refl
 
 drawn_finds : (kp : KeyPlan) (next : ℕ) (o : Operation) (w : Verdict)
-    → FindsBy kp.pool next o (begun_with_draw kp next w)
+    → FindsBy kp.pool next o (begun_if_pool_has kp next w)
 drawn_finds kp next o w = by_pool (nat_lt next kp.pool) refl
   where
     by_pool : (b : Bool) → nat_lt next kp.pool ≡ b

@@ -5,10 +5,10 @@ use Rattle.law_sealing.proofs.Terms.{◌≡◌, ℕ, zero, suc, ◌+◌, ◌<◌
 use Rattle.law_sealing.proofs.Terms.{length, map, filter, take, drop, sum_by, slice_get, Some, refl, ap, sym, ◌∙◌}
 use Rattle.law_sealing.proofs.Terms.{arith, length-append, if◌then◌else◌, AllByRecursion, nat_tests, append-nil}
 use Rattle.law_sealing.proofs.Terms.{map-append, take-append-drop, take-take, filter-append, sum_by-cons, Accepted}
-use Rattle.law_sealing.proofs.Terms.{SealedPacket, Packet, SubStream, is_same, units, units_after, open_unit, History}
-use Rattle.law_sealing.proofs.Terms.{SealedList, sub_stream_packets, is_sealed_under, sub_stream_of, received_in}
-use Rattle.law_sealing.proofs.Terms.{units_got, draws_got, ends_unit_since, total_in, units_since, same_stream}
-use Rattle.law_sealing.proofs.Terms.{units-append}
+use Rattle.law_sealing.proofs.Terms.{SealedPacket, Packet, SubStream, is_same, units, units_finished, open_unit}
+use Rattle.law_sealing.proofs.Terms.{History, SealedList, sub_stream_packets, is_sealed_under, sub_stream_of}
+use Rattle.law_sealing.proofs.Terms.{received_in, units_got, draws_got, ends_unit_since, total_in, units_since}
+use Rattle.law_sealing.proofs.Terms.{same_stream, units-append}
 use Rattle.law_sealing.proofs.Totals.{total, total-le, total-same, total-none, joined, of_since, sealed_total}
 use Rattle.law_sealing.proofs.Totals.{sealed_least, first_and_rest}
 
@@ -87,14 +87,15 @@ units_within xs s j a b le =
     let all : sub_stream_packets (take b xs) s j ≡ first ++ rest =
     rw (take-append-drop, take-take a b xs le) at
     (sub_stream_packets-append (take a (take b xs)) (drop a (take b xs)) s j) in
-    rw (all, units-append first rest) (omega (arith, length-append (units first) (units_after (open_unit first) rest)))
+    rw (all, units-append first rest)
+    (omega (arith, length-append (units first) (units_finished (open_unit first) rest)))
 
 -- ---- sums
 
 abbrev ends_one : Packet → ℕ
 ends_one p = if p.prefix.m then 1 else 0
 
-units_count : (unfinished ps : List Packet) → sum_by ends_one ps ≡ length (units_after unfinished ps)
+units_count : (unfinished ps : List Packet) → sum_by ends_one ps ≡ length (units_finished unfinished ps)
 units_count unfinished [] = refl
 units_count unfinished (p ∷ ps) = grind
     (arith, units_count [] ps, units_count (unfinished ++ p ∷ []) ps, sum_by-cons ends_one p ps)

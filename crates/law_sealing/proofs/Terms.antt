@@ -36,14 +36,14 @@ pub use Rattle.ide_types.specs.declared.plan.Plan.{Plan}
 pub use Rattle.spec_links.specs.Plan.{SubStream, lane_out, aggregation_of, is_same, is_same_port, streams_of, with_id}
 pub use Rattle.spec_links.specs.Plan.{is_closed, key_of, lane_in, has_stream}
 unfoldable pub use Rattle.spec_links.specs.Plan.{stream_plan}
-pub use Rattle.spec_links.specs.Units.{units_after}
+pub use Rattle.spec_links.specs.Units.{units_finished}
 unfoldable pub use Rattle.spec_links.specs.Units.{open_unit, units}
 pub use Rattle.spec_keys.specs.History.{History, base}
 pub use Rattle.spec_links.specs.History.{ahead_of_packet, SealedList, KeyName, with_sealed, prefix_of, posted_lane}
-pub use Rattle.spec_links.specs.History.{is_sealed_since, sub_stream_of, ends_unit_since, sent_packets, is_sealed_under}
-pub use Rattle.spec_links.specs.History.{is_of_unit, live_key, untagged_packet, unit_tag, port_keys, posted_count}
-pub use Rattle.spec_links.specs.History.{received_in, arrived_packet, is_received_under, ahead_due, pending_packets}
-pub use Rattle.spec_links.specs.History.{Arrival, on_draw, has_failed}
+pub use Rattle.spec_links.specs.History.{is_sealed_from_draw, sub_stream_of, ends_unit_since, sent_packets}
+pub use Rattle.spec_links.specs.History.{is_sealed_under, is_of_unit, live_key, untagged_packet, unit_tag, port_keys}
+pub use Rattle.spec_links.specs.History.{posted_count, received_in, arrived_packet, is_received_under, ahead_due}
+pub use Rattle.spec_links.specs.History.{pending_packets, Arrival, on_draw, has_failed}
 unfoldable pub use Rattle.spec_links.specs.History.{sealed_packets, packet_of, sub_stream_packets, posted_since_last}
 unfoldable pub use Rattle.spec_links.specs.History.{total_in, ahead_of_unit, ahead_sent, units_got, draws_got}
 unfoldable pub use Rattle.spec_links.specs.History.{units_since, packets_in_hold, accepted_packets, got_since}

@@ -10,7 +10,7 @@ use Rattle.ide_types.specs.declared.plan.Plan.{Plan}
 use Rattle.ide_types.specs.Fits.{FitsPlan}
 use Rattle.tlp_layout.specs.Outgoing.{Outgoing, NoTlp, OnNone, OnStream, outgoing_of, stream_taken}
 use Rattle.spec_keys.specs.History.{History}
-use Rattle.spec_interfaces.specs.Sites.{Site, site_with}
+use Rattle.spec_interfaces.specs.Sites.{Site, site_of_requester}
 use Rattle.spec_interfaces.specs.Views.{bound_if, granted_to, view_at, floor_at}
 use Rattle.ide_types.specs.declared.view.View.{View}
 use Rattle.ide_types.specs.declared.view.View.TheVariants as view
@@ -95,7 +95,7 @@ first_fits : (plan : Plan) → FitsPlan plan → (h : History) → CauseLaw plan
     → outgoing_of (streams_of plan port.line) port.side bytes ≡ out → Fits plan (answer_first plan h port rs out)
 first_fits plan fits h cause few port small bytes [] out comes = small
 first_fits plan fits h cause few port small bytes (r ∷ rs) out comes =
-    of_fits plan fits h cause few port bytes r.draw (site_with plan port.line r.read.requester)
+    of_fits plan fits h cause few port bytes r.draw (site_of_requester plan port.line r.read.requester)
     (found_site_fits plan fits (λ x. (x.link == port.line) && (x.plan.requester == r.read.requester))) out comes
 
 pub answer_due_fits : (plan : Plan) → FitsPlan plan → (h : History) → CauseLaw plan h → length h < 2 ^ 28 → (link : ℕ)

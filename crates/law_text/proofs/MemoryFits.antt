@@ -28,7 +28,7 @@ use Rattle.std.specs.Option.{option_map}
 use Rattle.trusted_memory.specs.declared.span.Span.{Span}
 use Rattle.trusted_memory.specs.Spans.{enables, write_span}
 use Rattle.trusted_memory.specs.Writes.{Write, written_byte, last_enabling, memory_write, newest_first}
-unfoldable use Rattle.trusted_memory.specs.Writes.{byte_after}
+unfoldable use Rattle.trusted_memory.specs.Writes.{byte_last_written}
 use Rattle.trusted_memory.specs.Memory.{bytes_from}
 use Rattle.trusted_memory.specs.Regions.{in_one_region}
 use Rattle.spec_keys.specs.History.{History}
@@ -150,8 +150,8 @@ found_payload test (x ∷ ws) w all is = by (found_payload test ws w all.1) (tes
     by later true is = let same : x ≡ w = cc in subst (λ (y : Write). AreOctets y.payload) same all.0
     by later false is = later is
 
-pub byte_small : (ws : List Write) → Payloads ws → (a : ℕ) → byte_after ws a < 256
-unfolding byte_after
+pub byte_small : (ws : List Write) → Payloads ws → (a : ℕ) → byte_last_written ws a < 256
+unfolding byte_last_written
 byte_small ws all a = by (last_enabling ws a) refl
   where
     by : (o : Option Write) → last_enabling ws a ≡ o → written_byte o a < 256
@@ -169,5 +169,5 @@ shown_bytes plan false bytes are = tt
 
 pub memory_fits : (plan : Plan) (h : History) → CauseLaw plan h → (e : InterfaceEvent) → Fits plan (memory_due plan h e)
 memory_fits plan h cause (ie.Memory at len) = shown_bytes plan (in_one_region plan.memory at len) _
-    (from_bytes (byte_after (writes plan h)) (byte_small (writes plan h) (writes_bytes plan h cause)) at len)
+    (from_bytes (byte_last_written (writes plan h)) (byte_small (writes plan h) (writes_bytes plan h cause)) at len)
 memory_fits plan h cause _ = tt

@@ -21,7 +21,7 @@ use Rattle.tlp_layout.specs.Reading.{read_head_of}
 use Rattle.ide_prefix.specs.Packet.{Packet, FitsPacket, is_sync_packet}
 use Rattle.trusted_memory.specs.Writes.{Write, memory_write}
 use Rattle.trusted_memory.specs.Memory.{bytes_from}
-use Rattle.guarded_memory.specs.declared.standing.InterfaceStatus.{InterfaceStatus}
+use Rattle.guarded_memory.specs.declared.status.InterfaceStatus.{InterfaceStatus}
 use Rattle.guarded_memory.specs.declared.claims.Claim.{Claim}
 use Rattle.guarded_memory.specs.Claims.{claim_of}
 use Rattle.guarded_memory.specs.Causes.{mmio_cause}
@@ -61,7 +61,7 @@ claimed_bytes : (o : Option Claim) (w : Write) (t : Bool) (stream draw : ℕ) �
     → IfHappened (stored_by_claim o w t stream draw)
 claimed_bytes None w t stream draw bytes = tt
 claimed_bytes (Some c) w t stream draw bytes =
-    unless_bytes (mmio_cause c.standing c.range w.span t stream draw) c w bytes
+    unless_bytes (mmio_cause c.status c.range w.span t stream draw) c w bytes
 
 write_stored_bytes : (xs : List InterfaceStatus) (t : Bool) (stream draw : ℕ) (o : Option Write) → OfBytes o
     → IfHappened (write_happened xs t stream draw o)

@@ -17,7 +17,7 @@ use Rattle.ide_types.specs.declared.plan.Plan.{Plan}
 use Rattle.ide_types.specs.Fits.{FitsPlan}
 use Rattle.ide_types.specs.Plans.{hop_has_id}
 use Rattle.ide_types.specs.Ends.{own_has_id, link_hop, peer_has_id, line_has, port_beside_end, hop_end, peer_end}
-use Rattle.ide_types.specs.Ends.{peer_end_at, end_on, end_at}
+use Rattle.ide_types.specs.Ends.{peer_end_at, end_at_port, end_at}
 use Rattle.ide_types.proofs.EndsFound.{port_is_one}
 use Rattle.spec_links.specs.Plan.{streams_of, with_id, stream_plan, has_link, has_port}
 use Rattle.spec_links.specs.Ports.{port_of, goes_to_hop, takes_none, outgoing_at, hop_lists, sealing_end, end_reached}
@@ -178,7 +178,7 @@ by_side plan fits Device l id itself =
 
 -- the end that a stream's ID finds at a port
 pub found_at : (plan : Plan) → FitsPlan plan → (q : PortName) (id : ℕ) → is_port q ≡ true
-    → is_port (port_beside_end plan.peers (end_on plan q id)) ≡ true
+    → is_port (port_beside_end plan.peers (end_at_port plan q id)) ≡ true
 found_at plan fits q id is = by (nat_lt q.line 8) refl
   where
     itself : is_port (port_beside_end plan.peers q) ≡ true

@@ -23,9 +23,9 @@ use Rattle.tlp_layout.proofs.Outgoing.{no_tlp_reads}
 use Rattle.ide_prefix.specs.Packet.{Packet}
 use Rattle.spec_keys.specs.History.{History, base}
 use Rattle.spec_links.specs.Plan.{SubStream, has_link, has_port, lane_out, streams_of}
-use Rattle.spec_links.specs.Units.{units, units_after}
+use Rattle.spec_links.specs.Units.{units, units_finished}
 use Rattle.spec_links.specs.History.{KeyName, SealedList, sealed_packets, sub_stream_packets, is_sealed_under}
-use Rattle.spec_links.specs.History.{port_keys, live_key, is_sealed_since, posted_since_last, posted_lane}
+use Rattle.spec_links.specs.History.{port_keys, live_key, is_sealed_from_draw, posted_since_last, posted_lane}
 use Rattle.spec_links.specs.Due.{Sending, Lanes, Lane, lanes_at, packets_under_key, due, send_due, bytes_due, t_sealed}
 use Rattle.spec_links.specs.Due.{refusals, first_that_holds, sealed_with_syncs, described_seal, needs_sync, no_key}
 use Rattle.spec_links.specs.Due.{is_posted, ends_unit, sets_trusted}
@@ -43,7 +43,7 @@ use Rattle.law_text.proofs.OperationsFit.{FitsStream, stream_fits}
 
 -- ---- counts
 
-units_few : (unfinished ps : List Packet) → length (units_after unfinished ps) ≤ length ps
+units_few : (unfinished ps : List Packet) → length (units_finished unfinished ps) ≤ length ps
 units_few unfinished [] = omega arith
 units_few unfinished (p ∷ ps) = grind (arith, units_few [] ps, units_few (unfinished ++ p ∷ []) ps)
 
@@ -64,12 +64,12 @@ under_few plan h s (Some key) =
 posted_few : (xs : SealedList) (s : SubStream) (from : ℕ) → posted_since_last xs s from ≤ length xs
 unfolding posted_since_last
 posted_few xs s from =
-    let last = after_last (is_sealed_since s from) xs in
+    let last = after_last (is_sealed_from_draw s from) xs in
     omega (
       arith,
-      filter_few (is_sealed_since (posted_lane s) from) last,
+      filter_few (is_sealed_from_draw (posted_lane s) from) last,
       length-drop
-          (length xs - suffix_len (λ (y : SealedPacket × Packet). not (is_sealed_since s from y)) xs) xs,
+          (length xs - suffix_len (λ (y : SealedPacket × Packet). not (is_sealed_from_draw s from y)) xs) xs,
     )
 
 pub live_few : (h : History) (port : PortName) (s : SubStream) (o : Option KeyName) → live_key h port s ≡ o

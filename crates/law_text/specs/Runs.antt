@@ -13,19 +13,19 @@ use Rattle.spec_keys.specs.History.{History}
 use Rattle.spec_links.specs.Due.{due}
 
 -- a history with one more event and the verdict that is due
-abbrev pub history_with : Plan → History → Event → History
-history_with plan h event = (event, due plan h event) ∷ h
+abbrev pub history_with_event : Plan → History → Event → History
+history_with_event plan h event = (event, due plan h event) ∷ h
 
 -- the history of events in order, each with the verdict that is due
 abbrev pub history_on : Plan → History → List Event → History
 history_on plan h [] = h
-history_on plan h (event ∷ events) = history_on plan (history_with plan h event) events
+history_on plan h (event ∷ events) = history_on plan (history_with_event plan h event) events
 
 -- the verdict lines of events in order, numbered on
 abbrev pub text_on : Plan → History → List Event → List ℕ
 text_on plan h [] = []
 text_on plan h (event ∷ events) = line_of (length h + 1) (verdict_by_ports plan.peers (due plan h event))
-    ++ text_on plan (history_with plan h event) events
+    ++ text_on plan (history_with_event plan h event) events
 
 -- ---- totals
 

@@ -5,7 +5,7 @@ use Rattle.spec_links.proofs.Terms.{Plan, History, Event, Verdict, Sealed, Seale
 use Rattle.spec_links.proofs.Terms.{sent_bytes, sending_port, with_sealed, ahead_of_packet, open_unit}
 use Rattle.spec_links.proofs.Terms.{sub_stream_packets, sub_stream_of, base, lanes_at, Sending, Lanes, described_seal}
 use Rattle.spec_links.proofs.Terms.{ends_unit, sets_trusted, CauseLaw, Npr, Cpl, sealed_with_syncs, Access}
-use Rattle.spec_links.proofs.Terms.{outgoing_completion, site_with, granted_to}
+use Rattle.spec_links.proofs.Terms.{outgoing_completion, site_of_requester, granted_to}
 use Rattle.spec_links.specs.Terms.{header, Tlp, read_of, masked_bytes, iv_of, body}
 use Rattle.tlp_layout.specs.Class.{class_of}
 use Rattle.tlp_layout.specs.Head.{head_bytes}
@@ -163,7 +163,8 @@ unfolding due
 answer_ends plan h link ds is =
     let port = sending_port plan (Access (ae.Answer link)) in
     let first = first_means plan h link (Sealed ds) refl is in
-    let owned = owned_means plan h link (Sealed ds) first.read (site_with plan link first.read.read.requester) refl refl
+    let owned = owned_means plan h link (Sealed ds) first.read (site_of_requester plan link first.read.read.requester)
+    refl refl
     first.is in
     let under = under_means plan h link ds owned.site first.read.draw (granted_to h (Some owned.site)) refl owned.is in
     send_ends plan h port (outgoing_completion plan h link) true ds under.sent

@@ -24,14 +24,14 @@ use Rattle.trusted_memory.specs.Admitted.{is_on_bound, is_placed}
 use Rattle.trusted_memory.specs.declared.read.MemReadView.{MemReadView}
 use Rattle.trusted_memory.specs.Requests.{memory_read}
 use Rattle.trusted_memory.specs.Waiting.{full_cause, read_cause, read_effect, effect_by_read, request_effect}
-use Rattle.guarded_memory.specs.declared.standing.InterfaceStatus.{InterfaceStatus}
-use Rattle.guarded_memory.specs.declared.standing.InterfaceState.{InterfaceState}
+use Rattle.guarded_memory.specs.declared.status.InterfaceStatus.{InterfaceStatus}
+use Rattle.guarded_memory.specs.declared.status.InterfaceState.{InterfaceState}
 use Rattle.guarded_memory.specs.declared.claims.Claim.{Claim}
 use Rattle.guarded_memory.specs.Claims.{claim_of}
 use Rattle.guarded_memory.specs.Causes.{mmio_cause, cause_effect, claim_effect, mmio_effect, is_stored, floor_cause}
 use Rattle.guarded_memory.specs.Causes.{trusted_cause, untrusted_cause, access_cause}
 use Rattle.guarded_memory.specs.Laws.{is_admitted, is_from_floor}
-use Rattle.guarded_memory.specs.Standings.{is_open_range, is_config_unlocked, is_in_run}
+use Rattle.guarded_memory.specs.Statuses.{is_open_range, is_config_unlocked, is_in_run}
 use Rattle.interface_state.specs.Bindings.{floor_on}
 use Rattle.spec_links.specs.Ports.{at_switch, port_of}
 use Rattle.spec_links.specs.Admission.{switch_effect}
@@ -164,9 +164,9 @@ run_says x stream draw = by (is_in_run x.state)
     by false = refl
 
 access_says : (c : Claim) (t : Bool) (stream draw : ℕ)
-    → is_stored (cause_effect (access_cause c.standing c.range t stream draw)) ≡ takes_claimed t stream draw c
-access_says c true stream draw = run_says c.standing stream draw
-access_says c false stream draw = untrusted_says c.range c.standing.state
+    → is_stored (cause_effect (access_cause c.status c.range t stream draw)) ≡ takes_claimed t stream draw c
+access_says c true stream draw = run_says c.status stream draw
+access_says c false stream draw = untrusted_says c.range c.status.state
 
 claim_says : (o : Option Claim) (s : Span) (t : Bool) (stream draw : ℕ)
     → is_stored (claim_effect o s t stream draw) ≡ takes_claim t stream draw s o
@@ -174,7 +174,7 @@ claim_says None s t stream draw = refl
 claim_says (Some c) s t stream draw = by (crosses s)
   where
     by : (b : Bool) → is_stored (cause_effect (if b then Some blocks.Crosses
-        else access_cause c.standing c.range t stream draw)) ≡ (not b && takes_claimed t stream draw c)
+        else access_cause c.status c.range t stream draw)) ≡ (not b && takes_claimed t stream draw c)
     by true = refl
     by false = access_says c t stream draw
 
@@ -199,12 +199,12 @@ floor_neither (Some floor) draw = by (nat_lt draw floor)
     by false = (refl, refl)
 
 claim_neither : (c : Claim) (s : Span) (t : Bool) (stream draw : ℕ)
-    → IsNeither (cause_effect (mmio_cause c.standing c.range s t stream draw))
+    → IsNeither (cause_effect (mmio_cause c.status c.range s t stream draw))
 claim_neither c s t stream draw = by (crosses s) t
   where
-    by_run : (b : Bool) → IsNeither (cause_effect (if b then floor_cause (floor_on stream c.standing.bound) draw
+    by_run : (b : Bool) → IsNeither (cause_effect (if b then floor_cause (floor_on stream c.status.bound) draw
         else Some blocks.NotRunning))
-    by_run true = floor_neither (floor_on stream c.standing.bound) draw
+    by_run true = floor_neither (floor_on stream c.status.bound) draw
     by_run false = (refl, refl)
 
     by_open : (b : Bool) → IsNeither (cause_effect (if b then None else Some blocks.NotTrusted))
@@ -212,10 +212,10 @@ claim_neither c s t stream draw = by (crosses s) t
     by_open false = (refl, refl)
 
     by : (b t : Bool) → IsNeither (cause_effect (if b then Some blocks.Crosses
-        else access_cause c.standing c.range t stream draw))
+        else access_cause c.status c.range t stream draw))
     by true t = (refl, refl)
-    by false true = by_run (is_in_run c.standing.state)
-    by false false = by_open (is_open_range c.range || is_config_unlocked c.standing.state)
+    by false true = by_run (is_in_run c.status.state)
+    by false false = by_open (is_open_range c.range || is_config_unlocked c.status.state)
 
 span_neither : (xs : List InterfaceStatus) (t : Bool) (stream draw : ℕ) (o : Option Span)
     → IsNeither (mmio_effect xs t stream draw o)
@@ -287,7 +287,7 @@ span_waits xs t stream draw (Some s) = by (claim_of xs s)
   where
     by : (o : Option Claim) → is_waiting_effect (claim_effect o s t stream draw) ≡ false
     by None = refl
-    by (Some c) = cause_waits (mmio_cause c.standing c.range s t stream draw)
+    by (Some c) = cause_waits (mmio_cause c.status c.range s t stream draw)
 
 device_waits : (xs : List InterfaceStatus) (unit : UnitName) (p : Packet) (r : Result HeadView TlpFault)
     → is_waiting_effect (device_effect xs unit p r) ≡ false
@@ -302,12 +302,12 @@ effect_says plan policy n port unit p = by (is_sync_packet p) (at_switch plan po
   where
     by : (s c b : Bool) → Says (if s then effect.Sync else if c then switch_effect
         else if b then host_effect plan policy.grants n port unit p (read_head_of p.head)
-        else device_effect (policy.standings port.line) unit p (read_head_of p.head))
+        else device_effect (policy.statuses port.line) unit p (read_head_of p.head))
         (not s && ((not c && b) && packet_asks_read plan policy.grants port unit p.prefix.t (read_head_of p.head))) n
     by true c b = record { queued = refl; full = refl }
     by false true b = record { queued = refl; full = refl }
     by false false false =
-        neither _ n (device_neither (policy.standings port.line) unit p (read_head_of p.head))
+        neither _ n (device_neither (policy.statuses port.line) unit p (read_head_of p.head))
     by false false true = head_says plan policy n port unit p (read_head_of p.head)
 
 -- a port is a host's or a device's
@@ -316,17 +316,17 @@ other_side Host = refl
 other_side Device = refl
 
 store_says : (plan : Plan) (policy : Policy) (n : ℕ) (port : PortName) (unit : UnitName) (p : Packet)
-    → is_stored (effect_by plan policy n port unit p) ≡ takes_write plan policy.standings port unit p
+    → is_stored (effect_by plan policy n port unit p) ≡ takes_write plan policy.statuses port unit p
 store_says plan policy n port unit p = rw (other_side port.side)
     (by (is_sync_packet p) (at_switch plan port) (sent_direction port.side == 0))
   where
     by : (s c b : Bool) → is_stored (if s then effect.Sync else if c then switch_effect
         else if b then host_effect plan policy.grants n port unit p (read_head_of p.head)
-        else device_effect (policy.standings port.line) unit p (read_head_of p.head))
-        ≡ (not s && ((not c && not b) && takes_as (policy.standings port.line) unit p.prefix.t (read_head_of p.head)))
+        else device_effect (policy.statuses port.line) unit p (read_head_of p.head))
+        ≡ (not s && ((not c && not b) && takes_as (policy.statuses port.line) unit p.prefix.t (read_head_of p.head)))
     by true c b = refl
     by false true b = refl
-    by false false false = device_says (policy.standings port.line) unit p (read_head_of p.head)
+    by false false false = device_says (policy.statuses port.line) unit p (read_head_of p.head)
     by false false true = host_not plan policy n port unit p (read_head_of p.head)
 
 wait_says : (plan : Plan) (policy : Policy) (n : ℕ) (port : PortName) (unit : UnitName) (p : Packet)
@@ -335,11 +335,11 @@ wait_says plan policy n port unit p = by (is_sync_packet p) (at_switch plan port
   where
     by : (s c b : Bool) → is_waiting_effect (if s then effect.Sync else if c then switch_effect
         else if b then host_effect plan policy.grants n port unit p (read_head_of p.head)
-        else device_effect (policy.standings port.line) unit p (read_head_of p.head)) ≡ (not s && c)
+        else device_effect (policy.statuses port.line) unit p (read_head_of p.head)) ≡ (not s && c)
     by true c b = refl
     by false true b = refl
     by false false true = host_waits plan policy n port unit p (read_head_of p.head)
-    by false false false = device_waits (policy.standings port.line) unit p (read_head_of p.head)
+    by false false false = device_waits (policy.statuses port.line) unit p (read_head_of p.head)
 
 -- ---- all packets of a unit
 
@@ -418,7 +418,7 @@ all_full plan policy port unit (p ∷ ps) n m counts =
     (all_full plan policy port unit ps)
 
 all_stored : (plan : Plan) (policy : Policy) (n : ℕ) (port : PortName) (unit : UnitName) (ps : List Packet)
-    → map is_stored (effects_each plan policy n port unit ps) ≡ map (takes_write plan policy.standings port unit) ps
+    → map is_stored (effects_each plan policy n port unit ps) ≡ map (takes_write plan policy.statuses port unit) ps
 all_stored plan policy n port unit [] = refl
 all_stored plan policy n port unit (p ∷ ps) =
     let first = store_says plan policy n port unit p in

@@ -6,9 +6,9 @@ use Rattle.spec_links.proofs.Terms.{Establish, Refresh, Stop, Reset, Status, Int
 use Rattle.spec_links.proofs.Terms.{UnitName, has_failed, is_quiet, first_that_holds, refusals, lanes_at, send_due}
 use Rattle.spec_links.proofs.Terms.{answer_first, site_answer, completion_verdict, outgoing_completion, judged_by}
 use Rattle.spec_links.proofs.Terms.{answer_judged, binding_cause, is_before, WaitingRead, waiting_reads, Site}
-use Rattle.spec_links.proofs.Terms.{site_with, granted_to, live_key, lane_out, Cpl, Arrival, arrival_due, before_tag_of}
-use Rattle.spec_links.proofs.Terms.{has_link, sending_port, arrival_of_event, packet_by_number, sealed_packets}
-use Rattle.spec_links.proofs.Terms.{dump_due, stream_plan}
+use Rattle.spec_links.proofs.Terms.{site_of_requester, granted_to, live_key, lane_out, Cpl, Arrival, arrival_due}
+use Rattle.spec_links.proofs.Terms.{before_tag_of, has_link, sending_port, arrival_of_event, packet_by_number}
+use Rattle.spec_links.proofs.Terms.{sealed_packets, dump_due, stream_plan}
 use Rattle.spec_links.specs.Terms.{CutValue, PacketFault}
 unfoldable use Rattle.spec_links.proofs.Terms.{due, key_due, before_tag}
 use Rattle.spec_links.specs.Due.{through_due, ending_due, forward_first, forward_out}
@@ -107,7 +107,7 @@ answer_first_fails : (plan : Plan) (h : History) (port : PortName) (rs : List Wa
     → Fails h (answer_first plan h port rs out)
 answer_first_fails plan h port [] out = tt
 answer_first_fails plan h port (r ∷ rs) out =
-    answer_of_fails plan h port r.draw (site_with plan port.line r.read.requester) out
+    answer_of_fails plan h port r.draw (site_of_requester plan port.line r.read.requester) out
 
 packet_fails : (plan : Plan) (h : History) (port : PortName) (p : Packet)
     → Fails h (ending_due plan h port (before_tag_of plan h port (Ok (IdePacket p))))

@@ -8,8 +8,8 @@ use Rattle.spec_links.proofs.Terms.{unwrap_or, InterfaceEvent, AllByRecursion, P
 use Rattle.spec_links.proofs.Terms.{Arrival, arrival_due, before_tag_of, Access, WaitingRead, waiting_reads, send_due}
 use Rattle.spec_links.proofs.Terms.{answer_first, site_answer, completion_verdict, outgoing_completion, is_before}
 use Rattle.spec_links.proofs.Terms.{judged_by, answer_judged, binding_cause, first_that_holds, refusals, lanes_at}
-use Rattle.spec_links.proofs.Terms.{live_key, lane_out, Cpl, dump_due, Site, granted_to, site_with, sending_port}
-use Rattle.spec_links.proofs.Terms.{sealed_packets, packet_by_number}
+use Rattle.spec_links.proofs.Terms.{live_key, lane_out, Cpl, dump_due, Site, granted_to, site_of_requester}
+use Rattle.spec_links.proofs.Terms.{sending_port, sealed_packets, packet_by_number}
 unfoldable use Rattle.spec_links.proofs.Terms.{due, key_due, before_tag, arrival_of_event}
 use Rattle.spec_links.specs.Terms.{CutValue, IdePacket, PlainTlp, PacketFault, cut_of, in_one_region}
 use Rattle.spec_links.specs.Due.{through_due, ending_due, forward_first, forward_out}
@@ -251,7 +251,8 @@ answer_some plan h link cause = by (waiting_reads plan h link) refl
         → IsSome (answer_first plan h port rs (outgoing_completion plan h link))
     by [] is = refl
     by (r ∷ rs) is =
-        answer_of_some plan h port r.draw (site_with plan link r.read.requester) (outgoing_completion plan h link)
+        answer_of_some plan h port r.draw (site_of_requester plan link r.read.requester)
+        (outgoing_completion plan h link)
         (reader_there plan h cause link (reads_taken h link) r
         (drop_first (reads_taken h link) (queued_reads plan h link) r rs is))
 

@@ -1,7 +1,7 @@
 -- An answer is the completion of its read.
 use Rattle.std.specs.Prelude.{◌≡◌, ℕ, ◌++◌, ◌∷◌, true, false, List, [], Some, slice_get}
 use Rattle.spec_links.specs.Terms.{Plan, Event, Access, Verdict, Sealed, SealedPacket, Packet, History, WaitingRead}
-use Rattle.spec_links.specs.Terms.{byte_after, completion_bytes, masked_bytes, iv_of}
+use Rattle.spec_links.specs.Terms.{byte_last_written, completion_bytes, masked_bytes, iv_of}
 use Rattle.spec_links.specs.Plan.{key_of}
 use Rattle.spec_links.specs.History.{SealedList, sealed_packets, sub_stream_of}
 use Rattle.spec_links.specs.Memory.{queued_reads, writes}
@@ -24,7 +24,7 @@ pub record SealsCompletion (plan : Plan) (h : History) (link : ℕ) (ds : List S
   pub packet : Packet
   pub stands : sealed_packets plan ((Access (ae.Answer link), Sealed ds) ∷ h) ≡ before ++ (last, packet) ∷ []
   pub payload : List ℕ
-  pub completion : packet.head ++ payload ≡ completion_bytes (byte_after (writes plan h)) read.read
+  pub completion : packet.head ++ payload ≡ completion_bytes (byte_last_written (writes plan h)) read.read
   pub offset : ℕ
   pub body_is : packet.body
       ≡ masked_bytes (key_of plan last.draw (sub_stream_of last)) (iv_of last.sub last.unit) offset payload

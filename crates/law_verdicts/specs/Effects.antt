@@ -11,12 +11,12 @@ use Rattle.tlp_layout.specs.declared.head.HeadView.{HeadView}
 use Rattle.trusted_memory.specs.declared.span.Span.{Span}
 use Rattle.trusted_memory.specs.Spans.{crosses}
 use Rattle.trusted_memory.specs.Admitted.{is_placed}
-use Rattle.guarded_memory.specs.declared.standing.InterfaceStatus.{InterfaceStatus}
+use Rattle.guarded_memory.specs.declared.status.InterfaceStatus.{InterfaceStatus}
 use Rattle.guarded_memory.specs.declared.claims.Claim.{Claim}
 use Rattle.guarded_memory.specs.Claims.{claim_of}
 use Rattle.guarded_memory.specs.Causes.{is_stored}
 use Rattle.guarded_memory.specs.Laws.{is_admitted}
-use Rattle.guarded_memory.specs.Standings.{is_open_range, is_config_unlocked}
+use Rattle.guarded_memory.specs.Statuses.{is_open_range, is_config_unlocked}
 use Rattle.law_locks.specs.Fronts.{AtPairs}
 use Rattle.link_verdicts.specs.declared.verdict.BlockCause.TheVariants.{Full}
 use Rattle.link_verdicts.specs.declared.verdict.Effect.TheVariants.{Queued, Blocked, Waiting}
@@ -76,8 +76,8 @@ pub record QueuesAsked (plan : Plan) (h : History) (e : Event) (port : PortName)
 -- The write that this claims is stored: it crosses no 4 KiB boundary, and if it has T, the interface is in RUN, bound
 -- to the stream, and the draw is from its floor there on; else the range is open, or the interface in CONFIG_UNLOCKED.
 abbrev pub takes_claimed : Bool → ℕ → ℕ → Claim → Bool
-takes_claimed true stream draw c = is_admitted c.standing true stream draw
-takes_claimed false stream draw c = is_open_range c.range || is_config_unlocked c.standing.state
+takes_claimed true stream draw c = is_admitted c.status true stream draw
+takes_claimed false stream draw c = is_open_range c.range || is_config_unlocked c.status.state
 
 abbrev pub takes_claim : Bool → ℕ → ℕ → Span → Option Claim → Bool
 takes_claim t stream draw s None = false
@@ -93,9 +93,9 @@ takes_as xs unit t (Ok head) = takes_span xs t unit.stream unit.draw (write_span
 
 -- of a packet that came to a device's port
 abbrev pub takes_write : Plan → (ℕ → List InterfaceStatus) → PortName → UnitName → Packet → Bool
-takes_write plan standings port unit p =
+takes_write plan statuses port unit p =
     not (is_sync_packet p)
-    && (is_device_port plan port && takes_as (standings port.line) unit p.prefix.t (read_head_of p.head))
+    && (is_device_port plan port && takes_as (statuses port.line) unit p.prefix.t (read_head_of p.head))
 
 abbrev pub StoresTaken : Plan → History → Event → PortName → UnitName → List Effect → Type 0
 StoresTaken plan h e port unit effects = map is_stored effects

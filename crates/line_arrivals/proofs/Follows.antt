@@ -4,10 +4,10 @@ use Rattle.join_arrivals.proofs.{◌≡◌, ℕ, suc, zero, ◌+◌, ◌-◌, �
 use Rattle.join_arrivals.proofs.{subst, arith, nat_tests, Option, Some, None, option_map, slice_get, same_Some}
 use Rattle.join_arrivals.proofs.{none-some, length, Side, Host, Device, PortName, Plan, PortEnd, LinkEnds, PairEnds}
 use Rattle.join_arrivals.proofs.{EndsView, with_port, pair_port, with_pair_port, changed_at, settled_link, settled_ends}
-use Rattle.join_arrivals.proofs.{peer_live, line_place, with_port_at, with_port_on, AreLinks, seen_same, LineIs, OfLink}
-use Rattle.join_arrivals.proofs.{NearHop, FarHop, Between, line_of, port_own, near_port, far_port, between_port}
+use Rattle.join_arrivals.proofs.{peer_live, line_place, with_port_at_place, with_port_on, AreLinks, seen_same, LineIs}
+use Rattle.join_arrivals.proofs.{OfLink, NearHop, FarHop, Between, line_of, port_own, near_port, far_port, between_port}
 use Rattle.join_arrivals.proofs.{IsOnWay}
-use Rattle.join_arrivals.specs.{LinePlace, Link, Near, Pair, KeeperView, secure_with, live_of, live_at_port}
+use Rattle.join_arrivals.specs.{LinePlace, Link, Near, Pair, KeeperView, secure_or_live, live_of, live_at_port}
 use Rattle.join_arrivals.specs.{settled_by_side, way_of}
 use Rattle.std.proofs.Common.{inl, inr, ⊎_elim}
 use Rattle.std.specs.Prelude.{nat_lt, nat_le}
@@ -56,7 +56,7 @@ not_same i j other same = grind (arith, other, same)
 -- of what is seen of both ends of a line
 pub put_seen : {B : Type 0} (g : LinkEnds → B) (v : EndsView) (s : Side) (place : LinePlace) (e : PortEnd) (j : ℕ)
     (l l' : LinkEnds) → ((i : ℕ) → place ≡ Link i → (x : LinkEnds) → g (with_port s e x) ≡ g x)
-    → slice_get v.links j ≡ Some l → slice_get (with_port_at v s place e).links j ≡ Some l' → g l' ≡ g l
+    → slice_get v.links j ≡ Some l → slice_get (with_port_at_place v s place e).links j ≡ Some l' → g l' ≡ g l
 put_seen g v s (Link i) e j l l' same is at =
     seen_of g (slice_get v.links j) (slice_get (changed_at v.links i (with_port s e)) j) l l'
     (seen_same g v.links i j (with_port s e) (same i refl)) is at
@@ -110,7 +110,7 @@ abbrev IsElsewhere : EndsView → Side → ℕ → ℕ → Type 0
 IsElsewhere v s k link = (n : ℕ) (p : PeerPlan) → k ≡ 8 + n → slice_get v.peers n ≡ Some p → peer_link s p ≡ link → ⊥
 
 live_same : (v : EndsView) (s : Side) (k : ℕ) (e : PortEnd) (j id : ℕ) → IsElsewhere v s k j
-    → peer_live (with_port_at v s (Pair k) e) j id ≡ peer_live v j id
+    → peer_live (with_port_at_place v s (Pair k) e) j id ≡ peer_live v j id
 live_same v s k e j id other = by (peer_end v.peers 0 j id) refl
   where
     by : (o : Option PortName) → peer_end v.peers 0 j id ≡ o
@@ -124,7 +124,8 @@ live_same v s k e j id other = by (peer_end v.peers 0 j id) refl
         (ap (λ (t : Side). peer_link t r.peer) side ∙ r.at_link))
 
 live_put : (v : EndsView) (s : Side) (place : LinePlace) (e : PortEnd) (j id : ℕ)
-    → ((k : ℕ) → place ≡ Pair k → IsElsewhere v s k j) → peer_live (with_port_at v s place e) j id ≡ peer_live v j id
+    → ((k : ℕ) → place ≡ Pair k → IsElsewhere v s k j) → peer_live (with_port_at_place v s place e) j id
+    ≡ peer_live v j id
 live_put v s (Link i) e j id other = refl
 live_put v s (Near i) e j id other = refl
 live_put v s (Pair k) e j id other = live_same v s k e j id (other k refl)
@@ -141,7 +142,7 @@ device_stays Host e l is = refl
 device_stays Device e l is = absurd cc
 
 pub none_follow : (v : EndsView) (s : Side) (place : LinePlace) (e : PortEnd) → IsAtNone v s place
-    → AllFollow v (with_port_at v s place e)
+    → AllFollow v (with_port_at_place v s place e)
 none_follow v s place e none j l l' is at = inr (
   put_seen (λ (x : LinkEnds). x.device) v s place e j l l'
       (λ i here x. device_stays s e x (none.no_device i here)) is at,
@@ -159,15 +160,15 @@ pub record IsAtDevice (v : EndsView) (s : Side) (place : LinePlace) (link : ℕ)
       → peer_link s p ≡ link
 
 abbrev IsSettledNow : EndsView → ℕ → LinkEnds → LinkEnds → Type 0
-IsSettledNow v j l y = y.device.interfaces ≡ settled_interfaces (secure_with y.device.port (peer_live v j))
+IsSettledNow v j l y = y.device.interfaces ≡ settled_interfaces (secure_or_live y.device.port (peer_live v j))
     l.device.interfaces
 
 pub one_follows : (v : EndsView) (s : Side) (place : LinePlace) (e : PortEnd) (link : ℕ) → IsAtDevice v s place link
-    → AllFollow v (settled_link (with_port_at v s place e) link)
+    → AllFollow v (settled_link (with_port_at_place v s place e) link)
 one_follows v s place e link one j l l' is at = ⊎_elim here there (cases_Bool (link == j))
   where
     v1 : EndsView
-    v1 = with_port_at v s place e
+    v1 = with_port_at_place v s place e
 
     same_interfaces : (x : LinkEnds) → slice_get v1.links j ≡ Some x → x.device.interfaces ≡ l.device.interfaces
     same_interfaces x at_x = put_seen (λ (y : LinkEnds). y.device.interfaces) v s place e j l x
@@ -190,7 +191,7 @@ one_follows v s place e link one j l l' is at = ⊎_elim here there (cases_Bool 
       where
         from : (y : LinkEnds) → y.device.interfaces ≡ l.device.interfaces
             → IsSettledNow (settled_link v1 j) j l (settled_ends (peer_live v1 j) y)
-        from y same = ap (λ (d : DeviceTdis). settled_interfaces (secure_with y.device.port (peer_live v1 j)) d) same
+        from y same = ap (λ (d : DeviceTdis). settled_interfaces (secure_or_live y.device.port (peer_live v1 j)) d) same
 
     here : (link == j) ≡ true → IsSettledOrSame v (settled_link v1 link) j l l'
     here same =
@@ -215,7 +216,7 @@ one_follows v s place e link one j l l' is at = ⊎_elim here there (cases_Bool 
             (λ i here y. device_stays s e y host) is at1
         by_device Device device at1 = by_place place refl at1
           where
-            by_place : (q : LinePlace) → place ≡ q → slice_get (with_port_at v s q e).links j ≡ Some l'
+            by_place : (q : LinePlace) → place ≡ q → slice_get (with_port_at_place v s q e).links j ≡ Some l'
                 → l'.device ≡ l.device
             by_place (Link i) q_is at1 =
                 let i_is = one.of_link i q_is device in
@@ -260,13 +261,14 @@ module _ (plan : Plan) (v : EndsView) (k : KeeperView) (links : AreLinks plan v 
   settles_at : (end : PortName) (e : PortEnd) (link : ℕ) (q : LinePlace) → line_place end.line ≡ q
       → IsAtDevice v end.side q link → AllFollow v (settled_link (with_port_on v end e) link)
   settles_at end e link q is one =
-      subst (λ (p : LinePlace). AllFollow v (settled_link (with_port_at v end.side p e) link)) (sym is)
+      subst (λ (p : LinePlace). AllFollow v (settled_link (with_port_at_place v end.side p e) link)) (sym is)
       (one_follows v end.side q e link one)
 
   rests_at : (end : PortName) (e : PortEnd) (q : LinePlace) → line_place end.line ≡ q → IsAtNone v end.side q
       → AllFollow v (with_port_on v end e)
   rests_at end e q is none =
-      subst (λ (p : LinePlace). AllFollow v (with_port_at v end.side p e)) (sym is) (none_follow v end.side q e none)
+      subst (λ (p : LinePlace). AllFollow v (with_port_at_place v end.side p e)) (sym is)
+      (none_follow v end.side q e none)
 
   -- ---- no switch
 

@@ -34,7 +34,7 @@ use Rattle.link_verdicts.specs.declared.verdict.Verdict.TheVariants as v
 use Rattle.hop_queues.specs.declared.queue.HopTlp.{HopTlp}
 use Rattle.hop_queues.specs.declared.queues.HopQueues.{HopQueues}
 use Rattle.hop_queues.specs.{all_roomy, queue_of}
-use Rattle.guarded_memory.specs.declared.standing.InterfaceStatus.{InterfaceStatus}
+use Rattle.guarded_memory.specs.declared.status.InterfaceStatus.{InterfaceStatus}
 use Rattle.guarded_memory.specs.Happenings.{Happened, newest_happened}
 use Rattle.trusted_memory.specs.declared.queue.WaitingRead.{WaitingRead}
 use Rattle.trusted_memory.specs.{MemoryContents, Leads, Write, newest_first, IsLeftBy}
@@ -71,18 +71,18 @@ either_way : (b : Bool) (xs : List HopTlp) → (if b then xs else xs) ≡ xs
 either_way true xs = refl
 either_way false xs = refl
 
-pub unread_turn : (plan : Plan) (o : Option PortName) (ps : List Packet) (standings : ℕ → List InterfaceStatus)
+pub unread_turn : (plan : Plan) (o : Option PortName) (ps : List Packet) (statuses : ℕ → List InterfaceStatus)
     (e : Event)
     (xs : List LinkAccesses) → IsQuiet plan e → AccessesTurn (waiting_reads_after plan ps e (left_unread o)) same_floors
-    (λ link. happens_by plan standings ps e (left_unread o) link)
+    (λ link. happens_by plan statuses ps e (left_unread o) link)
     (carried_next (unit_tlps plan ps (left_unread o)) e (left_unread o)) xs xs
-unread_turn plan None ps standings e xs quiet = rests_all _ _ _ _ xs (λ k. record {
+unread_turn plan None ps statuses e xs quiet = rests_all _ _ _ _ xs (λ k. record {
   reads_rest = λ ws. refl;
   floors_rest = λ ns. refl;
   nothing = λ older. ap (λ (hs : List (Option Happened)). newest_happened hs older) (quiet v.Nothing k);
   carried_rest = λ d ts. either_way (is_link_line k) ts;
 })
-unread_turn plan (Some port) ps standings e xs quiet = rests_all _ _ _ _ xs (λ k. record {
+unread_turn plan (Some port) ps statuses e xs quiet = rests_all _ _ _ _ xs (λ k. record {
   reads_rest = λ ws. refl;
   floors_rest = λ ns. refl;
   nothing = λ older. ap (λ (hs : List (Option Happened)). newest_happened hs older) (quiet (v.Through port) k);
@@ -118,7 +118,7 @@ unread_lands plan m end bytes o old c xs same = record {
         (sym (unread_writes plan (grants_in m) (state_of plan old k packets) (arrival_on plan end bytes) o))
         (λ older left. left);
     turn = λ e quiet. unread_turn plan o (unit_in plan (state_of plan old k packets) (arrival_on plan end bytes))
-        (policy_in m old xs).standings e xs quiet;
+        (policy_in m old xs).statuses e xs quiet;
   };
 }
 
@@ -345,29 +345,29 @@ module _ (plan : Plan) (end : PortName) (link : ℕ) (d : Direction) (end_is : e
       by true = append-nil ws
       by false = refl
 
-  none_happens : (standings : ℕ → List InterfaceStatus) (e : Event) → IsQuiet plan e → (answer : Came) (k : ℕ)
-      (older : List Happened) → newest_happened (happens_by plan standings ended e (says answer) k) older ≡ older
-  none_happens standings e quiet (came.Malformed fault) k older =
+  none_happens : (statuses : ℕ → List InterfaceStatus) (e : Event) → IsQuiet plan e → (answer : Came) (k : ℕ)
+      (older : List Happened) → newest_happened (happens_by plan statuses ended e (says answer) k) older ≡ older
+  none_happens statuses e quiet (came.Malformed fault) k older =
       ap (λ (hs : List (Option Happened)). newest_happened hs older) (quiet _ k)
-  none_happens standings e quiet came.Plain k older =
+  none_happens statuses e quiet came.Plain k older =
       ap (λ (hs : List (Option Happened)). newest_happened hs older) (quiet _ k)
-  none_happens standings e quiet (came.Unknown stream) k older =
+  none_happens statuses e quiet (came.Unknown stream) k older =
       ap (λ (hs : List (Option Happened)). newest_happened hs older) (quiet _ k)
-  none_happens standings e quiet (came.Insecure stream) k older =
+  none_happens statuses e quiet (came.Insecure stream) k older =
       ap (λ (hs : List (Option Happened)). newest_happened hs older) (quiet _ k)
-  none_happens standings e quiet (came.NotKeyed stream sub) k older =
+  none_happens statuses e quiet (came.NotKeyed stream sub) k older =
       ap (λ (hs : List (Option Happened)). newest_happened hs older) (quiet _ k)
-  none_happens standings e quiet (came.Fail stream sub cause) k older =
+  none_happens statuses e quiet (came.Fail stream sub cause) k older =
       ap (λ (hs : List (Option Happened)). newest_happened hs older) (quiet _ k)
-  none_happens standings e quiet (came.Held unit) k older =
+  none_happens statuses e quiet (came.Held unit) k older =
       ap (λ (hs : List (Option Happened)). newest_happened hs older) (quiet _ k)
-  none_happens standings e quiet (came.Accepted unit count) k older = by ((port_of plan end).line == k)
+  none_happens statuses e quiet (came.Accepted unit count) k older = by ((port_of plan end).line == k)
     where
-      none : unit_happenings (standings (port_of plan end).line) plan end unit ended ≡ []
+      none : unit_happenings (statuses (port_of plan end).line) plan end unit ended ≡ []
       none = rw switch refl
 
       by : (b : Bool) → newest_happened
-          (if b then unit_happenings (standings (port_of plan end).line) plan end unit ended
+          (if b then unit_happenings (statuses (port_of plan end).line) plan end unit ended
           else []) older ≡ older
       by true = ap (λ (hs : List (Option Happened)). newest_happened hs older) none
       by false = refl
@@ -461,14 +461,14 @@ lands_waiting plan m end0 bytes verdict old c xs new ys w stays way here less co
                 (no_writes plan end w.0 w.1 at.end_is switch ended t.port.delivered (grants_in m) st
                 (arrival_on plan end0 bytes) c t.answer refl);
             turn = λ ev quiet.
-                let standings : ℕ → List InterfaceStatus = (policy_in m old xs).standings in
+                let statuses : ℕ → List InterfaceStatus = (policy_in m old xs).statuses in
                 let low : is_link_line w.0 ≡ true =
                 (let least = at.less in let most = links.fits.links_most in grind (arith, nat_tests)) in
                 subst (λ (zs : List LinkAccesses). AccessesTurn (waiting_reads_after plan ended ev verdict) same_floors
-                (λ link. happens_by plan standings ended ev verdict link)
+                (λ link. happens_by plan statuses ended ev verdict link)
                 (carried_next (unit_tlps plan ended verdict) ev verdict) xs zs) (sym y.accesses_are)
                 (subst (λ (u : Verdict). AccessesTurn (waiting_reads_after plan ended ev u) same_floors
-                (λ link. happens_by plan standings ended ev u link) (carried_next (unit_tlps plan ended u) ev u) xs
+                (λ link. happens_by plan statuses ended ev u link) (carried_next (unit_tlps plan ended u) ev u) xs
                 (slice_set xs w.0 (record a.0 { carried = y.queues }))) (sym x.verdict_is)
                 (turn_at _ _ _ _ xs w.0 a.0 (record a.0 { carried = y.queues }) a.1 (record {
                   reads_are = sym (no_more_reads plan end w.0 w.1 at.end_is switch ended t.port.delivered ev t.answer
@@ -477,7 +477,7 @@ lands_waiting plan m end0 bytes verdict old c xs new ys w stays way here less co
                   floors_are = refl;
                   sizes_are = refl;
                   leads = λ older left. subst (λ (hs : List Happened). AreLeftBy (mmio_byte a.0.guarded) hs)
-                      (sym (none_happens plan end w.0 w.1 at.end_is switch ended t.port.delivered standings ev quiet
+                      (sym (none_happens plan end w.0 w.1 at.end_is switch ended t.port.delivered statuses ev quiet
                       t.answer
                       w.0 older)) left;
                   carried_are = λ q.
@@ -493,7 +493,7 @@ lands_waiting plan m end0 bytes verdict old c xs new ys w stays way here less co
                   reads_rest = λ ws. no_more_reads plan end w.0 w.1 at.end_is switch ended t.port.delivered ev t.answer
                       i ws;
                   floors_rest = λ ns. refl;
-                  nothing = λ older. none_happens plan end w.0 w.1 at.end_is switch ended t.port.delivered standings ev
+                  nothing = λ older. none_happens plan end w.0 w.1 at.end_is switch ended t.port.delivered statuses ev
                       quiet t.answer i older;
                   carried_rest = λ q ts. at_other plan end w.0 w.1 at.end_is switch ended t.port.delivered ev t.answer i
                       q

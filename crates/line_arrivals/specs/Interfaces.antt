@@ -35,19 +35,19 @@ interface_named m ends n =
 
 -- ---- what the manager asks
 
-abbrev pub ended_on : HostKeeper → EndsView → ℕ → InterfaceOperation → Option Loss → ℕ → Option LinkEnds
+abbrev pub ended_on_link : HostKeeper → EndsView → ℕ → InterfaceOperation → Option Loss → ℕ → Option LinkEnds
     → Option HostTdi → Option Ended
-ended_on k v i o loss link (Some l) (Some x) =
+ended_on_link k v i o loss link (Some l) (Some x) =
     Some (operated_on i o loss k.keys (peer_live v link) k.interfaces l x)
-ended_on k v i o loss link l x = None
+ended_on_link k v i o loss link l x = None
 
-abbrev pub ended_at : HostKeeper → EndsView → ℕ → InterfaceOperation → Option Loss → Option (ℕ × ℕ) → Option Ended
-ended_at k v i o loss None = None
-ended_at k v i o loss (Some at) =
-    ended_on k v i o loss at.0 (slice_get v.links at.0) (slice_get k.interfaces.interfaces i)
+abbrev pub ended_if_there : HostKeeper → EndsView → ℕ → InterfaceOperation → Option Loss → Option (ℕ × ℕ) → Option Ended
+ended_if_there k v i o loss None = None
+ended_if_there k v i o loss (Some at) =
+    ended_on_link k v i o loss at.0 (slice_get v.links at.0) (slice_get k.interfaces.interfaces i)
 
 abbrev pub ended_in : HostKeeper → EndsView → ℕ → InterfaceOperation → Option Loss → Option Ended
-ended_in k v i o loss = ended_at k v i o loss (interface_named k.interfaces v.links i)
+ended_in k v i o loss = ended_if_there k v i o loss (interface_named k.interfaces v.links i)
 
 -- the verdict, if the operation has one; what is asked of no interface gives nothing
 abbrev pub verdict_in : ℕ → InterfaceOperation → Option Loss → Option Ended → Option Verdict
@@ -62,12 +62,12 @@ managed_peer_stream k line stream =
     record { line = line; id = stream; draw = slice_index_or k.peer_draws (peer_of line) 0 }
 
 -- the interface is there, and its device has the stream
-abbrev pub has_peer_at : EndsView → ℕ → ℕ → Option (ℕ × ℕ) → Bool
-has_peer_at v line stream None = false
-has_peer_at v line stream (Some at) = has_peer v.peers at.0 line stream
+abbrev pub has_peer_if_there : EndsView → ℕ → ℕ → Option (ℕ × ℕ) → Bool
+has_peer_if_there v line stream None = false
+has_peer_if_there v line stream (Some at) = has_peer v.peers at.0 line stream
 
 abbrev pub has_peer_in : HostKeeper → EndsView → ℕ → ℕ → ℕ → Bool
-has_peer_in k v i line stream = has_peer_at v line stream (interface_named k.interfaces v.links i)
+has_peer_in k v i line stream = has_peer_if_there v line stream (interface_named k.interfaces v.links i)
 
 -- what is asked of no such stream gives nothing
 abbrev pub peer_verdict_in : HostKeeper → EndsView → ℕ → ℕ → ℕ → InterfaceOperation → Option Loss → Option Verdict

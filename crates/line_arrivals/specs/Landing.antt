@@ -66,7 +66,7 @@ pub record LandsOn (plan : Plan) (m : InterfacesView) (end : PortName) (bytes : 
   pub turn : (e : Event) → IsQuiet plan e
       → let ps = unit_in plan (state_of plan old k packets) (arrival_on plan end bytes) in
       AccessesTurn (waiting_reads_after plan ps e verdict) same_floors
-      (λ link. happens_by plan (policy_in m old xs).standings ps e verdict link)
+      (λ link. happens_by plan (policy_in m old xs).statuses ps e verdict link)
       (carried_next (unit_tlps plan ps verdict) e verdict) xs ys
 
 -- bytes that arrive at the port of an end

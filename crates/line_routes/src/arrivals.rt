@@ -2,7 +2,7 @@
 
 ghost use Rattle.std.specs.Prelude.{◌≡◌, ◌≤◌, length, slice_get};
 ghost use Rattle.ide_types.specs.Plans.{has_stream_id, hop_has_id as hop_has_its};
-ghost use Rattle.ide_types.specs.Ends.{end_on as end_on_port, peer_end as end_of_peer};
+ghost use Rattle.ide_types.specs.Ends.{end_at_port as end_on_port, peer_end as end_of_peer};
 ghost use Rattle.ide_types.specs.Ends.{link_hop, own_has_id as own_has_its, peer_end_at as end_of_peer_at};
 ghost use Rattle.spec_links.specs.Ports.{id_in as id_of, end_reached as reached_by, goes_through as is_through};
 ghost use Rattle.line_routes.specs.Rows.{hop_line_has as hop_line_has_id, lacks_hop_stream};
@@ -89,7 +89,7 @@ fn own_has(plan: &Plan, link: u8, id: u8) -> bool
 }
 
 // The end, at this port, of the line that has the stream; if none has it the port itself.
-fn end_on(plan: &Plan, port: PortName, id: u8) -> PortName
+fn end_at_port(plan: &Plan, port: PortName, id: u8) -> PortName
     requires { length plan.now.peers ≤ 8 }
     ensures { result ≡ end_on_port plan.now port id }
 {
@@ -115,7 +115,7 @@ pub fn reached(plan: &ValidPlan, end: PortName, bytes: &[u8]) -> PortName
         None => port_of(plan, end),
         Some(id) => {
             let plan = plan.plan();
-            end_on(plan, port_at(plan.peers.as_slice(), end), id)
+            end_at_port(plan, port_at(plan.peers.as_slice(), end), id)
         }
     }
 }

@@ -3,7 +3,7 @@
 ghost use Rattle.std.specs.Prelude.{◌≡◌, ◌&&◌, ◌<◌};
 ghost use Rattle.tlp_layout.specs.Reading.{read_of};
 ghost use Rattle.tlp_layout.specs.Choice.{chosen_stream};
-ghost use Rattle.tlp_layout.specs.Outgoing.{outgoing_of, outgoing_on};
+ghost use Rattle.tlp_layout.specs.Outgoing.{outgoing_of, outgoing_if_chosen};
 ghost use Rattle.ide_types.specs.Plans.{is_among};
 ghost use Rattle.ide_types.specs.Ends.{hop_end as end_of_hop};
 ghost use Rattle.spec_links.specs.Ports.{takes_none, hop_lists, sealing_end as sealing_end_of};

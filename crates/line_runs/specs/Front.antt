@@ -2,8 +2,8 @@
 use Rattle.std.specs.Prelude.{ℕ, ◌+◌, ◌≤◌, ◌≡◌, ◌⊎◌, [], length, max, take, unwrap_or, Option, Some, None, Result, Ok}
 use Rattle.std.specs.Prelude.{Err}
 use Rattle.cli_files.specs.Outside.{Contents, Rose, Lacks, capped_count}
-use Rattle.line_runs.specs.declared.front.Stop.{Stop}
-use Rattle.line_runs.specs.declared.front.Stop.TheVariants as stop
+use Rattle.line_runs.specs.declared.front.Unread.{Unread}
+use Rattle.line_runs.specs.declared.front.Unread.TheVariants as unread
 use Rattle.line_runs.specs.Gain.{Text, IsFront}
 
 -- so many bytes of the file, or all if it has no more
@@ -17,13 +17,13 @@ FrontOf None name most read = Unit {0}
 FrontOf (Some contents) name most read = FrontIn most (contents name) read
 
 -- a fault was counted, or the told contents lack the name; want of memory counts nothing
-abbrev pub StopCause : ℕ → ℕ → Option Contents → Text → Stop → Type 0
-StopCause before now told name stop.Fault = (before ≤ now) × (Rose before now ⊎ Lacks told name)
-StopCause before now told name stop.Memory = now ≡ before
+abbrev pub UnreadCause : ℕ → ℕ → Option Contents → Text → Unread → Type 0
+UnreadCause before now told name unread.Fault = (before ≤ now) × (Rose before now ⊎ Lacks told name)
+UnreadCause before now told name unread.Memory = now ≡ before
 
-abbrev pub ReadCause : {A : Type 0} → ℕ → ℕ → Option Contents → Text → Result A Stop → Type 0
+abbrev pub ReadCause : {A : Type 0} → ℕ → ℕ → Option Contents → Text → Result A Unread → Type 0
 ReadCause before now told name (Ok x) = now ≡ before
-ReadCause before now told name (Err e) = StopCause before now told name e
+ReadCause before now told name (Err e) = UnreadCause before now told name e
 
 -- n bytes were given: the count rose by n, or up to its last value
 abbrev pub Gave : ℕ → ℕ → ℕ → Type 0

@@ -1,8 +1,7 @@
 //! A file of lines, from its name to what is written for it: it is read in pieces, each piece is cut at its line feeds,
 //! and the text of the lines is gathered before it is written.
 ghost use Rattle.std.specs.Prelude.{◌≡◌, ◌≢◌, ◌≤◌, ◌<◌, ◌+◌, ◌++◌, ◌^◌, ℕ, [], List, Ok, IsErr, IfOk, IfErr, IfSome};
-ghost use Rattle.std.specs.Prelude.{OnOk, None, length, nat_lt, option_map, take, vec_capacity};
-ghost use Rattle.std.specs.Prelude.{vec_len};
+ghost use Rattle.std.specs.Prelude.{OnOk, None, length, nat_lt, option_map, take, vec_capacity, vec_len};
 ghost use Rattle.cli_files.specs.Outside.{AsksFor, Given, ShelfCause, given_by};
 ghost use Rattle.link_events.specs.Words.{line_limit};
 ghost use Rattle.line_runs.specs.Front.{AskedPieces, Gave, GaveAtMost, IsReadOf, ReadsOn, bytes_of};

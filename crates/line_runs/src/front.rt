@@ -8,7 +8,7 @@ use std::alloc::Global;
 
 /// Why a file was not read.
 #[derive(Clone, Copy, PartialEq, Eq)]
-pub enum Stop {
+pub enum Unread {
     /// The shelf answered a fault.
     Fault,
     /// Want of memory.
@@ -24,7 +24,7 @@ fn read_on<S: Shelf>(
     name: &str,
     bytes: &mut Vec<u8>,
     piece: &mut [u8],
-) -> Result<usize, Stop>
+) -> Result<usize, Unread>
     requires room { 0 < length piece.old }
     requires piece { length piece.old ≤ 4096 }
     ensures same { (S.seen shelf.new).contents ≡ (S.seen shelf.old).contents }
@@ -45,22 +45,22 @@ fn read_on<S: Shelf>(
         result }
 {
     match shelf.read(name, bytes.len() as u64, piece) {
-        Err(_) => Err(Stop::Fault),
+        Err(_) => Err(Unread::Fault),
         Ok(n) => match bytes.extend_from_slice(&piece[..n]) {
             Ok(()) => Ok(n),
-            Err(_) => Err(Stop::Memory),
+            Err(_) => Err(Unread::Memory),
         },
     }
 }
 
 /// Reads the first bytes of a file, at most `most` of them, and all if it has no more. No byte after them is asked for.
-/// Returns a `Stop` if a read failed or there was no memory.
+/// Returns a `Unread` if a read failed or there was no memory.
 pub fn read_front<S: Shelf>(
     alloc: Global,
     shelf: &mut S,
     name: &str,
     most: usize,
-) -> Result<Vec<u8>, Stop>
+) -> Result<Vec<u8>, Unread>
     requires some { 0 < most }
     requires size { most < 2 ^ 32 }
     ensures same { (S.seen shelf.new).contents ≡ (S.seen shelf.old).contents }

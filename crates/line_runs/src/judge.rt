@@ -7,7 +7,7 @@ ghost use Rattle.line_runs.specs.Outcome.{Ran, RanOn};
 ghost use Rattle.line_runs.specs.Judging.{judgement_due, verdicts_limit};
 
 use crate::compare::compare;
-use crate::{End, Fault, Stop, finish, read_front};
+use crate::{End, Fault, Unread, finish, read_front};
 use cli_files::{Shelf, Sink};
 use std::alloc::Global;
 
@@ -57,8 +57,8 @@ pub fn judge_file<S: Shelf, O: Sink>(
         (S.seen shelf.new).given) }
 {
     match read_front(alloc, shelf, name, VERDICTS_LIMIT + 1) {
-        Err(Stop::Fault) => Err(Fault::Read),
-        Err(Stop::Memory) => Err(Fault::Memory),
+        Err(Unread::Fault) => Err(Fault::Read),
+        Err(Unread::Memory) => Err(Fault::Memory),
         Ok(front) => judge_front(alloc, due, &front, out),
     }
 }

@@ -17,7 +17,7 @@ mod writing;
 
 pub use ends::{End, Fault};
 pub use files::run_file;
-pub use front::{Stop, read_front};
+pub use front::{Unread, read_front};
 pub use judge::judge_file;
 pub use last::last_line;
 pub use lines::{FILE_LIMIT, LineWork};

@@ -4,7 +4,7 @@ use Rattle.link_ends.proofs.Terms.{if◌then◌else◌, slice_get, slice_set, Si
 use Rattle.link_ends.proofs.Terms.{reply_bytes, object_spelling, Loss, Judged, Expected, Refused, Bad, StreamOutcome}
 use Rattle.link_ends.proofs.Terms.{NextExchange, is_last_receiver_go, StreamView, asked_of_unfinished, exchange_asked}
 use Rattle.link_ends.proofs.Terms.{request_asked, outcome_of, taken_stream, taken_calls, ManagerView, current}
-use Rattle.link_ends.proofs.Terms.{current_in, current_at, current_asked, asking_after, IsAsked, StreamState}
+use Rattle.link_ends.proofs.Terms.{current_in, current_if_there, current_asked, asking_after, IsAsked, StreamState}
 use Rattle.link_ends.proofs.Terms.{all_called_at, StreamEnds, Exchanged, exchange_outcome, exchanged_unless_lost}
 use Rattle.link_ends.proofs.Terms.{exchange_if_lost, came_to, ends_after_exchange, shown_stream, port_called, goes}
 use Rattle.link_ends.proofs.Terms.{judged_bytes, Found, DeviceEnd, asked_device, reply_given, LinkEnds, lost_message}
@@ -29,7 +29,7 @@ pub current_is : (m : ManagerView) (place : ℕ) (keeper : StreamView) → m.ask
     ≡ Some keeper
     → current m ≡ current_asked place keeper (asked_of_unfinished keeper.op)
 current_is m place keeper asking read = ap (λ (o : Option ℕ). current_in m.streams o) asking ∙ ap
-    (λ (o : Option StreamView). current_at place o) read
+    (λ (o : Option StreamView). current_if_there place o) read
 
 -- what a manager asks, seen as the keeper shows it
 pub record IsAsking (m0 m : ManagerView) (l0 l : LinkEnds) (place id : ℕ) (e : StreamEnds) (a : NextExchange) : Type 0

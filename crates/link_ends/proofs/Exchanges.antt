@@ -1,6 +1,6 @@
 -- One exchange: the request reaches the device or is lost, and the manager takes what is carried back.
 use Rattle.link_ends.proofs.Terms.{◌≡◌, ℕ, ◌==◌, ◌<◌, Bool, true, false, List, refl, ◌∙◌, Option, Some, None, nat_lt}
-use Rattle.link_ends.proofs.Terms.{slice_range, Side, Place, PlaceCall, SlotsShown, call_of, call_from, is_done}
+use Rattle.link_ends.proofs.Terms.{slice_range, Side, Place, PlaceCall, SlotsShown, call_of, reading_call, is_done}
 use Rattle.link_ends.proofs.Terms.{object_spelling, sub_of, Operation, same-true, exchange_of, selector_of, request_of}
 use Rattle.link_ends.proofs.Terms.{WireKeys, StreamView, request_asked, IsAsked, NextExchange, StreamState}
 use Rattle.link_ends.proofs.Terms.{shown_stream, port_called, PortEnd, Found, found_stream, slot_pair_at, called_port}
@@ -42,12 +42,12 @@ same_done id a b None same at = refl
 same_done id a b (Some c) same at = rw (same c.place at) refl
 
 program_at_all : (id sel draw : ℕ) (key : List ℕ) (counter : ℕ) → IsAt id (selected_place id sel) → (b : Bool)
-    → (counter == 1) ≡ b → CallAt id (call_from draw (objects.object_or (KeyProg id sel 0 key counter) None))
+    → (counter == 1) ≡ b → CallAt id (reading_call draw (objects.object_or (KeyProg id sel 0 key counter) None))
 program_at_all id sel draw key counter at true e = rw e at
 program_at_all id sel draw key counter at false e = rw e tt
 
 pub program_at : (id sel draw : ℕ) (key : List ℕ) (counter : ℕ) → IsAt id (selected_place id sel)
-    → (fault : Option KmFault) → CallAt id (call_from draw (objects.object_or (KeyProg id sel 0 key counter) fault))
+    → (fault : Option KmFault) → CallAt id (reading_call draw (objects.object_or (KeyProg id sel 0 key counter) fault))
 program_at id sel draw key counter at None = program_at_all id sel draw key counter at (counter == 1) refl
 program_at id sel draw key counter at (Some fault) = tt
 

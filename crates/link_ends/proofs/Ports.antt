@@ -6,7 +6,7 @@ use Rattle.link_ends.proofs.Terms.{found_stream, changed_states, slot_pair_at, u
 use Rattle.link_ends.proofs.Terms.{found_stream-id, found_stream-changed_states, ap, subst}
 use Rattle.ide_types.specs.declared.direction.Direction.{Direction}
 use Rattle.ide_prefix.specs.{sub_from}
-use Rattle.ide_port.specs.Calls.{is_place, stream_at, called_states}
+use Rattle.ide_port.specs.Calls.{is_place, stream_at_place, called_states}
 use Rattle.link_ends.proofs.Streams.{changed_same, changed_again}
 
 pub stream_stands : (e : PortEnd) (id : ℕ) (f : Found) → found_stream e.plans e.states id ≡ Some f
@@ -32,9 +32,9 @@ pub called_there : (e e' : PortEnd) (id : ℕ) (f : Found) (x : StreamState) (c 
     ≡ Some f → HasStream e id x e'
     → IsAt id c.place → HasStream e id (state_moved c e.name.side x) (called_port c e')
 called_there e e' id f x c is has at =
-    let there : stream_at e' c.place ≡ Some (record f { state = x }) = rw (at.is_there, at.stream_is)
+    let there : stream_at_place e' c.place ≡ Some (record f { state = x }) = rw (at.is_there, at.stream_is)
     (found_there e e' id f x is has) in
-    let all : called_states e' c (stream_at e' c.place)
+    let all : called_states e' c (stream_at_place e' c.place)
     ≡ changed_states e.plans e.states id (state_moved c e.name.side x) =
     ap (λ (o : Option Found). called_states e' c o) there
     ∙ (λ i. changed_states (has i).plans (has i).states (found_stream-id e.plans e.states id f is i)

@@ -2,7 +2,7 @@
 pub use Rattle.join_keys.specs.Calls.{all_called_at}
 pub use Rattle.link_ends.specs.DeviceEnds.{DeviceEnd, after_call, asked_device, reply_given}
 pub use Rattle.key_messages.specs.declared.place.Place.{Place}
-pub use Rattle.key_messages.specs.{PlaceCall, SlotsShown, call_from, call_of, is_done, place_at, reply_bytes}
+pub use Rattle.key_messages.specs.{PlaceCall, SlotsShown, reading_call, call_of, is_done, place_at, reply_bytes}
 pub use Rattle.key_messages.specs.{object_spelling, sub_of}
 pub use Rattle.ide_port.proofs.Streams.{found_stream-changed_states, found_stream-id}
 pub use Rattle.ide_port.specs.{Found, PortEnd, called_port, changed_states, found_stream, live_in_port, slot_pair_at}
@@ -32,7 +32,7 @@ pub use Rattle.tsm_host.specs.Exchanges.{exchange_of, is_last_receiver_go, reque
 pub use Rattle.key_slots.specs.Wires.{WireKeys}
 pub use Rattle.tsm_host.specs.Local.{CallsMove, goes, stream_stop_calls, programs}
 pub use Rattle.tsm_host.specs.Managers.{Current, ManagerView, Named, asking_after, begin_refusal, begun_manager}
-pub use Rattle.tsm_host.specs.Managers.{calls_begun, calls_taken, current, current_asked, current_at, current_in}
+pub use Rattle.tsm_host.specs.Managers.{calls_begun, calls_taken, current, current_asked, current_if_there, current_in}
 pub use Rattle.tsm_host.specs.Managers.{named_stream, named_in, op_named, pool_begun}
 pub use Rattle.tsm_host.specs.Operations.{op_name}
 pub use Rattle.tsm_host.specs.Streams.{HostView, StreamView, asked_of_unfinished, begun_calls, begun_stream}

@@ -38,12 +38,12 @@ secure_at port stream = says_secure (port_stream_status port stream)
 
 -- `live` says of streams between the device and others which draw is Live where the device receives posted requests, if
 -- the stream is Secure at its end
-abbrev pub secure_with : PortEnd → (ℕ → Option ℕ) → ℕ → Bool
-secure_with port live stream = secure_at port stream || is_some (live stream)
+abbrev pub secure_or_live : PortEnd → (ℕ → Option ℕ) → ℕ → Bool
+secure_or_live port live stream = secure_at port stream || is_some (live stream)
 
 -- interfaces that are bound to a stream that is not Secure leave their lock
 abbrev pub settled_device : (ℕ → Option ℕ) → DeviceEnd → DeviceEnd
-settled_device live e = record e { interfaces = settled_interfaces (secure_with e.port live) e.interfaces }
+settled_device live e = record e { interfaces = settled_interfaces (secure_or_live e.port live) e.interfaces }
 
 -- ---- keys
 

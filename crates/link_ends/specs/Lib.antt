@@ -5,9 +5,8 @@ pub mod Hosts
 pub mod DeviceEnds
 pub mod LineEnds
 -- what clauses and crates above cite
-pub use Rattle.link_ends.specs.DeviceEnds.{secure_with, DeviceEnd, new_device, secure_at, settled_device}
-pub use Rattle.link_ends.specs.DeviceEnds.{reply_given, after_call, asked_device, device_trusting}
-pub use Rattle.link_ends.specs.DeviceEnds.{peer_trusting}
+pub use Rattle.link_ends.specs.DeviceEnds.{secure_or_live, DeviceEnd, new_device, secure_at, settled_device}
+pub use Rattle.link_ends.specs.DeviceEnds.{reply_given, after_call, asked_device, device_trusting, peer_trusting}
 pub use Rattle.link_ends.specs.declared.pair.PairEnds.{PairEnds}
 pub use Rattle.join_keys.specs.Joined.{IsJoined, KeysKept, OperationsJoin, draws_by, host_of, pool_by, touched_by}
 pub use Rattle.join_keys.specs.Joined.{verdict_due}

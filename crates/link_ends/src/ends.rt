@@ -1,6 +1,6 @@
 //! The two ends of a link.
 
-ghost use Rattle.std.specs.Prelude.{◌≡◌, ◌<◌, ◌^◌, ℕ, IfOk, All};
+ghost use Rattle.std.specs.Prelude.{◌≡◌, ◌^◌, ℕ, IfOk, All};
 ghost use Rattle.ide_types.specs.Fits.{FitsStream};
 ghost use Rattle.interface_state.specs.Held.{FitsTdi};
 ghost use Rattle.ide_prefix.specs.Reading.{cut_of};

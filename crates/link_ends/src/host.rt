@@ -11,7 +11,7 @@ ghost use Rattle.interface_host.specs.Managers.{new_interface_manager as new_int
 ghost use Rattle.interface_host.specs.Managers.{reset_interface_manager as reset_interfaces};
 ghost use Rattle.interface_ends.specs.Replies.{settled_interfaces};
 ghost use Rattle.interface_ends.specs.Keepers.{Ended};
-ghost use Rattle.link_ends.specs.DeviceEnds.{secure_at, secure_with};
+ghost use Rattle.link_ends.specs.DeviceEnds.{secure_at, secure_or_live};
 ghost use Rattle.link_ends.specs.Hosts.{manager_told, keyed_if, keyed_at_end, stopped_if, live_for, status_for};
 ghost use Rattle.link_ends.specs.Hosts.{pair_told, peer_drawn};
 
@@ -175,7 +175,7 @@ impl HostKeeper {
         ensures operates { Operates self.old.keys ends.old op loss result self.new.keys ends.new }
         ensures units { NoMoreUnits ends.old ends.new }
         ensures settles { ends.new.device.interfaces ≡ settled_interfaces
-            (secure_with ends.new.device.port (P.live peers.now)) ends.old.device.interfaces }
+            (secure_or_live ends.new.device.port (P.live peers.now)) ends.old.device.interfaces }
         ensures interfaces { IfSome (named_stream self.old.keys.manager (op_name op).line (op_name op).stream) (λ n.
             let begins = (work_of (op_name op).operation n.stream.op 0).begins in
             let draw = self.old.keys.pool.draws in

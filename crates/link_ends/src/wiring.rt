@@ -1,7 +1,7 @@
 //! What the port and the interfaces of a device tell one another.
 
 ghost use Rattle.std.specs.Prelude.{◌≡◌, ◌||◌, ℕ, Option, None, is_some};
-ghost use Rattle.link_ends.specs.DeviceEnds.{says_secure, secure_at, secure_with, owner_sets, device_trusting};
+ghost use Rattle.link_ends.specs.DeviceEnds.{says_secure, secure_at, secure_or_live, owner_sets, device_trusting};
 ghost use Rattle.link_ends.specs.DeviceEnds.{bound_owner_sets, peer_trusting};
 
 use ide_port::{Port, Trusting};
@@ -48,7 +48,7 @@ fn is_either(secure: bool, live: Option<u32>) -> bool
 }
 
 impl<P: PeerStreams> StreamStates for SecureStreams<'_, P> {
-    ghost is_secure = { λ s stream. secure_with s.port.now (P.live s.peers.now) stream };
+    ghost is_secure = { λ s stream. secure_or_live s.port.now (P.live s.peers.now) stream };
 
     fn is_secure(&self, stream: u8) -> bool {
         is_either(is_secure_at(self.port, stream), self.peers.live(stream))

@@ -7,7 +7,7 @@ use Rattle.link_events.specs.Terms.fault
 use Rattle.link_events.specs.Terms.ae
 use Rattle.link_events.specs.Words.{number_of_word}
 use Rattle.link_events.specs.Parts.{◌>>=◌, one_number_in, length_in, Row, number_test, length_test, number_tests}
-use Rattle.link_events.specs.Accesses.{mmio_in, access_event_of, mmio_tests, access_rows}
+use Rattle.link_events.specs.Accesses.{mmio_in, access_event_by_word, mmio_tests, access_rows}
 use Rattle.link_events.specs.Parse.{made_access}
 use Rattle.link_events.proofs.Readings.{RowReads, TableReads, end_reads, step_reads, miscounted, made_reads, one_number}
 use Rattle.link_events.proofs.Readings.{family_row}
@@ -34,7 +34,7 @@ mmio (i ∷ b ∷ o ∷ l ∷ x ∷ ws) = miscounted (i ∷ b ∷ o ∷ l ∷ x 
 
 pub access_reads : (first : Text) (rest : List Text) (later : List Row) (z : Result ScriptEvent LineFault)
     → TableReads later rest first z
-    → TableReads (access_rows later) rest first (unwrap_or (option_map made_access (access_event_of first rest)) z)
+    → TableReads (access_rows later) rest first (unwrap_or (option_map made_access (access_event_by_word first rest)) z)
 access_reads first rest later z others =
     family_row made_access (codes "answer") number_tests (drop 1 (access_rows later)) rest first _ _ z
     (made_reads (number_tests rest) rest _ Access

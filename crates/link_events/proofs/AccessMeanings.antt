@@ -7,7 +7,7 @@ use Rattle.link_events.specs.Terms.fault
 use Rattle.link_events.specs.Terms.ae
 use Rattle.link_events.specs.Words.{number_of_word}
 use Rattle.link_events.specs.Parts.{◌>>=◌, one_number_in, length_in}
-use Rattle.link_events.specs.Accesses.{mmio_in, access_event_of, AccessSpelledBy, IsAllowedAccess}
+use Rattle.link_events.specs.Accesses.{mmio_in, access_event_by_word, AccessSpelledBy, IsAllowedAccess}
 use Rattle.link_events.specs.Parse.{made_access, event_in}
 use Rattle.link_events.specs.Spells.{SpelledBy}
 use Rattle.link_events.proofs.Steps.{err_ok, ok_ok, next_of, tested_family}
@@ -39,7 +39,7 @@ mmio_spelled (i ∷ b ∷ o ∷ l ∷ x ∷ ws) e h = absurd (err_ok fault.Count
 -- before what else the first word may be
 pub access_spelled : (first : Text) (rest : List Text) (z : Result ScriptEvent LineFault)
     → SpelledAs SpelledBy rest first z
-    → SpelledAs SpelledBy rest first (unwrap_or (option_map made_access (access_event_of first rest)) z)
+    → SpelledAs SpelledBy rest first (unwrap_or (option_map made_access (access_event_by_word first rest)) z)
 access_spelled first rest z others =
     tested_family (SpelledAs SpelledBy rest) made_access first (codes "answer") _ _ z
     (made SpelledBy rest _ _ Access

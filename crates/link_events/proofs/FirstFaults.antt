@@ -17,7 +17,7 @@ use Rattle.link_events.specs.Terms.fault
 use Rattle.link_events.specs.Words.{words_in, number_of_word, mask_in, bytes_in, port_of_word, any_port_of_word}
 use Rattle.link_events.specs.Parse.{◌>>=◌, operation_in, marks_in, send_in, one_number_in, two_numbers_in, alter_in}
 use Rattle.link_events.specs.Parse.{arrive_in, bytes_event_in, parsed_hop_event, parsed_peer_event, access_event_in}
-use Rattle.link_events.specs.Parse.{event_by, event_in, is_comment}
+use Rattle.link_events.specs.Parse.{event_by_first_word, event_in, is_comment}
 use Rattle.link_events.specs.Faults.{WordTest, event_table, is_host_side, is_trusted_at, number_test, mask_test}
 use Rattle.link_events.specs.Faults.{bytes_test, port_test, any_port_test, word_test, trusted_test, mark_test}
 use Rattle.link_events.specs.Paired.{peer_send_tests}
@@ -135,7 +135,7 @@ send (p ∷ w ∷ m ∷ t ∷ v ∷ ws) = rw (lt-ltb 2 (length (m ∷ t ∷ v �
 
 -- ---- the table
 
-event_reads : (first : Text) (rest : List Text) → TableReads event_table rest first (event_by first rest)
+event_reads : (first : Text) (rest : List Text) → TableReads event_table rest first (event_by_first_word first rest)
 event_reads first rest =
     row_reads (codes "establish") operation_tests (drop 1 event_table) rest first _ _ _
     (made_reads (operation_tests rest) rest (operation_in rest) (λ o. Establish o.0 o.1 o.2) (operation rest))
@@ -172,7 +172,7 @@ some_event (Err g) f = (λ h. ap Err (err_err g f h), λ h. ap Err (err_err g f 
 words_fault : (ws : List Text) (f : LineFault) → (event_in ws ≡ Err f) ↔ WordsFault ws f
 words_fault [] f = (λ h. ok_err None f h, λ off. absurd off)
 words_fault (first ∷ rest) f =
-    let some = some_event (event_by first rest) f in
+    let some = some_event (event_by_first_word first rest) f in
     let reads = event_reads first rest f in
     (λ h. reads.0 (some.0 h), λ off. some.1 (reads.1 off))
 

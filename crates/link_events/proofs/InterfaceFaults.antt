@@ -8,8 +8,9 @@ use Rattle.link_events.specs.Terms.ie
 use Rattle.link_events.specs.Words.{number_of_word}
 use Rattle.link_events.specs.Parts.{◌>>=◌, number_and_loss, one_number_in, Row, number_test}
 use Rattle.link_events.specs.Parts.{length_in, length_test, asked_tests, number_tests}
-use Rattle.link_events.specs.Interfaces.{register_in, register_value_in, write_event_in, memory_in, interface_event_of}
-use Rattle.link_events.specs.Interfaces.{register_test, value_test, write_tests, memory_tests, interface_rows}
+use Rattle.link_events.specs.Interfaces.{register_in, register_value_in, write_event_in, memory_in}
+use Rattle.link_events.specs.Interfaces.{interface_event_by_word, register_test, value_test, write_tests, memory_tests}
+use Rattle.link_events.specs.Interfaces.{interface_rows}
 use Rattle.link_events.specs.Parse.{made_interface}
 use Rattle.link_events.proofs.Readings.{RowReads, TableReads, end_reads, step_reads, miscounted, made_reads, one_number}
 use Rattle.link_events.proofs.Readings.{asked, family_row}
@@ -52,7 +53,7 @@ number_row rest event = made_reads (number_tests rest) rest _ Interface
 
 pub interface_reads : (first : Text) (rest : List Text) (later : List Row) (z : Result ScriptEvent LineFault)
     → TableReads later rest first z → TableReads (interface_rows later) rest first
-    (unwrap_or (option_map made_interface (interface_event_of first rest)) z)
+    (unwrap_or (option_map made_interface (interface_event_by_word first rest)) z)
 interface_reads first rest later z others =
     family_row made_interface (codes "view") number_tests (drop 1 (interface_rows later)) rest first _ _ z
     (number_row rest ie.View)

@@ -15,7 +15,7 @@ use Rattle.link_events.specs.Terms.ie
 use Rattle.link_events.specs.Words.{number_of_word}
 use Rattle.link_events.specs.Parts.{◌>>=◌, number_and_loss, one_number_in, length_in, LossSpelledBy, AskedSpelledBy}
 use Rattle.link_events.specs.Interfaces.{register_word, bar_number, bar_in, register_in, register_value_in}
-use Rattle.link_events.specs.Interfaces.{write_event_in, memory_in, interface_event_of, InterfaceSpelledBy}
+use Rattle.link_events.specs.Interfaces.{write_event_in, memory_in, interface_event_by_word, InterfaceSpelledBy}
 use Rattle.link_events.specs.Interfaces.{IsAllowedInterface}
 use Rattle.link_events.specs.Parse.{made_interface, event_in}
 use Rattle.link_events.specs.Spells.{SpelledBy}
@@ -169,7 +169,7 @@ asked_as rest word event each =
 -- before what else the first word may be
 pub interface_spelled : (first : Text) (rest : List Text) (z : Result ScriptEvent LineFault)
     → SpelledAs SpelledBy rest first z
-    → SpelledAs SpelledBy rest first (unwrap_or (option_map made_interface (interface_event_of first rest)) z)
+    → SpelledAs SpelledBy rest first (unwrap_or (option_map made_interface (interface_event_by_word first rest)) z)
 interface_spelled first rest z others =
     tested_family (SpelledAs SpelledBy rest) made_interface first (codes "view") _ _ z
     (made SpelledBy rest _ _ Interface

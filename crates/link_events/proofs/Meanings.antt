@@ -18,7 +18,7 @@ use Rattle.link_events.specs.Terms.fault
 use Rattle.link_events.specs.Words.{words_in, number_of_word, mask_in, bytes_in, port_of_word, any_port_of_word}
 use Rattle.link_events.specs.Parse.{◌>>=◌, operation_in, marks_in, send_in, one_number_in, two_numbers_in, alter_in}
 use Rattle.link_events.specs.Parse.{arrive_in, bytes_event_in, parsed_hop_event, parsed_peer_event, access_event_in}
-use Rattle.link_events.specs.Parse.{event_by, event_in, is_comment, line_meaning}
+use Rattle.link_events.specs.Parse.{event_by_first_word, event_in, is_comment, line_meaning}
 use Rattle.link_events.specs.Spells.{LossSpelledBy, mark_words, SpelledBy, SpellsEvent, MeaningIsSpelling}
 use Rattle.link_events.proofs.Steps.{err_ok, ok_ok, some_some, none_some, same_text, next_of, tested, tested_last}
 use Rattle.link_events.proofs.Spelled.{operation_spelled, loss_meant, one_spelled, two_spelled, SpelledAs, made}
@@ -137,7 +137,7 @@ send_spelled (p ∷ w ∷ marks) e h = send_step p w marks e (nat_lt 2 (length m
 
 -- ---- the first word
 
-event_spelled : (first : Text) (rest : List Text) → SpelledAs SpelledBy rest first (event_by first rest)
+event_spelled : (first : Text) (rest : List Text) → SpelledAs SpelledBy rest first (event_by_first_word first rest)
 event_spelled first rest =
     tested (SpelledAs SpelledBy rest) first (codes "establish") _ _ _
     (made SpelledBy rest _ (operation_in rest) (λ o. Establish o.0 o.1 o.2) (operation_spelled _ rest))
@@ -171,7 +171,7 @@ some_event (Err f) e h = absurd (err_ok f (Some e) h)
 
 words_spelled : (ws : List Text) (e : ScriptEvent) → event_in ws ≡ Ok (Some e) → SpelledBy e ws
 words_spelled [] e h = absurd (none_some e (ok_ok None (Some e) h))
-words_spelled (first ∷ rest) e h = event_spelled first rest e (some_event (event_by first rest) e h)
+words_spelled (first ∷ rest) e h = event_spelled first rest e (some_event (event_by_first_word first rest) e h)
 
 operation_meant : (event : ℕ → ℕ → Option Loss → ScriptEvent) (link stream : ℕ) (lose : Option Loss) (rest : List Text)
     (l s : Text)

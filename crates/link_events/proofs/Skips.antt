@@ -8,7 +8,7 @@ use Rattle.link_events.specs.Terms.{ScriptEvent, LineFault}
 use Rattle.link_events.specs.Terms.fault
 use Rattle.ide_types.specs.Names.{Text, is_printable}
 use Rattle.link_events.specs.Words.{words_in}
-use Rattle.link_events.specs.Parse.{◌>>=◌, event_by, event_in, is_comment, line_meaning}
+use Rattle.link_events.specs.Parse.{◌>>=◌, event_by_first_word, event_in, is_comment, line_meaning}
 use Rattle.link_events.specs.Spells.{IsSkipped, NothingIsSkipped}
 use Rattle.link_events.proofs.Steps.{err_ok, ok_ok, none_some}
 use Rattle.link_events.proofs.Meanings.{short_line}
@@ -54,7 +54,7 @@ event_none (Err f) h = err_ok f None h
 
 none_words : (ws : List Text) → event_in ws ≡ Ok None → ws ≡ []
 none_words [] h = refl
-none_words (first ∷ rest) h = absurd (event_none (event_by first rest) h)
+none_words (first ∷ rest) h = absurd (event_none (event_by_first_word first rest) h)
 
 none_step : (line : Text) (long comment printed : Bool) → nat_lt 20000 (length line) ≡ long → is_comment line ≡ comment
     → (if long then Err fault.TooLong else if comment then Ok None else if not printed then Err fault.NotAscii else

@@ -22,8 +22,8 @@ mmio_in (i ∷ b ∷ o ∷ l ∷ []) = do
 mmio_in _ = Err Count
 
 -- an event on a trusted read or on guarded memory; nothing if the first word is none of these events
-abbrev pub access_event_of : Text → List Text → Option (Result AccessEvent LineFault)
-access_event_of first rest =
+abbrev pub access_event_by_word : Text → List Text → Option (Result AccessEvent LineFault)
+access_event_by_word first rest =
     if bytes_eq first (codes "answer") then Some (one_number_in rest >>= λ n. Ok (ae.Answer n))
     else if bytes_eq first (codes "mmio") then Some (mmio_in rest)
     else None

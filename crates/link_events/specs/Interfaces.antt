@@ -82,8 +82,8 @@ asking_event_of first rest =
     else None
 
 -- an event on an interface or on memory; nothing if the first word is none of these events
-abbrev pub interface_event_of : Text → List Text → Option (Result InterfaceEvent LineFault)
-interface_event_of first rest =
+abbrev pub interface_event_by_word : Text → List Text → Option (Result InterfaceEvent LineFault)
+interface_event_by_word first rest =
     if bytes_eq first (codes "view") then Some (one_number_in rest >>= λ n. Ok (ie.View n))
     else if bytes_eq first (codes "write") then Some (write_event_in rest)
     else if bytes_eq first (codes "flr") then Some (one_number_in rest >>= λ n. Ok (ie.Flr n))

@@ -15,8 +15,8 @@ use Rattle.link_events.specs.Words.{line_limit, words_in, number_of_word, mask_i
 use Rattle.link_events.specs.Words.{any_port_of_word}
 pub use Rattle.link_events.specs.Parts.{◌>>=◌, lost_exchange_in, loss_in, is_loss_long, one_number_in, two_numbers_in}
 pub use Rattle.link_events.specs.Parts.{operation_in}
-use Rattle.link_events.specs.Interfaces.{interface_event_of}
-use Rattle.link_events.specs.Accesses.{access_event_of}
+use Rattle.link_events.specs.Interfaces.{interface_event_by_word}
+use Rattle.link_events.specs.Accesses.{access_event_by_word}
 use Rattle.link_events.specs.Paired.{peer_send_in, peer_event_of, hop_event_of}
 
 -- ---- the words after the first
@@ -112,22 +112,22 @@ parsed_peer_event first rest = unwrap_or (option_map made_peer (peer_event_of fi
 
 -- an event on a trusted read or on guarded memory, or one of these
 abbrev pub access_event_in : Text → List Text → Result ScriptEvent LineFault
-access_event_in first rest = unwrap_or (option_map made_access (access_event_of first rest))
+access_event_in first rest = unwrap_or (option_map made_access (access_event_by_word first rest))
     (parsed_peer_event first rest)
 
 -- an event on an interface or on memory, or one of these
 abbrev pub interface_event_in : Text → List Text → Result ScriptEvent LineFault
 interface_event_in first rest =
-    unwrap_or (option_map made_interface (interface_event_of first rest)) (access_event_in first rest)
+    unwrap_or (option_map made_interface (interface_event_by_word first rest)) (access_event_in first rest)
 
-abbrev pub event_by : Text → List Text → Result ScriptEvent LineFault
-event_by first rest = unwrap_or (naming_event_of first rest) (interface_event_in first rest)
+abbrev pub event_by_first_word : Text → List Text → Result ScriptEvent LineFault
+event_by_first_word first rest = unwrap_or (naming_event_of first rest) (interface_event_in first rest)
 
 -- no words are no event
 abbrev pub event_in : List Text → Result (Option ScriptEvent) LineFault
 event_in [] = Ok None
 event_in (first ∷ rest) = do
-  event ← event_by first rest
+  event ← event_by_first_word first rest
   Ok (Some event)
 
 abbrev pub is_comment : Text → Bool

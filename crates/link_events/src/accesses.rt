@@ -1,7 +1,7 @@
 //! The events of trusted reads and of guarded memory that lines of a script spell.
 
 ghost use Rattle.std.specs.Prelude.{◌≡◌, map};
-ghost use Rattle.link_events.specs.Accesses.{mmio_in, access_event_of};
+ghost use Rattle.link_events.specs.Accesses.{mmio_in, access_event_by_word};
 
 use crate::parts::{length_at, one_number};
 use crate::words::number_at;
@@ -27,7 +27,7 @@ fn mmio(words: &[&[u8]]) -> Result<AccessEvent, LineFault>
 
 // An event on a trusted read or on guarded memory; `None` if the first word is none of these events.
 pub(crate) fn access_event(first: &[u8], rest: &[&[u8]]) -> Option<Result<AccessEvent, LineFault>>
-    ensures { result ≡ access_event_of first.now (map (λ w. w.now) rest.now) }
+    ensures { result ≡ access_event_by_word first.now (map (λ w. w.now) rest.now) }
 {
     if first == b"answer".as_slice() {
         return Some(one_number(rest).map(|link| AccessEvent::Answer { link }));

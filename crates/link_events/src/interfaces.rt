@@ -5,7 +5,7 @@ ghost use Rattle.std.specs.Option.{ok_or};
 ghost use Rattle.ide_types.specs.RegisterNames.{width_of};
 ghost use Rattle.link_events.specs.declared.fault.LineFault.TheVariants as fault;
 ghost use Rattle.link_events.specs.Interfaces.{bar_in, register_in, register_value_in, write_event_in, memory_in};
-ghost use Rattle.link_events.specs.Interfaces.{asking_event_of, interface_event_of};
+ghost use Rattle.link_events.specs.Interfaces.{asking_event_of, interface_event_by_word};
 
 use crate::parts::{asked, length_at, one_number};
 use crate::words::{number, number_at};
@@ -134,7 +134,7 @@ pub(crate) fn interface_event(
     first: &[u8],
     rest: &[&[u8]],
 ) -> Option<Result<InterfaceEvent, LineFault>>
-    ensures { result ≡ interface_event_of first.now (map (λ w. w.now) rest.now) }
+    ensures { result ≡ interface_event_by_word first.now (map (λ w. w.now) rest.now) }
 {
     if first == b"view".as_slice() {
         return Some(one_number(rest).map(|interface| InterfaceEvent::View { interface }));

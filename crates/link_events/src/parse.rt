@@ -4,12 +4,10 @@ ghost use Rattle.std.specs.Prelude.{◌≡◌, ◌∷◌, [], false, map};
 ghost use Rattle.std.specs.Option.{ok_or};
 ghost use Rattle.link_events.specs.declared.fault.LineFault.TheVariants as fault;
 ghost use Rattle.link_events.specs.Words.{words_in};
-ghost use Rattle.link_events.specs.Parse.{marks_in, send_in, alter_in, arrive_in, bytes_event_in};
-ghost use Rattle.link_events.specs.Parse.{packet_event_of, naming_event_of, parsed_hop_event, parsed_peer_event};
-ghost use Rattle.link_events.specs.Parse.{access_event_in};
-ghost use Rattle.link_events.specs.Parse.{interface_event_in};
-ghost use Rattle.link_events.specs.Parse.{event_by, event_in};
-ghost use Rattle.link_events.specs.Parse.{line_meaning, begins_bytes, line_answer, IsLineAnswer};
+ghost use Rattle.link_events.specs.Parse.{marks_in, send_in, alter_in, arrive_in, bytes_event_in, packet_event_of};
+ghost use Rattle.link_events.specs.Parse.{naming_event_of, parsed_hop_event, parsed_peer_event, access_event_in};
+ghost use Rattle.link_events.specs.Parse.{interface_event_in, event_by_first_word, event_in, line_meaning};
+ghost use Rattle.link_events.specs.Parse.{begins_bytes, line_answer, IsLineAnswer};
 ghost use Rattle.link_events.specs.Spells.{MeaningIsSpelling, NothingIsSkipped, SpelledAreAllowed};
 ghost use Rattle.link_events.specs.Faults.{FirstFault, FaultsAreFirst};
 ghost use Rattle.link_events.specs.Terms.{LineFault};
@@ -207,9 +205,9 @@ fn some_interface_event(
 }
 
 fn event(alloc: Global, first: &[u8], rest: &[&[u8]]) -> Result<ScriptEvent, LineError>
-    ensures gives { IsLineAnswer (event_by first.now (map (λ w. w.now) rest.now)) result }
+    ensures gives { IsLineAnswer (event_by_first_word first.now (map (λ w. w.now) rest.now)) result }
     ensures exact { begins_bytes (first.now ∷ []) ≡ false
-        → result ≡ line_answer (event_by first.now (map (λ w. w.now) rest.now)) }
+        → result ≡ line_answer (event_by_first_word first.now (map (λ w. w.now) rest.now)) }
 {
     match naming_event(first, rest) {
         Some(Ok(event)) => Ok(event),

@@ -10,7 +10,7 @@ use Rattle.interface_ends.specs.Replies.{DeviceTdis}
 use Rattle.trusted_memory.specs.declared.read.MemReadView.{MemReadView}
 use Rattle.trusted_memory.specs.declared.queue.WaitingRead.{WaitingRead}
 use Rattle.trusted_memory.specs.{memory_read, waiting_after}
-use Rattle.guarded_memory.specs.declared.standing.InterfaceStatus.{InterfaceStatus}
+use Rattle.guarded_memory.specs.declared.status.InterfaceStatus.{InterfaceStatus}
 use Rattle.guarded_memory.specs.{interface_status, new_guarded}
 use Rattle.hop_queues.specs.declared.queues.HopQueues.{HopQueues}
 use Rattle.hop_queues.specs.{WaitingTlps}

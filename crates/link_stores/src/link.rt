@@ -3,15 +3,14 @@
 ghost use Rattle.std.specs.Prelude.{◌≡◌, ◌+◌, ◌≤◌, ◌<◌, [], ◌∷◌, Some, IfOk, OnOk, length};
 ghost use Rattle.tlp_layout.specs.Head.{FitsHead};
 ghost use Rattle.tlp_layout.specs.Tlp.{viewed_tlp};
-ghost use Rattle.trusted_memory.specs.{Leads, admitted_write, write_in, write_span};
-ghost use Rattle.trusted_memory.specs.{request_effect};
+ghost use Rattle.trusted_memory.specs.{Leads, admitted_write, write_of_tlp, write_span, request_effect};
 ghost use Rattle.guarded_memory.specs.{claim_of, mmio_effect, write_happened, AllReset, MmioLeads};
 ghost use Rattle.hop_queues.specs.{all_roomy};
 ghost use Rattle.link_stores.specs.Accesses.{new_link_accesses, reads_after, trusted_read, device_statuses};
 ghost use Rattle.link_stores.specs.Accesses.{without_tlps};
 
 use crate::floors::Floors;
-use guarded_memory::{Claim, Guarded, InterfaceStatus, Standings, claim_of};
+use guarded_memory::{Claim, Guarded, InterfaceStatus, Statuses, claim_of};
 use hop_queues::HopQueues;
 use ide_types::{InterfacePlan, OutOfMemory};
 use interface_ends::DeviceInterfaces;
@@ -44,14 +43,14 @@ pub struct Floored<'a> {
     pub floors: &'a Floors,
 }
 
-impl Standings for Floored<'_> {
+impl Statuses for Floored<'_> {
     ghost stand = { λ d. device_statuses d.floors.now d.interfaces.now };
 
     fn count(&self) -> usize {
         self.interfaces.count()
     }
 
-    fn standing(&self, place: usize) -> InterfaceStatus {
+    fn status(&self, place: usize) -> InterfaceStatus {
         InterfaceStatus::of(self.interfaces.interface(place), self.floors.floor(place))
     }
 }
@@ -121,7 +120,7 @@ impl LinkAccesses {
         } }
         ensures regions { memory.new.contents.regions ≡ memory.old.contents.regions }
         ensures leads { Leads memory.old.contents
-            (admitted_write memory.old.contents.regions trusted grant (write_in (viewed_tlp tlp.now)) ∷ [])
+            (admitted_write memory.old.contents.regions trusted grant (write_of_tlp (viewed_tlp tlp.now)) ∷ [])
             memory.new.contents }
         ensures spare { memory.old.spare ≤ memory.new.spare + 1 }
     {
@@ -142,11 +141,11 @@ impl LinkAccesses {
         unit: UnitName,
     ) -> Effect
         requires { 2 ≤ self.old.guarded.spare }
-        ensures effect { let standings = device_statuses self.old.floors interfaces.now in
-            result ≡ mmio_effect standings trusted unit.stream unit.draw (write_span tlp.now.head) }
-        ensures leads { let standings = device_statuses self.old.floors interfaces.now in
+        ensures effect { let statuses = device_statuses self.old.floors interfaces.now in
+            result ≡ mmio_effect statuses trusted unit.stream unit.draw (write_span tlp.now.head) }
+        ensures leads { let statuses = device_statuses self.old.floors interfaces.now in
             MmioLeads self.old.guarded
-            (write_happened standings trusted unit.stream unit.draw (write_in (viewed_tlp tlp.now)) ∷ [])
+            (write_happened statuses trusted unit.stream unit.draw (write_of_tlp (viewed_tlp tlp.now)) ∷ [])
             self.new.guarded }
         ensures kept { self.new ≡ record self.old { guarded = self.new.guarded } }
         ensures sizes { self.new.guarded.sizes ≡ self.old.guarded.sizes }

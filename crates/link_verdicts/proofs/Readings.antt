@@ -23,7 +23,7 @@ use Rattle.ide_types.specs.declared.plan.PeerPlan.{PeerPlan}
 use Rattle.ide_types.specs.declared.plan.Plan.{Plan}
 use Rattle.ide_types.specs.Fits.{FitsPlan}
 use Rattle.ide_types.specs.Plans.{hop_has_id}
-use Rattle.ide_types.specs.Ends.{link_hop, peer_has_id, own_has_id, line_has, port_beside_end, end_on}
+use Rattle.ide_types.specs.Ends.{link_hop, peer_has_id, own_has_id, line_has, port_beside_end, end_at_port}
 use Rattle.ide_types.proofs.EndsFound.{end_found, port_is_one, few_lines}
 use Rattle.ide_types.specs.declared.fault_word.FaultWord.{FaultWord}
 use Rattle.ide_types.specs.declared.status.StreamStatus.{StreamStatus}
@@ -63,7 +63,7 @@ port w = port_by (slice_index w 0) (number (drop 1 w))
 
 -- the end of the line that has the stream at the port
 abbrev end : Plan → Text → Text → PortName
-end plan p s = end_on plan (port p) (number s)
+end plan p s = end_at_port plan (port p) (number s)
 
 abbrev bit : Text → Bool
 bit w = number (drop 1 w) == 1

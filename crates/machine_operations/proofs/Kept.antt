@@ -14,7 +14,7 @@ use Rattle.machine_operations.proofs.Terms.{stepped_arrival, Cut, Dump, Event, f
 use Rattle.machine_operations.proofs.Terms.{Pass, Plan, PortName, with_stream_state, Send, stepped_on_stream}
 use Rattle.machine_operations.proofs.Terms.{stepped_send, streams_of, Sending, step_of, Stepped, StreamState, Verdict}
 use Rattle.std.specs.Prelude.{unwrap_or}
-use Rattle.spec_keys.specs.Keys.{is_below}
+use Rattle.spec_keys.specs.Keys.{is_some_below}
 unfoldable use Rattle.machine_ports.specs.{sealing_end}
 use Rattle.link_verdicts.specs.declared.verdict.Verdict.TheVariants as v
 use Rattle.link_verdicts.specs.declared.verdict.SealedPacket.{SealedPacket}
@@ -60,7 +60,7 @@ send_kept plan beside st port o more trusted false = (refl, refl)
 completed_kept : (plan : Plan) (beside : BesidePorts) (st : LinkState) (port : PortName) (r : BoundCompletion)
     (draw : Option ℕ)
     → Kept st (stepped_completion plan beside st port r draw)
-completed_kept plan beside st port r draw = by (is_below draw r.bound.floor)
+completed_kept plan beside st port r draw = by (is_some_below draw r.bound.floor)
   where
     by : (b : Bool) → Kept st (if b then (v.Interface (iv.RefusedRefreshFirst (unwrap_or draw 0) r.bound.floor), st)
         else stepped_send plan beside st port (outgoing_of (streams_of plan port.line) port.side r.bytes) false true)

@@ -5,10 +5,10 @@ use Rattle.machine_operations.proofs.Terms.{length, refl, ap, sym, ◌∙◌, su
 use Rattle.machine_operations.proofs.Terms.{slice_set, Begun, changed_by_id, Device, draws_after, draws_made}
 use Rattle.machine_operations.proofs.Terms.{place_at_end, find, touches_at, find_op, found_by_id, get_or-set_other}
 use Rattle.machine_operations.proofs.Terms.{History, Host, LinkState, makes_draw, manager, nat_tests, StreamStage}
-use Rattle.machine_operations.proofs.Terms.{Touch, touched_at, touched_found, touched_state, op_after, op_at, op_of}
-use Rattle.machine_operations.proofs.Terms.{Operation, Plan, port_at, PortName, ports_of, with_stream_state, put_beside}
-use Rattle.machine_operations.proofs.Terms.{put_op, put_same, Reach, Side, slice_index_or, stream_plan, streams_of}
-use Rattle.machine_operations.proofs.Terms.{StreamState, SubKind, Work, work_done, work_of}
+use Rattle.machine_operations.proofs.Terms.{Touch, touched_at, touched_found, touched_state, op_after_reach, op_at}
+use Rattle.machine_operations.proofs.Terms.{op_of, Operation, Plan, port_at, PortName, ports_of, with_stream_state}
+use Rattle.machine_operations.proofs.Terms.{put_beside, put_op, put_same, Reach, Side, slice_index_or, stream_plan}
+use Rattle.machine_operations.proofs.Terms.{streams_of, StreamState, SubKind, Work, work_done, work_of}
 use Rattle.spec_keys.specs.Operations.{manager_after_operation}
 
 -- ---- one operation is put, and no other
@@ -122,7 +122,7 @@ ops_worked plan st h o line stream (Some r) stands known l s =
     (place_at_end line stream false side u)
     in
     ops_after plan st (touched_state plan st line stream out into) h line stream (draws_after st.draws w)
-    (op_after (is_hosted line) w r)
+    (op_after_reach (is_hosted line) w r)
     (touched_ops plan st line stream out into) stands known l s
 
 pub draws_worked : (plan : Plan) (st : LinkState) (h : History) (o : Operation) (line stream : ℕ) (r : Option Reach)

@@ -33,7 +33,7 @@ pub use Rattle.spec_keys.specs.Keys.{Clear as ClearTouch, Go as GoTouch, Program
 pub use Rattle.spec_keys.specs.Keys.{Touch, is_live_draw as is_live_there, draw_of_keyed, no_keys, refuses}
 pub use Rattle.spec_keys.specs.Keys.{without_outlived, slot_of, keys_after_touch, with_key}
 unfoldable pub use Rattle.spec_keys.specs.Keys.{is_open, keys}
-pub use Rattle.spec_keys.specs.Operations.{Begun, Idle, Manager, StreamStage, Reach, Work, makes_draw, op_after}
+pub use Rattle.spec_keys.specs.Operations.{Begun, Idle, Manager, StreamStage, Reach, Work, makes_draw, op_after_reach}
 pub use Rattle.spec_keys.specs.Operations.{manager_after_operation as operated_manager, reach_of, work_of}
 pub use Rattle.spec_keys.specs.Places.{KeyPlace, is_on_stream, sent_direction}
 pub use Rattle.link_events.specs.declared.event.Event.TheVariants.{Establish, Refresh, Reset, Stop}
@@ -50,9 +50,9 @@ pub use Rattle.machine_ports.proofs.Frames.{rx_slots_same, since_same, slots_is,
 pub use Rattle.machine_ports.proofs.Puts.{find-put, find-put_other, put_beside, put_same, within}
 pub use Rattle.machine_ports.specs.Machine.{draws_after, place_at_end, establish_found, first_ports, first_state}
 pub use Rattle.machine_ports.specs.Machine.{is_live_at, touched_at, touched_found, touched_state, touches_at, new_key}
-pub use Rattle.machine_ports.specs.Machine.{stepped_operation, port_at, ports_of, refresh_found, refuses_at, refuses_in}
-pub use Rattle.machine_ports.specs.Machine.{reset_state, machine_status, status_found, status_if_planned, stop_found}
-pub use Rattle.machine_ports.specs.Machine.{work_done}
+pub use Rattle.machine_ports.specs.Machine.{stepped_operation, port_at, ports_of, refresh_found, refuses_at}
+pub use Rattle.machine_ports.specs.Machine.{slots_refuse, reset_state, machine_status, status_found, status_if_planned}
+pub use Rattle.machine_ports.specs.Machine.{stop_found, work_done}
 unfoldable pub use Rattle.machine_ports.specs.Machine.{find_op, put_op}
 pub use Rattle.machine_ports.specs.Stream.{any_live, has_all_live, has_some_live, is_live_slot, no_stream}
 pub use Rattle.machine_ports.specs.Stream.{rested_stream, slots_at}

@@ -4,7 +4,7 @@ use Rattle.machine_operations.proofs.Terms.{arith, if◌then◌else◌, at_each,
 use Rattle.machine_operations.proofs.Terms.{has_stream, History, is_live_slot, is_live_there, Keys, port_keys}
 use Rattle.machine_operations.proofs.Terms.{keys_into, keys_out, place_keys, lane_in, lane_out, LinkState, is_live_at}
 use Rattle.machine_operations.proofs.Terms.{nat_tests, no_keys, On, KeyPlace, Plan, port_at, PortName, ports_at}
-use Rattle.machine_operations.proofs.Terms.{ports_of, PortsStand, refuses, refuses_at, refuses_in, rx_slots}
+use Rattle.machine_operations.proofs.Terms.{ports_of, PortsStand, refuses, refuses_at, slots_refuse, rx_slots}
 use Rattle.machine_operations.proofs.Terms.{rx_state_due, RxSub, sealed_packets, SealedList, slot_in_set, slot_of}
 use Rattle.machine_operations.proofs.Terms.{LaneSlots, slots_at, stream_state_due, StreamState, SubStream, tx_slots}
 use Rattle.machine_operations.proofs.Terms.{tx_state_due, TxSub}
@@ -18,7 +18,7 @@ abbrev Apart : Keys → Type 0
 Apart ks = (i j : ℕ) → ks.first ≡ On i → ks.second ≡ On j → (i == j) ≡ false
 
 refuses_out : (plan : Plan) (k : Bool) (xs : SealedList) (s : SubStream) (ks : Keys) → Apart ks
-    → refuses_in (tx_slots plan xs s ks) k ≡ refuses true ks k
+    → slots_refuse (tx_slots plan xs s ks) k ≡ refuses true ks k
 refuses_out plan k xs s ks apart = grind (arith, nat_tests, apart)
 
 live_out : (plan : Plan) (k : Bool) (xs : SealedList) (s : SubStream) (ks : Keys) → Apart ks
@@ -26,7 +26,7 @@ live_out : (plan : Plan) (k : Bool) (xs : SealedList) (s : SubStream) (ks : Keys
 live_out plan k xs s ks apart = grind (arith, nat_tests, apart)
 
 refuses_into : (plan : Plan) (h : History) (k : Bool) (port : PortName) (s : SubStream) (ks : Keys) → Apart ks
-    → refuses_in (rx_slots plan h port s ks) k ≡ refuses false ks k
+    → slots_refuse (rx_slots plan h port s ks) k ≡ refuses false ks k
 refuses_into plan h k port s ks apart = grind (arith, nat_tests, apart)
 
 live_into : (plan : Plan) (h : History) (k : Bool) (port : PortName) (s : SubStream) (ks : Keys) → Apart ks
@@ -80,7 +80,7 @@ refuses_is : (plan : Plan) (st : LinkState) (h : History) → PortsStand plan st
     → refuses_at p.sends p.sub k (find plan st (port_at p.side p.line) p.stream) ≡ refuses p.sends (place_keys h p) k
 refuses_is plan st h stands p k =
     reads plan st h stands p (refuses_at p.sends p.sub k) (λ ks. refuses p.sends ks k) (bare_refuses p.sends k)
-    (known plan h stands.cause p p.sends (λ slots. refuses_in slots k) (λ s ks. refuses s ks k) (refuses_out plan k)
+    (known plan h stands.cause p p.sends (λ slots. slots_refuse slots k) (λ s ks. refuses s ks k) (refuses_out plan k)
     (refuses_into plan h k))
 
 live_is : (plan : Plan) (st : LinkState) (h : History) → PortsStand plan st h → (p : KeyPlace) (k : Bool)

@@ -5,7 +5,7 @@ use Rattle.machine_operations.proofs.Terms.{Cpl, draws_after, draws_made, due, e
 use Rattle.machine_operations.proofs.Terms.{has_failed, failed_live, find, got_same, got_since, has_live_in}
 use Rattle.machine_operations.proofs.Terms.{has_live_out, has_stream, held_same, History, is_on, is_on_stream, is_quiet}
 use Rattle.machine_operations.proofs.Terms.{kept_all, Keys, port_keys, lane_in, lane_out, LinkState, Loss, manager}
-use Rattle.machine_operations.proofs.Terms.{moments, touched_state, touches_at, Npr, on_it, StreamStage, op_after}
+use Rattle.machine_operations.proofs.Terms.{moments, touched_state, touches_at, Npr, on_it, StreamStage, op_after_reach}
 use Rattle.machine_operations.proofs.Terms.{Operation, KeyPlace, place_in_sub_stream, Plan, PortName, PortsStand}
 use Rattle.machine_operations.proofs.Terms.{PortView, posted_since_last, posted_sum, Pr, put_op, quiet_seals_none}
 use Rattle.machine_operations.proofs.Terms.{Reach, reach_of, rx_slots, rx_slots_same, sealed_same, since_same}
@@ -154,7 +154,7 @@ by_ports : (plan : Plan) (st : LinkState) (h g : History) (line stream : ℕ) (w
     (touched_state plan st line stream (outs h line stream w r) (ins h line stream w r)) g
     → PortsStand plan (work_done plan st line stream w (Some r)) g
 by_ports plan st h g line stream w r stands after =
-    beside plan _ g line stream (op_after (is_hosted line) w r) (draws_after st.draws w)
+    beside plan _ g line stream (op_after_reach (is_hosted line) w r) (draws_after st.draws w)
     (subst (λ (ports : PortView). PortsStand plan
     (touched_state plan st line stream (λ side u. touches_at ports w r (place_at_end line stream true side u))
     (λ side u. touches_at ports w r (place_at_end line stream false side u))) g)

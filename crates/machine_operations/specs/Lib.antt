@@ -5,7 +5,7 @@ pub use Rattle.machine_ports.specs.Forwards.{forward_of}
 pub use Rattle.machine_ports.specs.Machine.{BesidePorts, LinkState, altered_to, changed_by_id, cut_short, draws_after}
 pub use Rattle.machine_ports.specs.Machine.{find_op, first_state, found_by_id, is_last_in, is_live_at, packet_numbered}
 pub use Rattle.machine_ports.specs.Machine.{whole_arrival, place_at_end, port_at, ports_of, receiving_draw_at}
-pub use Rattle.machine_ports.specs.Machine.{refuses_at, refuses_in, machine_status, status_if_planned, step_of}
+pub use Rattle.machine_ports.specs.Machine.{refuses_at, slots_refuse, machine_status, status_if_planned, step_of}
 pub use Rattle.machine_ports.specs.Machine.{touches_at, verdict_of_taken}
 pub use Rattle.machine_ports.specs.Replies.{BoundCompletion, completion_first, site_completion, link_completion}
 pub use Rattle.machine_ports.specs.Stands.{PortsStand, PortsStandFor, beside_at, receiving_key, rx_slot, rx_slots}

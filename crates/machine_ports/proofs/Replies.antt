@@ -1,6 +1,6 @@
 -- An answer to a read that waits gets the verdict that is due, and the state after it stands for the history with it:
 -- the port's key of completions is the history's, and a completion is sent as any TLP is.
-use Rattle.spec_keys.specs.Keys.{is_below}
+use Rattle.spec_keys.specs.Keys.{is_some_below}
 use Rattle.machine_ports.proofs.Terms.{◌≡◌, ℕ, Bool, true, false, List, [], ◌∷◌, Option, Some, None}
 use Rattle.machine_ports.proofs.Terms.{option_map, Err, refl, ap, sym, ◌∙◌, subst, arith, nat_tests, if◌then◌else◌}
 use Rattle.machine_ports.proofs.Terms.{unwrap_or, Cpl, Event, find, has_stream, History, is_quiet, KeyFacts, KeyName}
@@ -10,7 +10,7 @@ unfoldable use Rattle.machine_ports.proofs.Terms.{due}
 use Rattle.ide_types.specs.declared.binding.Binding.{Binding}
 use Rattle.ide_types.specs.declared.port.Side.TheVariants.{Host}
 use Rattle.tlp_layout.specs.Outgoing.{Outgoing, NoTlp, OnNone, OnStream, outgoing_of, stream_taken}
-use Rattle.spec_links.specs.{Site, site_with, grant_at, granted_to, WaitingRead}
+use Rattle.spec_links.specs.{Site, site_of_requester, grant_at, granted_to, WaitingRead}
 use Rattle.link_events.specs.declared.event.AccessEvent.TheVariants as ae
 use Rattle.link_events.specs.declared.event.Event.TheVariants.{Access}
 use Rattle.ide_types.specs.declared.verdict.InterfaceVerdict.TheVariants as iv
@@ -63,7 +63,7 @@ draw_is plan st h port stream stands (Some y) found known =
     let kept = kept_is plan st h port stream y stands found in
     ap (λ (z : StreamState). sealing_draw_at Cpl (Some z)) kept.same ∙ draw_stands plan h port stream
 
-below_is : (key : Option KeyName) (floor : ℕ) → is_below (draw_named key) floor ≡ is_before key floor
+below_is : (key : Option KeyName) (floor : ℕ) → is_some_below (draw_named key) floor ≡ is_before key floor
 below_is None floor = refl
 below_is (Some key) floor = refl
 
@@ -108,7 +108,7 @@ module _ (plan : Plan) (facts : KeyFacts plan) (st : LinkState) (h : History) (s
       (record { bound = b; bytes = bytes_at plan h link }) (draw_named (key_at h link b.stream)))
   completes b is =
       let key = key_at h link b.stream in
-      if_steps plan h (answer_event link) (is_below (draw_named key) b.floor) _ _
+      if_steps plan h (answer_event link) (is_some_below (draw_named key) b.floor) _ _
       (λ below. quiet_reply (v.Interface (iv.RefusedRefreshFirst (unwrap_or (draw_named key) 0) b.floor)) refl
       (ap (λ (n : ℕ). v.Interface (iv.RefusedRefreshFirst n b.floor)) (named_is key)
       ∙ (ap (λ (older : Bool). under older) (sym (sym (below_is key b.floor) ∙ below)) ∙ is)))
@@ -160,7 +160,7 @@ module _ (plan : Plan) (facts : KeyFacts plan) (st : LinkState) (h : History) (s
       (stepped_reply plan (beside_at plan h) st (host link)
       (completion_first plan (grant_at plan h) (λ r. bytes_at plan h link) link rs))
   by_waiting [] is = quiet_reply (v.Access (av.Empty link)) refl is
-  by_waiting (r ∷ rs) is = by_site r.draw (site_with plan link r.read.requester) is
+  by_waiting (r ∷ rs) is = by_site r.draw (site_of_requester plan link r.read.requester) is
 
   pub replies : Steps plan h (answer_event link)
       (stepped_reply plan (beside_at plan h) st (host link)

@@ -6,7 +6,7 @@ use Rattle.machine_ports.proofs.Terms.{◌≡◌, ℕ, ◌+◌, ◌==◌, Bool, 
 use Rattle.machine_ports.proofs.Terms.{refl, ap, sym, ◌∙◌, subst, arith, length-append, append_assoc, if◌then◌else◌}
 use Rattle.machine_ports.proofs.Terms.{not, ◌&&◌, nat_le, after_ends, append-nil, AreOther, at_sub, body, counted_unit}
 use Rattle.machine_ports.proofs.Terms.{each_sub, ended_keys, ended_slots, ends_port_unit, eqb-refl, total_ahead}
-use Rattle.machine_ports.proofs.Terms.{gone_on, head_bytes, header, in_lane, is_sealed_since, is_same, is_same_port}
+use Rattle.machine_ports.proofs.Terms.{gone_on, head_bytes, header, in_lane, is_sealed_from_draw, is_same, is_same_port}
 use Rattle.machine_ports.proofs.Terms.{is_same_port-refl, is_same_sub, kept_packet, key_in, key_of, Keys, lane_is}
 use Rattle.machine_ports.proofs.Terms.{lane_out, lesser, Live, live_sender, LiveKey, map-append, nat_tests, On}
 use Rattle.machine_ports.proofs.Terms.{open_unit, Packet, packet_of, packet_under, Plan, PortName, posted-more}
@@ -191,7 +191,7 @@ module _ (plan : Plan) (closed : Bool) (ahead : SealedPacket → List ℕ) (port
           let ends : ends_port_unit port s d ≡ d.m = ap
           (λ (q : PortName). is_same_port q port && is_same (sub_stream_of d) s && d.m) fits.port_is
           ∙ rw (is_same_port-refl port, here) refl in
-          let inside : is_sealed_since s from (d, p) ≡ true = rw (here, fits.counts) refl in
+          let inside : is_sealed_from_draw s from (d, p) ≡ true = rw (here, fits.counts) refl in
           if_true _ _ _ (eqb-refl (sub_bits d.sub)) ∙ tx_is _ _
           (sealed_slots_is xs keys d p fits here d.m m
           ∙ ap (λ (b : Bool). tx_slots plan ys s
@@ -214,15 +214,15 @@ module _ (plan : Plan) (closed : Bool) (ahead : SealedPacket → List ℕ) (port
         where
           by_posted : (b : Bool) → is_same_sub d.sub Pr ≡ b → let s = lane_out port stream u in
               tx_slots plan xs s (keys u) ≡ tx_slots plan ys s (after_one port stream d keys u)
-              → is_sealed_since s from (d, p) ≡ false → total_in xs s from ≡ total_in ys s from
+              → is_sealed_from_draw s from (d, p) ≡ false → total_in xs s from ≡ total_in ys s from
               → (if b then record (old u) { posted = posted_since_last xs s from + 1 } else old u) ≡ new u
           by_posted true is slots out total =
-              let counted_unit : is_sealed_since (posted_lane (lane_out port stream u)) from (d, p)
+              let counted_unit : is_sealed_from_draw (posted_lane (lane_out port stream u)) from (d, p)
               ≡ true = rw (in_place Pr, is, fits.counts) refl in
               tx_is _ _ slots (sym (posted-more xs (d, p) (lane_out port stream u) from out ∙ rw counted_unit refl))
               total
           by_posted false is slots out total =
-              let none : is_sealed_since (posted_lane (lane_out port stream u)) from (d, p) ≡ false =
+              let none : is_sealed_from_draw (posted_lane (lane_out port stream u)) from (d, p) ≡ false =
               rw (in_place Pr, is) refl in
               tx_is _ _ slots (sym (posted-same xs (d, p) (lane_out port stream u) from out none)) total
 

@@ -37,7 +37,7 @@ unfoldable pub use Rattle.spec_links.specs.Due.{before_tag, due, is_verified}
 pub use Rattle.spec_links.specs.History.{Arrival, KeyName, SealedList, accepted_keys, after_ends, ahead_of_packet}
 pub use Rattle.spec_links.specs.History.{altered_arrival, arrived_packet, arrival_at_partner, ended_keys}
 pub use Rattle.spec_links.specs.History.{ends_port_unit, has_failed, fails_at, total_ahead, has_live_key}
-pub use Rattle.spec_links.specs.History.{packets_in_hold as held_in, is_sealed_since, is_keyed, is_received_under}
+pub use Rattle.spec_links.specs.History.{packets_in_hold as held_in, is_sealed_from_draw, is_keyed, is_received_under}
 pub use Rattle.spec_links.specs.History.{port_keys, lesser, live_key, on_draw, packet_by_number, pending_packets}
 pub use Rattle.spec_links.specs.History.{posted_count, posted_since_last, posted_lane, received_in, sub_stream_packets}
 pub use Rattle.spec_links.specs.History.{shortened_arrival, sub_stream_of, total_in, waits, with_sealed}

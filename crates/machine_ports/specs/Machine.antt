@@ -36,8 +36,8 @@ use Rattle.ide_types.specs.declared.status.StreamStatus.{StreamStatus}
 use Rattle.ide_types.specs.declared.status.StreamStatus.TheVariants as status
 use Rattle.spec_keys.specs.Places.{KeyPlace, is_between_devices, sent_direction}
 use Rattle.ide_types.specs.Lines.{is_hosted, is_link_line}
-use Rattle.spec_keys.specs.Keys.{Touch, refusal_if, is_below}
-use Rattle.spec_keys.specs.Operations.{StreamStage, Idle, Stopping, Work, Reach, work_of, reach_of, op_after}
+use Rattle.spec_keys.specs.Keys.{Touch, refusal_if, is_some_below}
+use Rattle.spec_keys.specs.Operations.{StreamStage, Idle, Stopping, Work, Reach, work_of, reach_of, op_after_reach}
 use Rattle.spec_keys.specs.Operations.{makes_draw}
 use Rattle.spec_keys.specs.History.{work_touches}
 use Rattle.spec_keys.specs.Due.{PortView, establish_on, refresh_on, stop_on}
@@ -180,7 +180,7 @@ receiving_draw_at u o = option_and_then (λ (x : StreamState). receiving_draw (s
 -- under a key of the bound stream from the floor on the completion is sent as any TLP is, with T
 abbrev pub stepped_completion : Plan → BesidePorts → LinkState → PortName → BoundCompletion → Option ℕ → Stepped
 stepped_completion plan beside st port r draw =
-    if is_below draw r.bound.floor then (v.Interface (iv.RefusedRefreshFirst (unwrap_or draw 0) r.bound.floor), st)
+    if is_some_below draw r.bound.floor then (v.Interface (iv.RefusedRefreshFirst (unwrap_or draw 0) r.bound.floor), st)
     else stepped_send plan beside st port (outgoing_of (streams_of plan port.line) port.side r.bytes) false true
 
 abbrev pub stepped_reply : Plan → BesidePorts → LinkState → PortName → Result BoundCompletion Verdict → Stepped
@@ -282,12 +282,12 @@ abbrev pub is_last_in : LaneSlot → LaneSlot → Bool
 is_last_in (Live x) other = not (is_newer_key x.draw other)
 is_last_in _ other = false
 
-abbrev pub refuses_in : LaneSlots → Bool → Bool
-refuses_in s k = is_last_in (slot_in_set s k) (slot_in_set s (not k))
+abbrev pub slots_refuse : LaneSlots → Bool → Bool
+slots_refuse s k = is_last_in (slot_in_set s k) (slot_in_set s (not k))
 
 abbrev pub refuses_at : Bool → SubKind → Bool → Option StreamState → Bool
 refuses_at sends u k None = false
-refuses_at sends u k (Some x) = refuses_in (slots_at sends u x) k
+refuses_at sends u k (Some x) = slots_refuse (slots_at sends u x) k
 
 abbrev pub is_live_at : Bool → SubKind → Bool → Option StreamState → Bool
 is_live_at sends u k None = false
@@ -325,7 +325,7 @@ work_done plan st line stream w (Some r) =
     let touched =
     touched_state plan st line stream (λ side u. touches_at ports w r (place_at_end line stream true side u))
     (λ side u. touches_at ports w r (place_at_end line stream false side u)) in
-    record (put_op plan touched line stream (op_after (is_hosted line) w r)) { draws = draws_after st.draws w }
+    record (put_op plan touched line stream (op_after_reach (is_hosted line) w r)) { draws = draws_after st.draws w }
 
 abbrev pub stepped_operation : Plan → LinkState → Operation → ℕ → ℕ → StreamStage → Verdict → Stepped
 stepped_operation plan st o line stream q verdict =

@@ -4,7 +4,7 @@ use Rattle.ide_types.specs.declared.binding.Binding.{Binding}
 use Rattle.ide_types.specs.declared.port.Side.TheVariants.{Host}
 use Rattle.ide_types.specs.declared.plan.Plan.{Plan}
 use Rattle.tlp_layout.specs.Outgoing.{outgoing_of, stream_taken}
-use Rattle.spec_links.specs.{Site, site_with, WaitingRead}
+use Rattle.spec_links.specs.{Site, site_of_requester, WaitingRead}
 use Rattle.link_verdicts.specs.declared.access.AccessVerdict.TheVariants as av
 use Rattle.link_verdicts.specs.declared.verdict.Verdict.{Verdict}
 use Rattle.link_verdicts.specs.declared.verdict.Verdict.TheVariants as v
@@ -38,7 +38,8 @@ abbrev pub completion_first : Plan → Grants → (WaitingRead → List ℕ) →
     → Result BoundCompletion Verdict
 completion_first plan grants bytes link [] = Err (v.Access (av.Empty link))
 completion_first plan grants bytes link (r ∷ rs) =
-    site_completion plan link r.draw (bytes r) (grants link r.read.requester) (site_with plan link r.read.requester)
+    site_completion plan link r.draw (bytes r) (grants link r.read.requester)
+    (site_of_requester plan link r.read.requester)
 
 abbrev pub link_completion : Plan → Grants → (WaitingRead → List ℕ) → ℕ → List WaitingRead
     → Result BoundCompletion Verdict

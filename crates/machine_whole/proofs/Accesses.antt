@@ -162,11 +162,11 @@ floors_are plan st h e w before after floors stands old new same =
 
 -- ---- how interfaces stand
 
-standings_map : (plan : Plan) (h : History) (link : ℕ) (xs : List Site)
+statuses_map : (plan : Plan) (h : History) (link : ℕ) (xs : List Site)
     → face_statuses link xs (map (face_at plan h) xs) (map (device_floor plan h) xs)
     ≡ map (device_status plan h) (filter (λ x. x.link == link) xs)
-standings_map plan h link [] = refl
-standings_map plan h link (x ∷ xs) = by (x.link == link) (standings_map plan h link xs)
+statuses_map plan h link [] = refl
+statuses_map plan h link (x ∷ xs) = by (x.link == link) (statuses_map plan h link xs)
   where
     by : (b : Bool) → face_statuses link xs (map (face_at plan h) xs) (map (device_floor plan h) xs)
         ≡ map (device_status plan h) (filter (λ x. x.link == link) xs)
@@ -178,22 +178,22 @@ standings_map plan h link (x ∷ xs) = by (x.link == link) (standings_map plan h
     by true rest = ap (λ (ys : List InterfaceStatus). device_status plan h x ∷ ys) rest
     by false rest = rest
 
-pub standings_are : (plan : Plan) (h : History) (faces : List Face) (floors : List ℕ)
+pub statuses_are : (plan : Plan) (h : History) (faces : List Face) (floors : List ℕ)
     → faces ≡ map (face_at plan h) (sites plan) → floors ≡ map (device_floor plan h) (sites plan)
     → (link : ℕ) → face_statuses link (sites plan) faces floors ≡ history_statuses plan h link
-standings_are plan h faces floors old same link =
-    (λ i. face_statuses link (sites plan) (old i) (same i)) ∙ standings_map plan h link (sites plan)
+statuses_are plan h faces floors old same link =
+    (λ i. face_statuses link (sites plan) (old i) (same i)) ∙ statuses_map plan h link (sites plan)
 
 -- ---- what happened
 
-happens_same : (plan : Plan) (standings : ℕ → List InterfaceStatus) (h : History) (ps : List Packet) (e : Event)
+happens_same : (plan : Plan) (statuses : ℕ → List InterfaceStatus) (h : History) (ps : List Packet) (e : Event)
     (w : Verdict)
     (link : ℕ) → AreEnded plan h ps e w
-    → happens_by plan standings ps e w link ≡ happens_by plan standings (verdict_unit plan h e w) e w link
-happens_same plan standings h ps e (v.Accepted port unit effects) link units =
-    ap (λ (us : List Packet). happens_by plan standings us e (v.Accepted port unit effects) link) units
-happens_same plan standings h ps (event.Reset k ends) (v.Reset l) link units = refl
-happens_same plan standings h ps e w link units = refl
+    → happens_by plan statuses ps e w link ≡ happens_by plan statuses (verdict_unit plan h e w) e w link
+happens_same plan statuses h ps e (v.Accepted port unit effects) link units =
+    ap (λ (us : List Packet). happens_by plan statuses us e (v.Accepted port unit effects) link) units
+happens_same plan statuses h ps (event.Reset k ends) (v.Reset l) link units = refl
+happens_same plan statuses h ps e w link units = refl
 
 pub happened_is : (plan : Plan) (h : History) (e : Event) (w : Verdict) (ps : List Packet) (faces : List Face)
     (floors : List ℕ) → faces ≡ map (face_at plan h) (sites plan) → floors ≡ map (device_floor plan h) (sites plan)
@@ -203,7 +203,7 @@ pub happened_is : (plan : Plan) (h : History) (e : Event) (w : Verdict) (ps : Li
 unfolding link_happenings
 happened_is plan h e w ps faces floors old same units link =
     ap (λ (hs : List (Option Happened)). newest_happened hs (link_happenings plan h link))
-    ((λ i. happens_by plan (λ l. standings_are plan h faces floors old same l i) ps e w link)
+    ((λ i. happens_by plan (λ l. statuses_are plan h faces floors old same l i) ps e w link)
     ∙ happens_same plan (history_statuses plan h) h ps e w link units)
 
 -- ---- the TLPs that wait at switches

@@ -4,11 +4,11 @@ use Rattle.std.proofs.Common.{if◌then◌else◌, refl, ap, ◌∙◌}
 use Rattle.std.specs.Prelude.{find}
 use Rattle.spec_interfaces.specs.Terms.{list_any, option_and_then, option_map, option_map_or, Plan, Event}
 use Rattle.spec_interfaces.specs.Terms.{InterfaceEvent, Verdict, History, binds}
-use Rattle.spec_interfaces.specs.Sites.{Site, sites, site_at, site_with}
+use Rattle.spec_interfaces.specs.Sites.{Site, sites, site_at, site_of_requester}
 use Rattle.spec_interfaces.specs.Views.{managed_view, number_in, bound_if, granted_to, grant_at}
 use Rattle.spec_interfaces.specs.Devices.{devices, one_if, is_run, sets_t, peer_t, used_at}
 use Rattle.spec_interfaces.specs.Due.{interface_verdict_due, interface_due, on_site, with_number}
-use Rattle.machine_whole.specs.Interfaces.{Face, Faces, new_faces, find_face, with_each, face_after, gives_nonce}
+use Rattle.machine_whole.specs.Interfaces.{Face, Faces, new_faces, find_face, with_each, next_face, gives_nonce}
 use Rattle.machine_whole.specs.Interfaces.{is_true, faces_after, asked_due_of, answer_to, interface_answer}
 use Rattle.machine_whole.specs.Interfaces.{with_requester, t_of, peer_t_of, grant_of}
 use Rattle.machine_whole.specs.InterfacesStand.{ends_read, streams_at, face_at, FacesStandFor, FacesStand}
@@ -43,10 +43,10 @@ first_stands plan = record { faces = refl; used = refl }
 
 -- by the list and the numbers that the history gives
 list_after : (plan : Plan) (h : History) (e : Event) (w : Verdict)
-    → with_each (face_after plan (streams_at h) (ends_read ((e, w) ∷ h)) (used_at plan h) e w) (sites plan)
+    → with_each (next_face plan (streams_at h) (ends_read ((e, w) ∷ h)) (used_at plan h) e w) (sites plan)
     (map (face_at plan h) (sites plan)) ≡ map (face_at plan ((e, w) ∷ h)) (sites plan)
 unfolding devices managed_view
-list_after plan h e w = each_is (face_after plan (streams_at h) (ends_read ((e, w) ∷ h)) (used_at plan h) e w)
+list_after plan h e w = each_is (next_face plan (streams_at h) (ends_read ((e, w) ∷ h)) (used_at plan h) e w)
     (face_at plan h) (sites plan)
 
 used_after : (plan : Plan) (h : History) (e : Event) (w : Verdict) (link : ℕ) → used_at plan h link + one_if
@@ -63,7 +63,7 @@ used_after plan h e w link =
 step_stands : (plan : Plan) (fs : Faces) (h : History) (e : Event) (w : Verdict) → FacesStandFor plan fs h
     → FacesStandFor plan (faces_after plan (streams_at h) (ends_read ((e, w) ∷ h)) e w fs) ((e, w) ∷ h)
 step_stands plan fs h e w stands = record {
-  faces = (λ i. with_each (face_after plan (streams_at h) (ends_read ((e, w) ∷ h)) (stands.used i) e w) (sites plan)
+  faces = (λ i. with_each (next_face plan (streams_at h) (ends_read ((e, w) ∷ h)) (stands.used i) e w) (sites plan)
       (stands.faces i)) ∙ list_after plan h e w;
   used = λ i link. ((λ j. stands.used j link + one_if
       (list_any is_true (with_each (gives_nonce plan (streams_at h) (stands.used j) e w link) (sites plan)
@@ -94,7 +94,8 @@ answer_is plan fs h e given stands = number_is plan h e (number_in e) given fs.l
 
 requester_is : (plan : Plan) (h : History) (link requester : ℕ) (fs : Faces) → fs.list
     ≡ map (face_at plan h) (sites plan)
-    → with_requester plan fs link requester ≡ option_map (λ x. (x, face_at plan h x)) (site_with plan link requester)
+    → with_requester plan fs link requester ≡ option_map (λ x. (x, face_at plan h x))
+    (site_of_requester plan link requester)
 requester_is plan h link requester fs faces =
     ap (find_face (λ x. (x.link == link) && (x.plan.requester == requester)) (sites plan)) faces
     ∙ found_is (λ x. (x.link == link) && (x.plan.requester == requester)) (face_at plan h) (sites plan)
@@ -106,13 +107,13 @@ t_says plan h link stream None = refl
 t_says plan h link stream (Some x) = refl
 
 t_is : (plan : Plan) (fs : Faces) (h : History) (link stream : ℕ) (owner : Option ℕ) → FacesStandFor plan fs h
-    → t_of plan fs link stream owner ≡ sets_t plan h link stream (option_and_then (site_with plan link) owner)
+    → t_of plan fs link stream owner ≡ sets_t plan h link stream (option_and_then (site_of_requester plan link) owner)
 t_is plan fs h link stream None stands = refl
 t_is plan fs h link stream (Some rid) stands =
     ap (λ (o : Option (Site × Face)). option_map_or
     (λ (y : Site × Face). is_run y.1.tdi.state && (y.0.plan.stream == stream)) o false)
     (requester_is plan h link rid fs stands.faces)
-    ∙ t_says plan h link stream (site_with plan link rid)
+    ∙ t_says plan h link stream (site_of_requester plan link rid)
 
 peer_says : (plan : Plan) (h : History) (stream : ℕ) (o : Option Site)
     → option_map_or (λ (y : Site × Face). is_run y.1.tdi.state && binds stream y.1.tdi.bindings)
@@ -121,13 +122,13 @@ peer_says plan h stream None = refl
 peer_says plan h stream (Some x) = refl
 
 peer_is : (plan : Plan) (fs : Faces) (h : History) (link stream : ℕ) (owner : Option ℕ) → FacesStandFor plan fs h
-    → peer_t_of plan fs link stream owner ≡ peer_t plan h (option_and_then (site_with plan link) owner) stream
+    → peer_t_of plan fs link stream owner ≡ peer_t plan h (option_and_then (site_of_requester plan link) owner) stream
 peer_is plan fs h link stream None stands = refl
 peer_is plan fs h link stream (Some rid) stands =
     ap (λ (o : Option (Site × Face)). option_map_or
     (λ (y : Site × Face). is_run y.1.tdi.state && binds stream y.1.tdi.bindings) o false)
     (requester_is plan h link rid fs stands.faces)
-    ∙ peer_says plan h stream (site_with plan link rid)
+    ∙ peer_says plan h stream (site_of_requester plan link rid)
 
 grant_says : (plan : Plan) (h : History) (o : Option Site)
     → option_and_then (λ (y : Site × Face). bound_if y.1.managed.view y.0.plan.stream y.1.managed.floor)
@@ -140,7 +141,7 @@ grant_is : (plan : Plan) (fs : Faces) (h : History) (link requester : ℕ) → F
 grant_is plan fs h link requester stands =
     ap (option_and_then (λ (y : Site × Face). bound_if y.1.managed.view y.0.plan.stream y.1.managed.floor))
     (requester_is plan h link requester fs stands.faces)
-    ∙ grant_says plan h (site_with plan link requester)
+    ∙ grant_says plan h (site_of_requester plan link requester)
 
 pub faces_stand : FacesStand
 faces_stand = record

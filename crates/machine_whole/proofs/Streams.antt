@@ -21,7 +21,7 @@ use Rattle.spec_keys.specs.Operations.{StreamStage, Idle, Reach, reach_of, work_
 use Rattle.spec_keys.specs.Terms.{Operation}
 unfoldable use Rattle.spec_keys.specs.Due.{key_due}
 unfoldable use Rattle.spec_links.specs.Due.{due}
-use Rattle.machine_whole.specs.Interfaces.{Streams, Face, Faces, with_each, face_after, faces_after, EndsRead}
+use Rattle.machine_whole.specs.Interfaces.{Streams, Face, Faces, with_each, next_face, faces_after, EndsRead}
 use Rattle.machine_whole.specs.Interfaces.{asked_state_of_face, asked_due_of, answer_to, interface_answer, find_face}
 use Rattle.spec_interfaces.specs.Sites.{Site, sites}
 use Rattle.spec_interfaces.specs.Views.{Managed, managed_after, view_broken, stream_draw, is_bind_asked, number_in}
@@ -34,7 +34,8 @@ use Rattle.machine_whole.specs.Machine.{draw_after}
 use Rattle.machine_operations.proofs.Statuses.{status_is}
 use Rattle.machine_whole.specs.InterfacesStand.{streams_at, secure_of, ends_read}
 use Rattle.spec_interfaces.specs.Devices.{is_secure}
-use Rattle.machine_whole.specs.Machine.{Whole, op_or_idle, secure_in, live_if, live_draw_at_end, ends_in, whole_streams}
+use Rattle.machine_whole.specs.Machine.{Whole, op_or_idle, machine_secure, live_if, live_draw_at_end, ends_in}
+use Rattle.machine_whole.specs.Machine.{whole_streams}
 use Rattle.machine_whole.proofs.Accesses.{posted_draw_is}
 use Rattle.ide_types.specs.declared.port.PortName.{PortName}
 use Rattle.ide_types.specs.Lines.{peer_line}
@@ -122,7 +123,8 @@ ops_all plan st h stands line stream = ap op_or_idle (stands.ops_is line stream)
     by true = refl
     by false = refl
 
-pub secure_all : (plan : Plan) (st : LinkState) (h : History) → PortsStand plan st h → secure_in plan st ≡ secure_of h
+pub secure_all : (plan : Plan) (st : LinkState) (h : History) → PortsStand plan st h → machine_secure plan st
+    ≡ secure_of h
 secure_all plan st h stands = λ i line stream. is_secure (status_all plan st h stands Device line stream i)
 
 live_all : (plan : Plan) (st : LinkState) (h : History) → PortsStand plan st h → (end : PortName) (stream : ℕ)
@@ -179,15 +181,15 @@ managed_same plan h e w is x m = refl
 
 each_same : (plan : Plan) (h : History) (after : EndsRead) (used : ℕ → ℕ) (e : Event) (w : Verdict)
     → w ≡ due plan h e → (xs : List Site) (fs : List Face)
-    → with_each (face_after plan (seen_at plan h) after used e w) xs fs
-    ≡ with_each (face_after plan (streams_at h) after used e w) xs fs
+    → with_each (next_face plan (seen_at plan h) after used e w) xs fs
+    ≡ with_each (next_face plan (streams_at h) after used e w) xs fs
 each_same plan h after used e w is [] fs = refl
 each_same plan h after used e w is (x ∷ xs) [] = refl
 each_same plan h after used e w is (x ∷ xs) (f ∷ fs) =
     let first = managed_same plan h e w is x f.managed in
     let rest = each_same plan h after used e w is xs fs in
     λ i. record {
-      tdi = (face_after plan (streams_at h) after used e w x f).tdi;
+      tdi = (next_face plan (streams_at h) after used e w x f).tdi;
       managed = first i;
     } ∷ rest i
 

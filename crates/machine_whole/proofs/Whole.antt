@@ -34,7 +34,7 @@ unfoldable use Rattle.spec_links.specs.Guarded.{link_happenings}
 use Rattle.spec_links.specs.Guarded.{mmio_by, happens_by}
 use Rattle.spec_interfaces.specs.{newest_happened}
 unfoldable use Rattle.spec_interfaces.specs.Floors.{device_floor}
-use Rattle.spec_interfaces.specs.Sites.{sites, site_with}
+use Rattle.spec_interfaces.specs.Sites.{sites, site_of_requester}
 use Rattle.spec_links.specs.{WaitingRead}
 unfoldable use Rattle.spec_links.specs.{completion_bytes}
 use Rattle.link_events.specs.declared.event.AccessEvent.TheVariants as ae
@@ -43,29 +43,29 @@ use Rattle.spec_links.proofs.HopFirst.{drop_first}
 use Rattle.law_reads.proofs.Oldest.{bytes_are}
 unfoldable use Rattle.spec_links.specs.Memory.{writes}
 use Rattle.trusted_memory.specs.Writes.{Write, newest_first}
-unfoldable use Rattle.trusted_memory.specs.Writes.{byte_after}
+unfoldable use Rattle.trusted_memory.specs.Writes.{byte_last_written}
 use Rattle.trusted_memory.specs.Regions.{in_one_region}
 use Rattle.trusted_memory.specs.Memory.{bytes_from}
 use Rattle.link_events.specs.declared.event.InterfaceEvent.TheVariants as ie
 use Rattle.machine_operations.specs.{BesidePorts, LinkState, step_of, beside_at, PortsStandFor, forward_of}
 use Rattle.machine_operations.proofs.AllSteps.{steps}
 use Rattle.machine_operations.proofs.Resets.{begins as first}
-use Rattle.machine_whole.specs.Machine.{Whole, t_by, t_kept, memory_shown, written_after, beside_of, whole_streams}
+use Rattle.machine_whole.specs.Machine.{Whole, t_at_side, t_kept, memory_shown, written_after, beside_of, whole_streams}
 use Rattle.machine_whole.specs.Machine.{draw_after, policy_of, completion_from_memory, machine_completion, ended_unit}
 use Rattle.machine_whole.specs.Machine.{whole_faces_after, whole_after}
 use Rattle.machine_whole.specs.Accesses.{face_statuses, waiting_reads_after, accesses_after, unit_tlps}
-use Rattle.machine_whole.specs.Stands.{AccessesStandFor, StandsFor, WholeBegins, WholeSteps}
+use Rattle.machine_whole.specs.Stands.{AccessesStandFor, WholeStandsFor, WholeBegins, WholeSteps}
 use Rattle.machine_whole.proofs.Units.{unit_is}
 use Rattle.machine_whole.proofs.Streams.{answer_same, draw_same, ends_all, faces_same, streams_are}
 unfoldable use Rattle.spec_links.specs.Hops.{accepted_tlps_in, forwarded_count}
 use Rattle.law_reads.specs.Waiting.{waiting_next}
-use Rattle.machine_whole.proofs.Accesses.{AreEnded, waiting_is, floors_are, standings_are, happened_is, carried_is}
+use Rattle.machine_whole.proofs.Accesses.{AreEnded, waiting_is, floors_are, statuses_are, happened_is, carried_is}
 
 -- ---- what the ports read of the interfaces
 
 t_by_says : (plan : Plan) (fs : Faces) (h : History) → FacesStandFor plan fs h
     → (port : PortName) (side : Side) (head : HeadView) (stream : ℕ) (trusted : Bool)
-    → t_by plan fs port side head stream trusted
+    → t_at_side plan fs port side head stream trusted
     ≡ t_due plan h port side (owner_site plan port.line head) stream trusted
 t_by_says plan fs h stands port Host head stream trusted = refl
 t_by_says plan fs h stands port Device head stream trusted = faces_stand.t plan fs h port.line stream (owner_id head)
@@ -81,7 +81,7 @@ t_says plan fs h stands port head stream trusted = by (at_switch plan port) (is_
         → (if switch then trusted
         else if late then peer_t_of plan fs (if late then (port_beside_end plan.peers port).line else port.line) stream
         (owner_id head)
-        else t_by plan fs port port.side head stream trusted)
+        else t_at_side plan fs port port.side head stream trusted)
         ≡ (if switch then trusted
         else if late then peer_t plan h (owner_site plan
         (if late then (port_beside_end plan.peers port).line else port.line)
@@ -96,10 +96,10 @@ t_says plan fs h stands port head stream trusted = by (at_switch plan port) (is_
 memory_says : (plan : Plan) (h : History) (ws : List Write) → ws ≡ writes plan h → (e : InterfaceEvent)
     → memory_shown plan ws e ≡ memory_due plan h e
 memory_says plan h ws same (ie.Memory at len) = ap
-    (λ (xs : List Write). shown_if (in_one_region plan.memory at len) (bytes_from (byte_after xs) at len)) same
+    (λ (xs : List Write). shown_if (in_one_region plan.memory at len) (bytes_from (byte_last_written xs) at len)) same
 memory_says plan h ws same e = refl
 
-answer_says : (plan : Plan) (w : Whole) (h : History) → StandsFor plan w h → (e : InterfaceEvent)
+answer_says : (plan : Plan) (w : Whole) (h : History) → WholeStandsFor plan w h → (e : InterfaceEvent)
     → interface_answer plan (whole_streams plan w) w.faces e (memory_shown plan w.written e)
     ≡ due plan h (event.Interface e)
 unfolding due
@@ -112,27 +112,28 @@ answer_says plan w h stands e =
 grants_are : (plan : Plan) (fs : Faces) (h : History) → FacesStandFor plan fs h → grant_of plan fs ≡ grant_at plan h
 grants_are plan fs h stands = λ i link requester. faces_stand.grant plan fs h link requester stands i
 
-policy_is : (plan : Plan) (w : Whole) (h : History) → StandsFor plan w h → policy_of plan w ≡ policy_at plan h
+policy_is : (plan : Plan) (w : Whole) (h : History) → WholeStandsFor plan w h → policy_of plan w ≡ policy_at plan h
 policy_is plan w h stands = λ i. record {
   grants = grants_are plan w.faces h stands.faces i;
   waiting = λ link. length (stands.accesses.waiting link i);
-  standings = λ link. standings_are plan h w.faces.list w.accesses.floors stands.faces.faces stands.accesses.floors
+  statuses = λ link. statuses_are plan h w.faces.list w.accesses.floors stands.faces.faces stands.accesses.floors
       link i;
 }
 
 -- the completion of the first of the reads that wait is what an answer seals
-completed_is : (plan : Plan) (w : Whole) (h : History) → StandsFor plan w h → (link : ℕ) (rs : List WaitingRead)
+completed_is : (plan : Plan) (w : Whole) (h : History) → WholeStandsFor plan w h → (link : ℕ) (rs : List WaitingRead)
     → waiting_reads plan h link ≡ rs → completion_first plan (grant_of plan w.faces) (completion_from_memory w) link rs
     ≡ completion_first plan (grant_at plan h) (λ r. sent_bytes plan h (event.Access (ae.Answer link))) link rs
 completed_is plan w h stands link [] waits = refl
 completed_is plan w h stands link (r ∷ rs) waits =
     let oldest = drop_first (reads_taken h link) (queued_reads plan h link) r rs waits in
-    let bytes = ap (λ (ws : List Write). completion_bytes (byte_after ws) r.read) stands.written
+    let bytes = ap (λ (ws : List Write). completion_bytes (byte_last_written ws) r.read) stands.written
     ∙ sym (bytes_are plan h link r stands.links.ports_stand.cause oldest) in
     λ i. site_completion plan link r.draw (bytes i)
-    (grants_are plan w.faces h stands.faces i link r.read.requester) (site_with plan link r.read.requester)
+    (grants_are plan w.faces h stands.faces i link r.read.requester) (site_of_requester plan link r.read.requester)
 
-reply_is : (plan : Plan) (w : Whole) (h : History) → StandsFor plan w h → (link : ℕ) → machine_completion plan w link
+reply_is : (plan : Plan) (w : Whole) (h : History) → WholeStandsFor plan w h → (link : ℕ)
+    → machine_completion plan w link
     ≡ link_completion plan (grant_at plan h) (λ r. sent_bytes plan h (event.Access (ae.Answer link))) link
     (waiting_reads plan h link)
 reply_is plan w h stands link =
@@ -149,7 +150,7 @@ reply_is plan w h stands link =
     by true = completed_is plan w h stands link (waiting_reads plan h link) refl
     by false = refl
 
-beside_is : (plan : Plan) (w : Whole) (h : History) → StandsFor plan w h → beside_of plan w ≡ beside_at plan h
+beside_is : (plan : Plan) (w : Whole) (h : History) → WholeStandsFor plan w h → beside_of plan w ≡ beside_at plan h
 beside_is plan w h stands = λ i. record {
   t = λ port head stream trusted. t_says plan w.faces h stands.faces port head stream trusted i;
   effects = λ port. effects_under_policy plan (policy_is plan w h stands i) (port_of plan port);
@@ -170,7 +171,8 @@ draw_is h e w = refl
 
 -- ---- memory
 
-written_is : (plan : Plan) (w : Whole) (h : History) (e : Event) (x : Verdict) → StandsFor plan w h → x ≡ due plan h e
+written_is : (plan : Plan) (w : Whole) (h : History) (e : Event) (x : Verdict) → WholeStandsFor plan w h → x
+    ≡ due plan h e
     → written_after plan w e x ≡ writes plan ((e, x) ∷ h)
 unfolding writes
 written_is plan w h e (v.Accepted port unit effects) stands is =
@@ -180,13 +182,15 @@ written_is plan w h e x stands is = stands.written
 
 -- ---- reads that wait, and the memory of devices' interfaces
 
-units_are : (plan : Plan) (w : Whole) (h : History) (e : Event) (x : Verdict) → StandsFor plan w h → x ≡ due plan h e
+units_are : (plan : Plan) (w : Whole) (h : History) (e : Event) (x : Verdict) → WholeStandsFor plan w h → x
+    ≡ due plan h e
     → AreEnded plan h (ended_unit plan w e) e x
 units_are plan w h e (v.Accepted port unit effects) stands is =
     unit_is plan w.links h e port unit effects stands.links.ports_stand is
 units_are plan w h e x stands is = tt
 
-accesses_are : (plan : Plan) (w : Whole) (h : History) (e : Event) (x : Verdict) (faces : Faces) → StandsFor plan w h
+accesses_are : (plan : Plan) (w : Whole) (h : History) (e : Event) (x : Verdict) (faces : Faces)
+    → WholeStandsFor plan w h
     → x ≡ due plan h e → FacesStandFor plan faces ((e, x) ∷ h)
     → AccessesStandFor plan (accesses_after plan w.links w.faces faces (ended_unit plan w e) e x w.accesses)
     ((e, x) ∷ h)
@@ -211,8 +215,8 @@ accesses_are plan w h e x faces stands is next =
 -- ---- one step
 
 after_stands : (plan : Plan) (w : Whole) (h : History) (e : Event) (x : Verdict) (links : LinkState)
-    → StandsFor plan w h → x ≡ due plan h e → PortsStandFor plan links ((e, x) ∷ h)
-    → StandsFor plan (whole_after plan w e x links) ((e, x) ∷ h)
+    → WholeStandsFor plan w h → x ≡ due plan h e → PortsStandFor plan links ((e, x) ∷ h)
+    → WholeStandsFor plan (whole_after plan w e x links) ((e, x) ∷ h)
 after_stands plan w h e x links stands is next =
     let streams = streams_are plan w h stands.links stands.draw in
     let faces : FacesStandFor plan (whole_faces_after plan w e x links) ((e, x) ∷ h) =
@@ -230,12 +234,12 @@ after_stands plan w h e x links stands is next =
     }
 
 at_step : (plan : Plan) (w : Whole) (h : History) (e : Event) (b : BesidePorts) → b ≡ beside_at plan h
-    → StandsFor plan w h → ((step_of plan b w.links e).0 ≡ due plan h e) × StandsFor plan
+    → WholeStandsFor plan w h → ((step_of plan b w.links e).0 ≡ due plan h e) × WholeStandsFor plan
     (whole_after plan w e (step_of plan b w.links e).0 (step_of plan b w.links e).1)
     ((e, (step_of plan b w.links e).0) ∷ h)
 at_step plan w h e b same stands =
     subst (λ (c : BesidePorts). ((step_of plan c w.links e).0 ≡ due plan h e)
-    × StandsFor plan (whole_after plan w e (step_of plan c w.links e).0 (step_of plan c w.links e).1)
+    × WholeStandsFor plan (whole_after plan w e (step_of plan c w.links e).0 (step_of plan c w.links e).1)
     ((e, (step_of plan c w.links e).0) ∷ h))
     (sym same)
     (let next = steps plan w.links h e stands.links in (

@@ -14,7 +14,7 @@ use Rattle.link_verdicts.specs.declared.verdict.Verdict.TheVariants as v
 use Rattle.link_verdicts.specs.declared.access.AccessVerdict.TheVariants as av
 use Rattle.spec_interfaces.specs.Sites.{Site, sites}
 use Rattle.spec_interfaces.specs.Devices.{is_run}
-use Rattle.spec_interfaces.specs.Floors.{floor_after}
+use Rattle.spec_interfaces.specs.Floors.{floor_after_event}
 use Rattle.machine_whole.specs.Interfaces.{Face, Faces}
 use Rattle.spec_links.specs.{WaitingRead}
 use Rattle.spec_interfaces.specs.{InterfaceStatus, interface_status, Happened, newest_happened}
@@ -79,7 +79,7 @@ device_draw_at plan st x = posted_draw_at plan st (port_at Device x.link) x.plan
 -- by what is kept of the interfaces before the event, and after it
 abbrev pub floors_after : Event → (Site → ℕ) → List Site → List Face → List Face → List ℕ → List ℕ
 floors_after e draw (x ∷ xs) (f ∷ fs) (g ∷ gs) (n ∷ ns) =
-    floor_after e x (is_run f.tdi.state) (is_run g.tdi.state) (draw x) n ∷ floors_after e draw xs fs gs ns
+    floor_after_event e x (is_run f.tdi.state) (is_run g.tdi.state) (draw x) n ∷ floors_after e draw xs fs gs ns
 floors_after e draw _ _ _ _ = []
 
 -- by the ports before the event

@@ -67,8 +67,8 @@ pub record EndsRead : Type 0 where
   pub secure : ℕ → ℕ → Bool
   pub live : PortName → ℕ → Option ℕ
 
-abbrev pub ends_of : Streams → EndsRead
-ends_of s = record { secure = s.secure; live = s.live }
+abbrev pub ends_of_streams : Streams → EndsRead
+ends_of_streams s = record { secure = s.secure; live = s.live }
 
 -- a stream that an interface is bound to is Secure at the device by the one reading, and not by the other
 abbrev pub left_by : Plan → Streams → EndsRead → Site → Tdi → Bool
@@ -77,8 +77,8 @@ left_by plan s after x tdi =
     || any_leaves (live_by_id s.live plan.peers x.link) (live_by_id after.live plan.peers x.link) tdi.bindings
 
 -- `after` is what is read after the event
-abbrev pub face_after : Plan → Streams → EndsRead → (ℕ → ℕ) → Event → Verdict → Site → Face → Face
-face_after plan s after used e w x f = record {
+abbrev pub next_face : Plan → Streams → EndsRead → (ℕ → ℕ) → Event → Verdict → Site → Face → Face
+next_face plan s after used e w x f = record {
   tdi = next_interface (around_of plan s used x f) (left_by plan s after x f.tdi) x e w f.tdi;
   managed = managed_after s.op s.drawn x e w f.managed;
 }
@@ -91,7 +91,7 @@ is_true b = b
 
 abbrev pub faces_after : Plan → Streams → EndsRead → Event → Verdict → Faces → Faces
 faces_after plan s after e w fs = record {
-  list = with_each (face_after plan s after fs.used e w) (sites plan) fs.list;
+  list = with_each (next_face plan s after fs.used e w) (sites plan) fs.list;
   used = λ link. fs.used link
       + one_if (list_any is_true (with_each (gives_nonce plan s fs.used e w link) (sites plan) fs.list));
 }

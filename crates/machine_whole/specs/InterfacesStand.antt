@@ -2,7 +2,7 @@
 use Rattle.std.specs.Prelude.{◌≡◌, ℕ, ◌∷◌, Bool, [], map, Option}
 use Rattle.spec_interfaces.specs.Terms.{option_and_then, Host, Device, Plan, Event, InterfaceEvent, Verdict, History}
 use Rattle.spec_interfaces.specs.Terms.{op_of, draws, history_status}
-use Rattle.spec_interfaces.specs.Sites.{Site, sites, site_with}
+use Rattle.spec_interfaces.specs.Sites.{Site, sites, site_of_requester}
 use Rattle.spec_interfaces.specs.Views.{managed_view, stream_draw, grant_at}
 use Rattle.spec_interfaces.specs.Devices.{interface_at, used_at, is_secure, sets_t, peer_t}
 use Rattle.spec_interfaces.specs.Due.{interface_verdict_due}
@@ -45,8 +45,8 @@ pub record FacesStand : Type 0 where
   pub answer : (plan : Plan) (fs : Faces) (h : History) (e : InterfaceEvent) (given : Verdict) → FacesStandFor plan fs h
       → interface_answer plan (streams_at h) fs e given ≡ interface_verdict_due plan h e given
   pub t : (plan : Plan) (fs : Faces) (h : History) (link stream : ℕ) (owner : Option ℕ) → FacesStandFor plan fs h
-      → t_of plan fs link stream owner ≡ sets_t plan h link stream (option_and_then (site_with plan link) owner)
+      → t_of plan fs link stream owner ≡ sets_t plan h link stream (option_and_then (site_of_requester plan link) owner)
   pub peer : (plan : Plan) (fs : Faces) (h : History) (link stream : ℕ) (owner : Option ℕ) → FacesStandFor plan fs h
-      → peer_t_of plan fs link stream owner ≡ peer_t plan h (option_and_then (site_with plan link) owner) stream
+      → peer_t_of plan fs link stream owner ≡ peer_t plan h (option_and_then (site_of_requester plan link) owner) stream
   pub grant : (plan : Plan) (fs : Faces) (h : History) (link requester : ℕ) → FacesStandFor plan fs h
       → grant_of plan fs link requester ≡ grant_at plan h link requester

@@ -28,7 +28,7 @@ use Rattle.spec_links.specs.Plan.{has_port, aggregation_of, is_closed}
 use Rattle.spec_links.specs.Ports.{port_of, at_switch}
 use Rattle.spec_links.specs.Packets.{arrival_at}
 use Rattle.trusted_memory.specs.Writes.{Write, newest_first}
-unfoldable use Rattle.trusted_memory.specs.Writes.{byte_after}
+unfoldable use Rattle.trusted_memory.specs.Writes.{byte_last_written}
 use Rattle.trusted_memory.specs.Regions.{in_one_region}
 use Rattle.trusted_memory.specs.Memory.{bytes_from}
 use Rattle.ide_prefix.specs.declared.fault.PacketFault.{PacketFault}
@@ -65,8 +65,8 @@ abbrev pub op_or_idle : Option StreamStage → StreamStage
 op_or_idle None = Idle
 op_or_idle (Some q) = q
 
-abbrev pub secure_in : Plan → LinkState → ℕ → ℕ → Bool
-secure_in plan st link stream = is_secure (machine_status plan st Device link stream)
+abbrev pub machine_secure : Plan → LinkState → ℕ → ℕ → Bool
+machine_secure plan st link stream = is_secure (machine_status plan st Device link stream)
 
 -- the draw that is Live where an end receives posted requests, if the stream is Secure there
 abbrev pub live_if : Bool → ℕ → Option ℕ
@@ -77,11 +77,11 @@ live_draw_at_end plan st end stream =
     live_if (is_secure (machine_status plan st end.side end.line stream)) (posted_draw_at plan st end stream)
 
 abbrev pub ends_in : Plan → LinkState → EndsRead
-ends_in plan st = record { secure = secure_in plan st; live = live_draw_at_end plan st }
+ends_in plan st = record { secure = machine_secure plan st; live = live_draw_at_end plan st }
 
 abbrev pub whole_streams : Plan → Whole → Streams
 whole_streams plan w = record {
-  secure = secure_in plan w.links;
+  secure = machine_secure plan w.links;
   live = live_draw_at_end plan w.links;
   host = λ line stream. machine_status plan w.links Host line stream;
   draw = w.draw;
@@ -89,23 +89,23 @@ whole_streams plan w = record {
   drawn = w.links.draws;
 }
 
-abbrev pub t_by : Plan → Faces → PortName → Side → HeadView → ℕ → Bool → Bool
-t_by plan fs port Host head stream trusted = trusted
-t_by plan fs port Device head stream trusted = t_of plan fs port.line stream (owner_id head)
+abbrev pub t_at_side : Plan → Faces → PortName → Side → HeadView → ℕ → Bool → Bool
+t_at_side plan fs port Host head stream trusted = trusted
+t_at_side plan fs port Device head stream trusted = t_of plan fs port.line stream (owner_id head)
 
 -- T of a TLP that an end seals on a stream
 abbrev pub t_kept : Plan → Faces → PortName → HeadView → ℕ → Bool → Bool
 t_kept plan fs end head stream trusted =
     if at_switch plan end then trusted
     else if is_peer plan end then peer_t_of plan fs (owners_link plan end) stream (owner_id head)
-    else t_by plan fs end end.side head stream trusted
+    else t_at_side plan fs end end.side head stream trusted
 
 -- ---- memory
 
 -- what is shown of memory
 abbrev pub memory_shown : Plan → List Write → InterfaceEvent → Verdict
 memory_shown plan written (ie.Memory at len) =
-    shown_if (in_one_region plan.memory at len) (bytes_from (byte_after written) at len)
+    shown_if (in_one_region plan.memory at len) (bytes_from (byte_last_written written) at len)
 memory_shown plan written e = v.Nothing
 
 -- what an event brings
@@ -143,12 +143,12 @@ abbrev pub policy_of : Plan → Whole → Policy
 policy_of plan w = record {
   grants = grant_of plan w.faces;
   waiting = λ link. length (w.accesses.waiting link);
-  standings = λ link. face_statuses link (sites plan) w.faces.list w.accesses.floors;
+  statuses = λ link. face_statuses link (sites plan) w.faces.list w.accesses.floors;
 }
 
 -- the completion of a read, from memory as it is now
 abbrev pub completion_from_memory : Whole → WaitingRead → List ℕ
-completion_from_memory w r = completion_bytes (byte_after w.written) r.read
+completion_from_memory w r = completion_bytes (byte_last_written w.written) r.read
 
 abbrev pub machine_completion : Plan → Whole → ℕ → Result BoundCompletion Verdict
 machine_completion plan w link = link_completion plan (grant_of plan w.faces) (completion_from_memory w) link

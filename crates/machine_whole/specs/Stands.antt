@@ -21,7 +21,7 @@ pub record AccessesStandFor (plan : Plan) (a : Accesses) (h : History) : Type 0 
   pub happened : (link : ℕ) → a.happened link ≡ link_happenings plan h link
   pub carried : (link : ℕ) (d : Direction) → a.carried link d ≡ hop_waiting plan h link d
 
-pub record StandsFor (plan : Plan) (w : Whole) (h : History) : Type 0 where
+pub record WholeStandsFor (plan : Plan) (w : Whole) (h : History) : Type 0 where
   pub links : PortsStandFor plan w.links h
   pub faces : FacesStandFor plan w.faces h
   pub draw : w.draw ≡ stream_draw h
@@ -29,10 +29,10 @@ pub record StandsFor (plan : Plan) (w : Whole) (h : History) : Type 0 where
   pub accesses : AccessesStandFor plan w.accesses h
 
 abbrev pub WholeBegins : Type 0
-WholeBegins = (plan : Plan) → StandsFor plan (new_whole plan) []
+WholeBegins = (plan : Plan) → WholeStandsFor plan (new_whole plan) []
 
 abbrev pub WholeSteps : Type 0
 WholeSteps =
-    (plan : Plan) (w : Whole) (h : History) (e : Event) → StandsFor plan w h
-    → ((whole_step plan w e).0 ≡ due plan h e) × StandsFor plan (whole_step plan w e).1
+    (plan : Plan) (w : Whole) (h : History) (e : Event) → WholeStandsFor plan w h
+    → ((whole_step plan w e).0 ≡ due plan h e) × WholeStandsFor plan (whole_step plan w e).1
     ((e, (whole_step plan w e).0) ∷ h)

@@ -10,10 +10,11 @@ use Rattle.script_events.specs.declared.numbers.Numbers.{Numbers}
 use Rattle.script_events.specs.declared.round.Round.{Round}
 use Rattle.script_events.specs.declared.step.Step.{Step}
 use Rattle.script_events.specs.declared.step.Step.TheVariants as step
-use Rattle.script_events.specs.GeneratedEvents.{RoundFits, arrival, byte_with_weight, event_rounds, events_from}
+use Rattle.script_events.specs.GeneratedEvents.{RoundFits, arrival, event_rounds, events_from}
 use Rattle.script_events.specs.GeneratedEvents.{first_numbers, following_number, generated_events, numbers_with_packet}
-use Rattle.script_events.specs.GeneratedEvents.{round_by, round_events, round_of, sending_round, setting_up, step_event}
-use Rattle.script_events.specs.GeneratedEvents.{value_of, write_at}
+use Rattle.script_events.specs.GeneratedEvents.{round_by_turn, round_events, round_of, sending_round, setting_up}
+use Rattle.script_events.specs.GeneratedEvents.{step_event, value_of, write_at}
+use Rattle.script_events.specs.GeneratedTopology.{byte_of_weight}
 use Rattle.script_events.specs.Forms.{IsForm}
 
 -- ---- numbers stay small
@@ -49,7 +50,7 @@ arrival_fits turn s near =
     fits_either (turn == 14) s _ _ (λ _. record { packets = omega arith; arriving = omega arith }) (λ _.
     record { packets = omega arith; arriving = omega (arith, near) }))
 
-by_turn_fits : (turn : ℕ) (s : Numbers) → s.arriving ≤ s.packets + 1 → RoundFits s (round_by turn s)
+by_turn_fits : (turn : ℕ) (s : Numbers) → s.arriving ≤ s.packets + 1 → RoundFits s (round_by_turn turn s)
 by_turn_fits turn s near =
     fits_either (nat_lt turn 8) s _ _ (λ _. sending_fits s near) (λ _.
     fits_either (turn == 13) s _ _ (λ _. record { packets = omega arith; arriving = near }) (λ _.
@@ -72,7 +73,7 @@ either : (b : Bool) (r s : Round) → IsForm r.event → IsForm s.event → IsFo
 either true r s first second = first
 either false r s first second = second
 
-small : (n weight : ℕ) → byte_with_weight n weight < 256
+small : (n weight : ℕ) → byte_of_weight n weight < 256
 small n weight = omega arith
 
 write_bytes_are : (address value : ℕ) → AllByRecursion (λ b. b < 256) (write_at address value)
@@ -116,7 +117,7 @@ write_bytes_are address value =
 arrival_form : (turn : ℕ) (s : Numbers) → s.arriving < 2 ^ 64 → IsForm (arrival turn s).event
 arrival_form turn s few = either (nat_lt turn 13) _ _ few (either (turn == 14) _ _ (few, refl, refl) (few, refl))
 
-round_form : (turn : ℕ) (s : Numbers) → s.arriving < 2 ^ 64 → IsForm (round_by turn s).event
+round_form : (turn : ℕ) (s : Numbers) → s.arriving < 2 ^ 64 → IsForm (round_by_turn turn s).event
 round_form turn s few =
     either (nat_lt turn 8) _ _ (refl, refl, write_bytes_are _ _, refl, refl)
     (either (turn == 13) _ _ (refl, refl, refl)

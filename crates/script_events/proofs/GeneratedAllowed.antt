@@ -11,7 +11,7 @@ use Rattle.script_events.specs.declared.step.Step.TheVariants as step
 use Rattle.script_events.specs.declared.round.Round.{Round}
 use Rattle.script_events.specs.GeneratedEvents.{arrival, events_from, following_number, value_of, round_events}
 use Rattle.script_events.specs.GeneratedEvents.{first_numbers}
-use Rattle.script_events.specs.GeneratedEvents.{generated_events, round_by, round_of, event_rounds, setting_up}
+use Rattle.script_events.specs.GeneratedEvents.{generated_events, round_by_turn, round_of, event_rounds, setting_up}
 
 -- ---- each is allowed
 
@@ -22,7 +22,7 @@ either false r s first second = second
 arrival_allowed : (turn : ℕ) (s : Numbers) → IsAllowed (arrival turn s).event
 arrival_allowed turn s = either (nat_lt turn 13) _ _ tt (either (turn == 14) _ _ tt tt)
 
-round_allowed : (turn : ℕ) (s : Numbers) → IsAllowed (round_by turn s).event
+round_allowed : (turn : ℕ) (s : Numbers) → IsAllowed (round_by_turn turn s).event
 round_allowed turn s =
     either (nat_lt turn 8) _ _ (refl, (λ asked. absurd cc), lit≤ tt)
     (either (turn == 13) _ _ tt

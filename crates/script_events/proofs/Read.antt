@@ -15,7 +15,7 @@ use Rattle.ide_types.specs.declared.plan.Plan.{Plan}
 use Rattle.script_events.specs.GeneratedTopology.{the_interface, the_link, the_plan, the_stream}
 use Rattle.topology.specs.declared.draft.LinkDraft.{LinkDraft}
 use Rattle.topology.specs.declared.draft.PlanDraft.{PlanDraft}
-use Rattle.topology.specs.Meaning.{plan_in}
+use Rattle.topology.specs.Meaning.{table_plan}
 use Rattle.topology.specs.Rules.{hop_rules, link_rules, pair_from, peer_rules, rules}
 use Rattle.topology.specs.Tables.{bar_keys, interface_keys, link_keys, region_keys, stream_keys, top_keys}
 use Rattle.script_events.proofs.TextKeys.{Apart, Differ, Key, Keys}
@@ -126,7 +126,7 @@ plan_with pool nonces = record the_plan { pool = pool; links = (record the_link 
 
 pub plan_read : (pool nonces : List (List ℕ)) → Keys pool → Keys nonces → Differ pool → 6 ≤ length pool
     → length pool ≤ 6144 → length pool % 6 ≡ 0 → length nonces ≤ 1024
-    → plan_in (table_with pool nonces) ≡ Ok (plan_with pool nonces)
+    → table_plan (table_with pool nonces) ≡ Ok (plan_with pool nonces)
 unfolding plan_draft link_draft
 plan_read pool nonces keys others differ enough few sixes most =
     rw (top_read pool nonces keys others enough few most, rules_hold pool nonces differ sixes) refl

@@ -9,6 +9,7 @@ use Rattle.script_events.specs.declared.numbers.Numbers.{Numbers}
 use Rattle.script_events.specs.declared.round.Round.{Round}
 use Rattle.script_events.specs.declared.step.Step.{Step}
 use Rattle.script_events.specs.declared.step.Step.TheVariants as step
+use Rattle.script_events.specs.GeneratedTopology.{byte_of_weight}
 
 -- ---- numbers: a linear congruence, and the upper 16 bits of each number
 
@@ -34,18 +35,14 @@ without_packets s = record s { arriving = s.packets + 1; posted = 0 }
 
 -- ---- events, of stream 5 of link 0, of interface 0 and of the memory at 10000000h
 
--- the byte of this weight
-abbrev pub byte_with_weight : ℕ → ℕ → ℕ
-byte_with_weight n weight = n / weight % 256
-
 -- a memory write of requester 0100h with a header of 3 double words and all 4 bytes of one double word enabled, which
 -- hold a value twice, at a place of 4,096 (PCI Express Base 6.0 section 2.2.7)
 abbrev pub write_at : ℕ → ℕ → List ℕ
 write_at address value =
-    64 ∷ 0 ∷ 0 ∷ 1 ∷ 1 ∷ 0 ∷ 0 ∷ 15 ∷ byte_with_weight address 16777216 ∷ byte_with_weight address 65536
-    ∷ byte_with_weight address 256
-    ∷ byte_with_weight address 1
-    ∷ byte_with_weight value 256 ∷ byte_with_weight value 1 ∷ byte_with_weight value 256 ∷ byte_with_weight value 1 ∷ []
+    64 ∷ 0 ∷ 0 ∷ 1 ∷ 1 ∷ 0 ∷ 0 ∷ 15 ∷ byte_of_weight address 16777216 ∷ byte_of_weight address 65536
+    ∷ byte_of_weight address 256
+    ∷ byte_of_weight address 1
+    ∷ byte_of_weight value 256 ∷ byte_of_weight value 1 ∷ byte_of_weight value 256 ∷ byte_of_weight value 1 ∷ []
 
 abbrev pub write_bytes : ℕ → ℕ → List ℕ
 write_bytes place value = write_at (268435456 + 4 * (place % 4096)) value
@@ -119,15 +116,15 @@ arrival turn s =
     else alone (cut_event s.arriving) s
 
 -- by the turn, of 16
-abbrev pub round_by : ℕ → Numbers → Round
-round_by turn s =
+abbrev pub round_by_turn : ℕ → Numbers → Round
+round_by_turn turn s =
     if nat_lt turn 8 then sending_round s
     else if turn == 13 then alone refresh s
     else if nat_lt s.packets s.arriving then alone shown_memory s
     else arrival turn s
 
 abbrev pub round_of : Numbers → Round
-round_of s = round_by (value_of (following_number s.x) % 16) (record s { x = following_number s.x })
+round_of s = round_by_turn (value_of (following_number s.x) % 16) (record s { x = following_number s.x })
 
 abbrev pub round_events : Round → List Event
 round_events r = r.event ∷ events_from r.ahead

@@ -1,10 +1,10 @@
 pub mod Terms
 pub mod Events
 pub mod Laws
+pub mod GeneratedTopology
 pub mod GeneratedEvents
 pub mod Forms
 pub mod Left
-pub mod GeneratedTopology
 pub mod ScriptText
 pub mod TopologyText
 pub mod TextLaws

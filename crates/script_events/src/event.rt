@@ -2,10 +2,8 @@
 
 ghost use Rattle.std.specs.Prelude.{◌≡◌, ◌<◌, IfSome};
 ghost use Rattle.script_events.specs.Events.{event_of as event_in, establish_event, refresh_event, stop_event};
-ghost use Rattle.script_events.specs.Events.{status_event, send_event, bind_event};
-ghost use Rattle.script_events.specs.Events.{unbind_event, forward_event, arrive_event, reset as reset_of};
-ghost use Rattle.script_events.specs.Events.{peer_event_in};
-ghost use Rattle.script_events.specs.Events.{hop_event_in};
+ghost use Rattle.script_events.specs.Events.{status_event, send_event, bind_event, unbind_event, forward_event};
+ghost use Rattle.script_events.specs.Events.{arrive_event, reset as reset_of, peer_event_in, hop_event_in};
 ghost use Rattle.script_events.specs.Laws.{EventsAreAllowed};
 
 use crate::resets::reset_ends;

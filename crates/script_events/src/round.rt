@@ -2,8 +2,7 @@
 
 ghost use Rattle.std.specs.Prelude.{◌≡◌, ◌<◌, ◌≤◌, ◌+◌, ◌/◌, ◌%◌, ◌^◌, None, IfOk};
 ghost use Rattle.script_events.specs.GeneratedEvents.{RoundFits, alter, arrival, cut_event, pass, refresh, round_of};
-ghost use Rattle.script_events.specs.GeneratedEvents.{sending_round};
-ghost use Rattle.script_events.specs.GeneratedEvents.{shown_memory, write_bytes};
+ghost use Rattle.script_events.specs.GeneratedEvents.{sending_round, shown_memory, write_bytes};
 
 use crate::numbers::{Numbers, following, value_of};
 use crate::step::Step;

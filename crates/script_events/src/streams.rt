@@ -5,8 +5,7 @@ ghost use Rattle.ide_types.specs.Plans.{has_stream_id};
 ghost use Rattle.ide_types.specs.Ends.{own_has_id, link_hop, is_planned_port as has_port_in};
 ghost use Rattle.ide_types.specs.Ends.{interface_link as link_of_interface};
 ghost use Rattle.script_events.specs.Events.{own_stream as own_stream_of, peer_stream as peer_stream_of};
-ghost use Rattle.script_events.specs.Events.{segment_stream};
-ghost use Rattle.script_events.specs.Events.{hop_stream as hop_stream_of, ends_at as ends_at_link};
+ghost use Rattle.script_events.specs.Events.{segment_stream, hop_stream as hop_stream_of, ends_at as ends_at_link};
 ghost use Rattle.script_events.specs.Events.{bound_stream as bound_stream_of};
 
 use ide_types::{HopPlan, LinkPlan, PeerPlan, Plan, PortName, StreamPlan, ValidPlan};

@@ -7,7 +7,7 @@ use Rattle.std.specs.Option.{option_and_then}
 use Rattle.spec_interfaces.specs.Terms.{AllByRecursion, Plan}
 use Rattle.ide_types.specs.declared.interface.InterfacePlan.{InterfacePlan}
 use Rattle.ide_types.specs.declared.plan.LinkPlan.{LinkPlan}
-use Rattle.spec_interfaces.specs.Sites.{Site, site_at, site_with, sites_of_links, sites_of_plans}
+use Rattle.spec_interfaces.specs.Sites.{Site, site_at, site_of_requester, sites_of_links, sites_of_plans}
 unfoldable use Rattle.spec_interfaces.specs.Sites.{sites}
 use Rattle.spec_interfaces.specs.Cause.{owner_id, owner_read}
 use Rattle.tlp_layout.specs.declared.tlp.Tlp.{Tlp}
@@ -51,7 +51,8 @@ unfolding sites
 number_on_link plan x known = found_below (length plan.links) (λ y. y.number == x.number) (sites plan) x
     (on_all (length plan.links) 0 0 plan.links (omega arith)) known
 
-with_on_link : (plan : Plan) (link : ℕ) (o : Option ℕ) (x : Site) → option_and_then (site_with plan link) o ≡ Some x
+with_on_link : (plan : Plan) (link : ℕ) (o : Option ℕ) (x : Site) → option_and_then (site_of_requester plan link) o
+    ≡ Some x
     → nat_lt x.link (length plan.links) ≡ true
 unfolding sites
 with_on_link plan link None x is = absurd cc

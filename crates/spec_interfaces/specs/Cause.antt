@@ -3,7 +3,7 @@ use Rattle.std.specs.Prelude.{◌≡◌, ℕ, ◌∷◌, Bool, false, if◌then�
 use Rattle.std.specs.Prelude.{nat_lt, length, not, ◌&&◌}
 use Rattle.spec_interfaces.specs.Terms.{AllByRecursion, option_and_then, Side, Host, Device, PortName, Plan, Event}
 use Rattle.spec_interfaces.specs.Terms.{Verdict, SealedPacket, History}
-use Rattle.spec_interfaces.specs.Sites.{Site, site_with}
+use Rattle.spec_interfaces.specs.Sites.{Site, site_of_requester}
 use Rattle.spec_interfaces.specs.Devices.{peer_t, sets_t}
 use Rattle.spec_interfaces.specs.Due.{interface_verdict_due}
 use Rattle.ide_types.specs.Ends.{port_beside_end}
@@ -24,7 +24,7 @@ owner_id head = id_of Device head.fields
 
 -- the interface of a link that owns a TLP
 abbrev pub owner_site : Plan → ℕ → HeadView → Option Site
-owner_site plan link head = option_and_then (site_with plan link) (owner_id head)
+owner_site plan link head = option_and_then (site_of_requester plan link) (owner_id head)
 
 abbrev pub owner_read : Plan → ℕ → Result Tlp TlpFault → Option Site
 owner_read plan link (Ok t) = owner_site plan link (header t)

@@ -5,8 +5,8 @@ use Rattle.std.specs.Prelude.{length, map, filter}
 use Rattle.spec_keys.specs.Places.{KeyPlace}
 use Rattle.spec_keys.specs.History.{place_keys}
 use Rattle.ide_types.specs.declared.sub.SubKind.TheVariants.{Pr}
-use Rattle.guarded_memory.specs.declared.standing.InterfaceStatus.{InterfaceStatus}
-use Rattle.guarded_memory.specs.Standings.{interface_status}
+use Rattle.guarded_memory.specs.declared.status.InterfaceStatus.{InterfaceStatus}
+use Rattle.guarded_memory.specs.Statuses.{interface_status}
 use Rattle.spec_interfaces.specs.Terms.{Device, Plan, LinkPlan, Event, History}
 use Rattle.spec_interfaces.specs.Sites.{Site, sites}
 pub use Rattle.spec_interfaces.specs.Peers.{greatest_on}
@@ -26,16 +26,16 @@ draw_at_device h x = greatest_on (place_keys h (posted_receiver x))
 -- ---- the floor
 
 -- the draw, at a start of the interface that brings it into RUN; at any other event as it was
-abbrev pub floor_after : Event → Site → Bool → Bool → ℕ → ℕ → ℕ
-floor_after (event.Interface (ie.Start i loss)) x ran runs draw floor =
+abbrev pub floor_after_event : Event → Site → Bool → Bool → ℕ → ℕ → ℕ
+floor_after_event (event.Interface (ie.Start i loss)) x ran runs draw floor =
     if (i == x.number) && (not ran && runs) then draw else floor
-floor_after e x ran runs draw floor = floor
+floor_after_event e x ran runs draw floor = floor
 
 -- the least draw that the device takes trusted writes to the interface under; 0 before its first start
 unfoldable pub device_floor : Plan → History → Site → ℕ
 device_floor plan [] x = 0
 device_floor plan ((e, w) ∷ h) x =
-    floor_after e x (runs_at plan h x) (runs_at plan ((e, w) ∷ h) x) (draw_at_device h x) (device_floor plan h x)
+    floor_after_event e x (runs_at plan h x) (runs_at plan ((e, w) ∷ h) x) (draw_at_device h x) (device_floor plan h x)
 
 -- ---- the interfaces of a link
 

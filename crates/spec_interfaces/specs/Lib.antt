@@ -12,6 +12,6 @@ pub use Rattle.guarded_memory.specs.Causes.{mmio_effect}
 pub use Rattle.guarded_memory.specs.Contents.{fits_range, page_counts}
 pub use Rattle.guarded_memory.specs.Happenings.{AllReset, Happened, InterfaceReset, InterfaceStopped, byte_shown}
 pub use Rattle.guarded_memory.specs.Happenings.{newest_happened}
-pub use Rattle.guarded_memory.specs.Standings.{interface_status}
+pub use Rattle.guarded_memory.specs.Statuses.{interface_status}
 pub use Rattle.guarded_memory.specs.Stored.{write_happened}
-pub use Rattle.guarded_memory.specs.declared.standing.InterfaceStatus.{InterfaceStatus}
+pub use Rattle.guarded_memory.specs.declared.status.InterfaceStatus.{InterfaceStatus}

@@ -26,8 +26,8 @@ abbrev pub site_at : Plan → ℕ → Option Site
 site_at plan i = find (λ x. x.number == i) (sites plan)
 
 -- the interface of a link that has a requester ID
-abbrev pub site_with : Plan → ℕ → ℕ → Option Site
-site_with plan link requester = find (λ x. (x.link == link) && (x.plan.requester == requester)) (sites plan)
+abbrev pub site_of_requester : Plan → ℕ → ℕ → Option Site
+site_of_requester plan link requester = find (λ x. (x.link == link) && (x.plan.requester == requester)) (sites plan)
 
 -- the nonces that the device of a link gives, in order
 abbrev pub nonces_of : Plan → ℕ → List (List ℕ)

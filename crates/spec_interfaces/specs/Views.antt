@@ -4,7 +4,7 @@ use Rattle.std.specs.Prelude.{slice_get, slice_set, replicate, is_some, unwrap_o
 use Rattle.spec_interfaces.specs.Terms.{Plan, View, Unlocked, Locked, Running, Doubt, Broken, Event, InterfaceEvent}
 use Rattle.spec_interfaces.specs.Terms.{Binding}
 use Rattle.spec_interfaces.specs.Terms.{Verdict, History, StreamStage, op_of, draws, work_of, reach_of, begins_keyed}
-use Rattle.spec_interfaces.specs.Sites.{Site, site_with}
+use Rattle.spec_interfaces.specs.Sites.{Site, site_of_requester}
 use Rattle.spec_interfaces.specs.Exchanges.{is_lost_at, is_asked_at, is_refused_at}
 use Rattle.link_events.specs.declared.event.Event.TheVariants as event
 use Rattle.link_events.specs.declared.event.InterfaceEvent.TheVariants as ie
@@ -187,4 +187,4 @@ granted_to h (Some x) = bound_if (view_at h x) x.plan.stream (floor_at h x)
 
 -- the bound stream and the floor of the interface of a link with this requester ID, if its view is Running
 abbrev pub grant_at : Plan → History → ℕ → ℕ → Option Binding
-grant_at plan h link requester = granted_to h (site_with plan link requester)
+grant_at plan h link requester = granted_to h (site_of_requester plan link requester)

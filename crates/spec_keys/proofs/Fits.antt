@@ -6,9 +6,9 @@ use Rattle.spec_keys.proofs.Terms.{◌≡◌, ℕ, ◌+◌, ◌<◌, ◌≤◌, 
 use Rattle.spec_keys.proofs.Terms.{nat_lt, not, if◌then◌else◌, SubKind, Side, Operation, KeyPlace, lane, is_local}
 use Rattle.spec_keys.proofs.Terms.{is_hosted, stop_exchange, Touch, Stop, Clear, Off, key_in, refuses, is_open, keys}
 use Rattle.spec_keys.proofs.Terms.{StreamStage, Idle, Establishing, Up, Refreshing, Stopping, Work, Reach, work}
-use Rattle.spec_keys.proofs.Terms.{last_exchange_of, op_after, op_ended, op_at_exchange, is_within, touches_if}
-use Rattle.spec_keys.proofs.Terms.{touches_after, program_exchange, go_exchange, from_at, below_at, keying_touches}
-use Rattle.spec_keys.proofs.Terms.{stopping_touches, uses, NeverFalls, not-not, nat_tests}
+use Rattle.spec_keys.proofs.Terms.{last_exchange_of, op_after_reach, op_ended, op_at_exchange, is_number_between}
+use Rattle.spec_keys.proofs.Terms.{touches_if, touches_after, program_exchange, go_exchange, from_at, below_at}
+use Rattle.spec_keys.proofs.Terms.{keying_touches, stopping_touches, uses, NeverFalls, not-not, nat_tests}
 use Rattle.link_verdicts.specs.declared.verdict.Operation.TheVariants as op
 use Rattle.spec_keys.proofs.Tests.{true-lt, false-lt}
 use Rattle.spec_keys.proofs.Shapes.{Marks, marks, draws_started, Shape, Bare, Alone, Both, keys_of, draws_used, IsAt}
@@ -116,7 +116,7 @@ turned_by_end : (w : Work) (r : Reach) (top : ℕ) (p : KeyPlace) (ts more : Lis
     → Fits (op_ended w) top (marks (touches_after ts more)) p sh)
     → ((sh : Shape) → r.acknowledged ≤ last_at p w.operation → P sh
     → Fits (op_at_exchange w r.acknowledged) top (marks (touches_after ts more)) p sh)
-    → Turned (op_after (is_hosted p.line) w r) top p ts more
+    → Turned (op_after_reach (is_hosted p.line) w r) top p ts more
 turned_by_end w r top p ts more P lands below ended standing = record
     { now = by_test (nat_lt (last_at p w.operation) r.acknowledged) refl; come = lands.come }
   where
@@ -170,7 +170,7 @@ establish_ends p ts j first begins c past reached takes from =
 pub establishes : (p : KeyPlace) (ts : List Touch) (j first : ℕ) (begins : Bool) (c : Reach) (top : ℕ) → j < top
     → Below ts top → Reached first (last_at p op.Establish) c → TakesKey (work op.Establish false j first begins) c p ts
     → RisesFrom false (work op.Establish false j first begins) p ts
-    → Turned (op_after (is_hosted p.line) (work op.Establish false j first begins) c) top p ts
+    → Turned (op_after_reach (is_hosted p.line) (work op.Establish false j first begins) c) top p ts
     (keying_touches (work op.Establish false j first begins) c p)
 establishes p ts j first begins c top lt below reached takes from =
     let w = work op.Establish false j first begins in
@@ -188,7 +188,7 @@ pub refreshes : (p : KeyPlace) (ts : List Touch) (k : Bool) (j first : ℕ) (beg
     → j < top → Below ts top → 1 ≤ first
     → Reached first (last_at p op.Refresh) c → TakesKey (work op.Refresh k j first begins) c p ts
     → RisesFrom true (work op.Refresh k j first begins) p ts
-    → Turned (op_after (is_hosted p.line) (work op.Refresh k j first begins) c) top p ts
+    → Turned (op_after_reach (is_hosted p.line) (work op.Refresh k j first begins) c) top p ts
     (keying_touches (work op.Refresh k j first begins) c p)
 refreshes p ts k j first begins c top lt below least reached takes from =
     let w = work op.Refresh k j first begins in
@@ -263,7 +263,7 @@ unfolding keys draws_used draws_started is_open
 at_stopping s ts f g sh is = grind (arith, stops)
 
 stopping_keys : (a n next below : ℕ) (sh : Shape) → Spans n next below → StopLeaves false a n sh
-    → StopLeaves false a next (stopped_shape (is_within n a below) (is_within n (a + 6) below) sh)
+    → StopLeaves false a next (stopped_shape (is_number_between n a below) (is_number_between n (a + 6) below) sh)
 stopping_keys a n next below sh spans stopped_there = grind (arith, nat_tests)
 
 stops_come : (s : Bool) (ts : List Touch) (f g : Bool) (sh : Shape) → IsAt s ts sh
@@ -278,8 +278,8 @@ stops_come s ts false g sh is = comes_if g s ts sh (Stop true) is tt
 stops_by : (local sends : Bool) (a : ℕ) (ts : List Touch) (first last : ℕ) (begins : Bool) (r : Reach)
     → Reached first last r → At sends ts (FindsStopped local a first begins)
     → Lands sends ts (if local then touches_if begins Clear
-    else touches_if (is_within first a r.carried) (Stop false)
-    ++ touches_if (is_within first (a + 6) r.carried) (Stop true))
+    else touches_if (is_number_between first a r.carried) (Stop false)
+    ++ touches_if (is_number_between first (a + 6) r.carried) (Stop true))
     (StopLeaves local a r.acknowledged)
 stops_by true sends a ts first last true r reached at = record {
   at = record { shape = Bare; is = clears sends ts; fits = refl };
@@ -298,7 +298,8 @@ stops_by false sends a ts first last begins r reached at =
         fits = stopping_keys a first r.acknowledged r.carried
             at.shape spans at.fits;
       };
-      come = stops_come sends ts (is_within first a r.carried) (is_within first (a + 6) r.carried) at.shape at.is;
+      come = stops_come sends ts (is_number_between first a r.carried) (is_number_between first (a + 6) r.carried)
+          at.shape at.is;
     }
 
 stopped_all : (local : Bool) (a n : ℕ) (sh : Shape) → a + 6 < n → StopLeaves local a n sh → sh ≡ Bare
@@ -311,7 +312,7 @@ below_stop w r p ts top below = grind arith
 
 pub stops_fit : (p : KeyPlace) (ts : List Touch) (first : ℕ) (begins : Bool) (r : Reach) (top : ℕ) → Below ts top
     → Reached first (last_at p op.Stop) r → At p.sends ts (FindsStopped (is_local p) (stop_exchange p) first begins)
-    → Turned (op_after (is_hosted p.line) (work op.Stop false 0 first begins) r) top p ts
+    → Turned (op_after_reach (is_hosted p.line) (work op.Stop false 0 first begins) r) top p ts
     (stopping_touches (work op.Stop false 0 first begins) r p)
 stops_fit p ts first begins r top below reached at =
     let w = work op.Stop false 0 first begins in

@@ -5,9 +5,9 @@ use Rattle.spec_keys.proofs.Terms.{KeyPlace, is_on_stream, is_local, Touch, Prog
 use Rattle.spec_keys.proofs.Terms.{Clear, Keyed, Off, Loaded, On, Keys, key_in, draw_of_keyed, on_in, keys_after_touch}
 use Rattle.spec_keys.proofs.Terms.{is_open, without_outlived, keys, StreamStage, Idle, Establishing, Up, Refreshing}
 use Rattle.spec_keys.proofs.Terms.{Stopping, Work, Reach, Manager, Begun, PortName, is_hosted, is_cleared, work_of}
-use Rattle.spec_keys.proofs.Terms.{reach_of, op_after, op_cut, begun_after_work, manager_after_operation, manager_after}
-use Rattle.spec_keys.proofs.Terms.{History, manager, begun_of_draw, touches_if, work_touches, on_it, seal_touches, came}
-use Rattle.spec_keys.proofs.Terms.{touches, touches_after, moments, nat_tests}
+use Rattle.spec_keys.proofs.Terms.{reach_of, op_after_reach, op_cut, begun_after_work, manager_after_operation}
+use Rattle.spec_keys.proofs.Terms.{manager_after, History, manager, begun_of_draw, touches_if, work_touches, on_it}
+use Rattle.spec_keys.proofs.Terms.{seal_touches, came, touches, touches_after, moments, nat_tests}
 use Rattle.link_events.specs.declared.event.Event.TheVariants as event
 use Rattle.link_verdicts.specs.declared.verdict.Operation.TheVariants as op
 use Rattle.link_verdicts.specs.declared.verdict.Verdict.TheVariants as v
@@ -92,7 +92,7 @@ work_is o q next = grind arith
 
 after_owned : (bs : List Begun) (line stream : ℕ) (o : Operation) (q : StreamStage) (r : Reach) (hosted : Bool)
     → OpOwned bs line stream q → OpOwned (begun_after_work bs line stream (work_of o q (length bs))) line stream
-    (op_after hosted (work_of o q (length bs)) r)
+    (op_after_reach hosted (work_of o q (length bs)) r)
 after_owned bs line stream o q r hosted owned = grind (arith, begun_now)
 
 abbrev pub OpsOwned : Manager → Type 0
@@ -116,7 +116,7 @@ operated_owned : (m : Manager) (o : Operation) (line stream : ℕ) (r : Option R
 operated_owned m o line stream None owned a b = owned a b
 operated_owned m o line stream (Some r) owned a b =
     by_stream a b (λ x y f. OpOwned (begun_after_work m.begun x y (work_of o (m.ops x y) (length m.begun))) a b
-    (if f then op_after (is_hosted x) (work_of o (m.ops x y) (length m.begun)) r else m.ops a b))
+    (if f then op_after_reach (is_hosted x) (work_of o (m.ops x y) (length m.begun)) r else m.ops a b))
     (after_owned m.begun a b o (m.ops a b) r (is_hosted a) (owned a b))
     (λ x y. op_longer m.begun _ (begun_longer m.begun x y (work_of o (m.ops x y) (length m.begun))) a b (m.ops a b)
     (owned a b)) line stream

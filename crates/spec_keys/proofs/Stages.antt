@@ -1,6 +1,6 @@
 -- How far a place has come in an establish or a refresh of draw j in set k.
 use Rattle.spec_keys.proofs.Terms.{◌≡◌, ℕ, ◌+◌, ◌<◌, ◌≤◌, ◌⊎◌, inl, inr, Bool, true, false, List, ◌∷◌, ◌++◌, refl}
-use Rattle.spec_keys.proofs.Terms.{arith, not, nat_tests, Touch, Program, Go, refuses, is_open, keys, is_within}
+use Rattle.spec_keys.proofs.Terms.{arith, not, nat_tests, Touch, Program, Go, refuses, is_open, keys, is_number_between}
 use Rattle.spec_keys.proofs.Terms.{touches_if, touches_after}
 use Rattle.spec_keys.proofs.Touches.{Programs, bare_programs, waiting_programs, other_programs, following_programs}
 use Rattle.spec_keys.proofs.Touches.{older_programs, Goes, waiting_goes, alone_goes, following_goes, both_goes}
@@ -104,14 +104,14 @@ pub record Spans (n next below : ℕ) : Type 0 where
 
 -- what the event touches
 abbrev pub rising_touches : (k : Bool) (j a b n below : ℕ) → List Touch
-rising_touches k j a b n below = touches_if (is_within n a below) (Program k j)
-    ++ touches_if (is_within n b below) (Go k j)
+rising_touches k j a b n below = touches_if (is_number_between n a below) (Program k j)
+    ++ touches_if (is_number_between n b below) (Go k j)
 
 abbrev Risen : (s r k : Bool) (j a b next : ℕ) → List Touch → List Touch → Type 0
 Risen s r k j a b next ts more = Lands s ts more (Rising r k j a b next (marks (touches_after ts more)))
 
 -- an event that gets no further than the KEY_PROG reaches no GO
-no_go : (n a b next below : ℕ) → a < b → Spans n next below → next ≤ a → is_within n b below ≡ false
+no_go : (n a b next below : ℕ) → a < b → Spans n next below → next ≤ a → is_number_between n b below ≡ false
 no_go n a b next below lt spans le = grind (arith, nat_tests)
 
 not_refused : (a next n : ℕ) (b : Bool) → n ≤ a → (n ≤ a → a < next → b ≡ false) → b ≡ true → next ≤ a
@@ -126,7 +126,7 @@ rises s r k j a b n next below ts lt spans takes at = by_stage at.shape at.is at
   where
     -- after the KEY_PROG
     half_way : (us : List Touch) → (sh : Shape) → IsAt s us sh → Half k j r sh → n ≤ b → (f : Bool)
-        → is_within n b below ≡ f → Risen s r k j a b next us (touches_if f (Go k j))
+        → is_number_between n b below ≡ f → Risen s r k j a b next us (touches_if f (Go k j))
     half_way us sh is h le false eq = record
         { at = record { shape = sh; is = is; fits = half sh (grind (arith, nat_tests)) h }; come = tt }
     half_way us sh is h le true eq =
@@ -146,38 +146,39 @@ rises s r k j a b n next below ts lt spans takes at = by_stage at.shape at.is at
 
     by_stage : (sh : Shape) → IsAt s ts sh → Rising r k j a b n (marks ts) sh
         → Risen s r k j a b next ts (rising_touches k j a b n below)
-    by_stage sh is (before _ le low rest) = by_test (is_within n a below) refl
+    by_stage sh is (before _ le low rest) = by_test (is_number_between n a below) refl
       where
         stays : (us : List Touch) → marks us ≡ marks ts → IsAt s us sh → next ≤ a
-            → Risen s r k j a b next us (touches_if (is_within n b below) (Go k j))
+            → Risen s r k j a b next us (touches_if (is_number_between n b below) (Go k j))
         stays us same at still =
             rw (no_go n a b next below lt spans still)
             (record { at = record { shape = sh; is = at; fits = rw same (before sh still low rest) }; come = tt })
 
         by_answer : At s (Program k j ∷ ts) (Half k j r) ⊎
             ((refuses s (keys s ts) k ≡ true) × IsAt s (Program k j ∷ ts) sh)
-            → Risen s r k j a b next (Program k j ∷ ts) (touches_if (is_within n b below) (Go k j))
+            → Risen s r k j a b next (Program k j ∷ ts) (touches_if (is_number_between n b below) (Go k j))
         by_answer (inl on) = half_way (Program k j ∷ ts) on.shape on.is on.fits (omega (arith, lt, le))
-            (is_within n b below) refl
+            (is_number_between n b below) refl
         by_answer (inr refused) = stays (Program k j ∷ ts) refl refused.1
             (not_refused a next n (refuses s (keys s ts) k) le takes refused.0)
 
-        by_test : (f : Bool) → is_within n a below ≡ f → Risen s r k j a b next ts
-            (touches_if f (Program k j) ++ touches_if (is_within n b below) (Go k j))
+        by_test : (f : Bool) → is_number_between n a below ≡ f → Risen s r k j a b next ts
+            (touches_if f (Program k j) ++ touches_if (is_number_between n b below) (Go k j))
         by_test false eq = stays ts refl is (grind (arith, nat_tests))
         by_test true eq = programs_first true sh is (rest_programs k j (marks ts) r sh rest) _
             (by_answer (programmed s r k j ts sh is low rest))
     by_stage sh is (half _ le h) =
-        programs_first (is_within n a below) sh is (half_programs k j r sh h) _
-        (half_way _ sh (programmed_again s r k (is_within n a below) j ts sh is h) h le (is_within n b below) refl)
+        programs_first (is_number_between n a below) sh is (half_programs k j r sh h) _
+        (half_way _ sh (programmed_again s r k (is_number_between n a below) j ts sh is h) h le
+        (is_number_between n b below) refl)
     by_stage sh is (full _ past h) =
-        let none : is_within n a below ≡ false = grind (arith, nat_tests) in
+        let none : is_number_between n a below ≡ false = grind (arith, nat_tests) in
         rw none (record {
           at = record {
             shape = sh;
-            is = gone_again s r k (is_within n b below) j ts sh is h;
+            is = gone_again s r k (is_number_between n b below) j ts sh is h;
             fits = full sh
                 (omega (arith, past, spans.forward)) h;
           };
-          come = comes_if (is_within n b below) s ts sh (Go k j) is (full_goes k j r sh h);
+          come = comes_if (is_number_between n b below) s ts sh (Go k j) is (full_goes k j r sh h);
         })

@@ -9,13 +9,13 @@ pub use Rattle.spec_keys.specs.Places.{is_cleared}
 pub use Rattle.ide_types.specs.Lines.{is_hosted}
 pub use Rattle.spec_keys.specs.Operations.{Begun, Establishing, Idle, Manager, StreamStage, Reach, Refreshing, Stopping}
 pub use Rattle.spec_keys.specs.Operations.{Up, Work, begun_after_work, last_exchange_of, makes_draw, manager_after}
-pub use Rattle.spec_keys.specs.Operations.{op_after, op_ended, op_cut, op_at_exchange, manager_after_operation, reach}
-pub use Rattle.spec_keys.specs.Operations.{reach_of, whole, work, work_of}
+pub use Rattle.spec_keys.specs.Operations.{op_after_reach, op_ended, op_cut, op_at_exchange, manager_after_operation}
+pub use Rattle.spec_keys.specs.Operations.{reach, reach_of, whole, work, work_of}
 pub use Rattle.spec_keys.specs.History.{History, begins_keyed, begun_of_draw, touches_after, below_at, came, draws}
 pub use Rattle.spec_keys.specs.History.{fails_there, from_at, go_exchange, has_all, has_key, keeps_live, is_sender}
-pub use Rattle.spec_keys.specs.History.{is_within, keying_touches, place_keys, kept_draw, draw_on_at, on_it, op_of}
-pub use Rattle.spec_keys.specs.History.{program_exchange, seal_touches, history_status, stop_exchange, stopping_touches}
-pub use Rattle.spec_keys.specs.History.{touches, touches_if, work_touches}
+pub use Rattle.spec_keys.specs.History.{is_number_between, keying_touches, place_keys, kept_draw, draw_on_at, on_it}
+pub use Rattle.spec_keys.specs.History.{op_of, program_exchange, seal_touches, history_status, stop_exchange}
+pub use Rattle.spec_keys.specs.History.{stopping_touches, touches, touches_if, work_touches}
 pub use Rattle.ide_types.specs.Ports.{keyed_status}
 unfoldable pub use Rattle.spec_keys.specs.History.{base, failed_there, manager, moments}
 pub use Rattle.spec_keys.specs.Laws.{KeyCauseLaw, GoesKept, SetGoFindsKey, KeyPlaceFacts, NeverAgain, NeverFalls}
@@ -30,7 +30,7 @@ pub use Rattle.spec_keys.specs.Keys.{without_outlived, slot_beside_other, slot_o
 unfoldable pub use Rattle.spec_keys.specs.Keys.{is_open, keys}
 pub use Rattle.std.proofs.Math.Bool.{and-false, not-not}
 pub use Rattle.std.proofs.lemmas.Bool.Decides.{nat_tests}
-pub use Rattle.spec_keys.specs.Due.{PortView, begun_with_draw, cut_at, finished_verdict, establish_on, first_from}
+pub use Rattle.spec_keys.specs.Due.{PortView, begun_if_pool_has, cut_at, finished_verdict, establish_on, first_from}
 pub use Rattle.spec_keys.specs.Due.{if_secure, is_live_sender, lost_message, operation_verdict, ports_at, refresh_on}
 pub use Rattle.spec_keys.specs.Due.{refusal_at, stays, first_status, may_establish, may_refresh, stop_on, unless_open}
 unfoldable pub use Rattle.spec_keys.specs.Due.{key_due}

@@ -9,9 +9,9 @@ use Rattle.spec_keys.proofs.Terms.{if◌then◌else◌, SubKind, Pr, Npr, Cpl, H
 use Rattle.spec_keys.proofs.Terms.{Verdict, KeyPlan, KeyPlace, is_same_side, is_same_sub, is_on_stream, Touch, Seal}
 use Rattle.spec_keys.proofs.Terms.{Accept, Clear, keys, refuses, is_live_draw, refusal_if, slot_of, StreamStage, Idle}
 use Rattle.spec_keys.proofs.Terms.{Establishing, Up, Refreshing, Work, Reach, Manager, Begun, work, work_of, reach_of}
-use Rattle.spec_keys.proofs.Terms.{op_after, begun_after_work, manager_after_operation, History, manager, op_of, draws}
-use Rattle.spec_keys.proofs.Terms.{work_touches, on_it, touches_if, is_sender, seal_touches, came, touches, moments}
-use Rattle.spec_keys.proofs.Terms.{history_status, PortView, ports_at, operation_verdict, begun_with_draw}
+use Rattle.spec_keys.proofs.Terms.{op_after_reach, begun_after_work, manager_after_operation, History, manager, op_of}
+use Rattle.spec_keys.proofs.Terms.{draws, work_touches, on_it, touches_if, is_sender, seal_touches, came, touches}
+use Rattle.spec_keys.proofs.Terms.{moments, history_status, PortView, ports_at, operation_verdict, begun_if_pool_has}
 use Rattle.spec_keys.proofs.Terms.{is_live_sender, unless_open, if_secure, establish_on, refresh_on, stop_on, key_due}
 use Rattle.spec_keys.proofs.Terms.{UsesFit, KeyCauseLaw, Side, Stopping, PortName, is_hosted, is_local}
 use Rattle.spec_keys.proofs.Terms.{is_between_devices, is_cut, is_cleared, op_cut, stop_exchange, list_any, ◌+◌}
@@ -35,7 +35,7 @@ use Rattle.spec_keys.proofs.Takes.{refresh_first_takes, refresh_again_takes}
 abbrev pub Turns : Operation → StreamStage → List Begun → ℕ → ℕ → KeyPlace → List Touch → Option Reach → Type 0
 Turns o q bs line stream p ts None = FitsAt q (length bs) p ts
 Turns o q bs line stream p ts (Some r) =
-    Turned (op_after (is_hosted line) (work_of o q (length bs)) r)
+    Turned (op_after_reach (is_hosted line) (work_of o q (length bs)) r)
     (length (begun_after_work bs line stream (work_of o q (length bs)))) p ts
     (work_touches (work_of o q (length bs)) (Some r) p)
 
@@ -72,8 +72,8 @@ establish_turns plan q bs ports p ts loss at = at
 -- a refresh of a stream that is up gets nowhere, or no Live key of the host's sender is in the set
 refresh_or : (plan : KeyPlan) (host : StreamStatus) (ports : PortView) (line stream next : ℕ) (set : Bool) (u : SubKind)
     (x : Verdict)
-    → (reach_of op.Refresh (if_secure host (unless_open ports line stream set (begun_with_draw plan next x))) ≡ None)
-    ⊎ ((if_secure host (unless_open ports line stream set (begun_with_draw plan next x)) ≡ x)
+    → (reach_of op.Refresh (if_secure host (unless_open ports line stream set (begun_if_pool_has plan next x))) ≡ None)
+    ⊎ ((if_secure host (unless_open ports line stream set (begun_if_pool_has plan next x)) ≡ x)
     × (is_live_sender ports line stream set u ≡ false))
 refresh_or plan host ports line stream next set Pr x = grind arith
 refresh_or plan host ports line stream next set Npr x = grind arith
@@ -159,7 +159,7 @@ operated_fits m o line stream None p ts turns at =
 operated_fits m o line stream (Some r) p ts turns at = by_test (is_on_stream p line stream) refl
   where
     by_test : (b : Bool) → is_on_stream p line stream ≡ b
-        → Turned (if b then op_after (is_hosted line) (work_of o (m.ops line stream) (length m.begun)) r
+        → Turned (if b then op_after_reach (is_hosted line) (work_of o (m.ops line stream) (length m.begun)) r
         else m.ops p.line p.stream)
         (length (begun_after_work m.begun line stream (work_of o (m.ops line stream) (length m.begun)))) p ts
         (on_it b (work_touches (work_of o (m.ops line stream) (length m.begun)) (Some r) p))

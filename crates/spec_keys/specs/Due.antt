@@ -79,8 +79,8 @@ operation_verdict ports line stream loss w = unwrap_or (stays ports line stream 
 
 -- ---- refusals at the beginning
 
-abbrev pub begun_with_draw : KeyPlan → ℕ → Verdict → Verdict
-begun_with_draw plan next verdict = if nat_lt next plan.pool then verdict else v.RefusedPoolEmpty next
+abbrev pub begun_if_pool_has : KeyPlan → ℕ → Verdict → Verdict
+begun_if_pool_has plan next verdict = if nat_lt next plan.pool then verdict else v.RefusedPoolEmpty next
 
 -- the sub-stream, PR first, whose Live key at the near sender is in the set that is to be programmed
 abbrev pub is_live_sender : PortView → ℕ → ℕ → Bool → SubKind → Bool
@@ -98,7 +98,7 @@ if_secure status.Secure verdict = verdict
 if_secure s verdict = v.RefusedNotSecure s
 
 abbrev pub may_establish : KeyPlan → ℕ → ℕ → StreamStage → Verdict → Verdict
-may_establish plan line next Idle verdict = begun_with_draw plan next verdict
+may_establish plan line next Idle verdict = begun_if_pool_has plan next verdict
 may_establish plan line next (Establishing j n) verdict = verdict
 may_establish plan line next (Up set j) verdict = v.RefusedNotIdle
 may_establish plan line next (Refreshing set j n) verdict = v.RefusedBusy (line_kind line) op.Refresh
@@ -108,7 +108,7 @@ abbrev pub may_refresh : KeyPlan → ℕ → ℕ → StreamStage → StreamStatu
 may_refresh plan line next Idle host unless_busy verdict = v.RefusedNotSecure host
 may_refresh plan line next (Establishing j n) host unless_busy verdict = v.RefusedBusy (line_kind line) op.Establish
 may_refresh plan line next (Up set j) host unless_busy verdict =
-    if_secure host (unless_busy (begun_with_draw plan next verdict))
+    if_secure host (unless_busy (begun_if_pool_has plan next verdict))
 may_refresh plan line next (Refreshing set j n) host unless_busy verdict = verdict
 may_refresh plan line next (Stopping n) host unless_busy verdict = v.RefusedBusy (line_kind line) op.Stop
 

@@ -86,8 +86,8 @@ from_at w p = if is_local p && w.begins then 0 else w.first
 abbrev pub below_at : Reach → KeyPlace → ℕ
 below_at r p = if is_local p then r.acknowledged else r.carried
 
-abbrev pub is_within : ℕ → ℕ → ℕ → Bool
-is_within from n below = nat_le from n && nat_lt n below
+abbrev pub is_number_between : ℕ → ℕ → ℕ → Bool
+is_number_between from n below = nat_le from n && nat_lt n below
 
 abbrev pub touches_if : Bool → Touch → List Touch
 touches_if true t = t ∷ []
@@ -96,15 +96,15 @@ touches_if false t = []
 -- of an establish and of a refresh
 abbrev pub keying_touches : Work → Reach → KeyPlace → List Touch
 keying_touches w r p =
-    touches_if (is_within (from_at w p) (program_exchange w.operation p) (below_at r p)) (Program w.set w.draw)
-    ++ touches_if (is_within (from_at w p) (go_exchange w.operation p) (below_at r p)) (Go w.set w.draw)
+    touches_if (is_number_between (from_at w p) (program_exchange w.operation p) (below_at r p)) (Program w.set w.draw)
+    ++ touches_if (is_number_between (from_at w p) (go_exchange w.operation p) (below_at r p)) (Go w.set w.draw)
 
 -- of a stop: all keys of a host's port go at its beginning, those of any other end set by set
 abbrev pub stopping_touches : Work → Reach → KeyPlace → List Touch
 stopping_touches w r p =
     if is_local p then touches_if w.begins Clear
-    else touches_if (is_within w.first (stop_exchange p) r.carried) (Stop false)
-    ++ touches_if (is_within w.first (stop_exchange p + 6) r.carried) (Stop true)
+    else touches_if (is_number_between w.first (stop_exchange p) r.carried) (Stop false)
+    ++ touches_if (is_number_between w.first (stop_exchange p + 6) r.carried) (Stop true)
 
 abbrev pub work_touches : Work → Option Reach → KeyPlace → List Touch
 work_touches w None p = []

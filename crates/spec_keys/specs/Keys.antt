@@ -99,14 +99,14 @@ is_outlived open_is None other = false
 is_outlived open_is (Some i) None = false
 is_outlived open_is (Some i) (Some j) = nat_lt i j && not (open_is i)
 
-abbrev pub unless_over : (ℕ → Bool) → Keyed → Keyed → Keyed
-unless_over open_is mine other = if is_outlived open_is (on_in mine) (on_in other) then Off else mine
+abbrev pub unless_outlived : (ℕ → Bool) → Keyed → Keyed → Keyed
+unless_outlived open_is mine other = if is_outlived open_is (on_in mine) (on_in other) then Off else mine
 
 abbrev pub without_outlived : Bool → (ℕ → Bool) → Keys → Keys
 without_outlived false open_is ks = ks
 without_outlived true open_is ks = record {
-  first = unless_over open_is ks.first ks.second;
-  second = unless_over open_is ks.second ks.first;
+  first = unless_outlived open_is ks.first ks.second;
+  second = unless_outlived open_is ks.second ks.first;
 }
 
 -- ---- all touches, the newest first
@@ -125,14 +125,14 @@ pub data DrawSlot : Type 0 where
   Armed : (draw : ℕ) → DrawSlot
   Live : (draw : ℕ) → DrawSlot
 
-abbrev pub is_below : Option ℕ → ℕ → Bool
-is_below None j = false
-is_below (Some i) j = nat_lt i j
+abbrev pub is_some_below : Option ℕ → ℕ → Bool
+is_some_below None j = false
+is_some_below (Some i) j = nat_lt i j
 
 -- of a sender the least draw that is On is Live, of a receiver each
 abbrev pub slot_if_on : Bool → ℕ → Option ℕ → DrawSlot
 slot_if_on false j other = Live j
-slot_if_on true j other = if is_below other j then Armed j else Live j
+slot_if_on true j other = if is_some_below other j then Armed j else Live j
 
 abbrev pub slot_beside_other : Bool → Keyed → Keyed → DrawSlot
 slot_beside_other sends Off other = Empty

@@ -75,15 +75,15 @@ op_ended w = ended w.operation
     ended op.Stop = Idle
 
 abbrev pub op_at_exchange : Work → ℕ → StreamStage
-op_at_exchange w n = standing w.operation
+op_at_exchange w n = stage w.operation
   where
-    standing : Operation → StreamStage
-    standing op.Establish = Establishing w.draw n
-    standing op.Refresh = Refreshing w.set w.draw n
-    standing op.Stop = Stopping n
+    stage : Operation → StreamStage
+    stage op.Establish = Establishing w.draw n
+    stage op.Refresh = Refreshing w.set w.draw n
+    stage op.Stop = Stopping n
 
-abbrev pub op_after : (hosted : Bool) → Work → Reach → StreamStage
-op_after hosted w r =
+abbrev pub op_after_reach : (hosted : Bool) → Work → Reach → StreamStage
+op_after_reach hosted w r =
     if nat_lt (last_exchange_of hosted w.operation) r.acknowledged then op_ended w else op_at_exchange w r.acknowledged
 
 -- an operation that began with a draw
@@ -113,7 +113,7 @@ manager_after_operation m o line stream None = m
 manager_after_operation m o line stream (Some r) =
     let w = work_of o (m.ops line stream) (length m.begun) in
     record {
-      ops = λ a b. if (a == line) && (b == stream) then op_after (is_hosted line) w r else m.ops a b;
+      ops = λ a b. if (a == line) && (b == stream) then op_after_reach (is_hosted line) w r else m.ops a b;
       begun = begun_after_work m.begun line stream w;
     }
 

@@ -14,8 +14,8 @@ use Rattle.spec_links.proofs.Terms.{sent_bytes, Pass, History, Packet, Plan, Por
 use Rattle.spec_links.proofs.Terms.{Send, Status, Stop, UnitName, Verdict, if◌then◌else◌, is_some, not, packets_in_hold}
 use Rattle.spec_links.proofs.Terms.{◌++◌, Access, sending_port, answer_due, answer_first, site_answer}
 use Rattle.spec_links.proofs.Terms.{completion_verdict, outgoing_completion, is_before, judged_by, answer_judged}
-use Rattle.spec_links.proofs.Terms.{binding_cause, WaitingRead, waiting_reads, Site, site_with, granted_to, live_key}
-use Rattle.spec_links.proofs.Terms.{lane_out, Cpl}
+use Rattle.spec_links.proofs.Terms.{binding_cause, WaitingRead, waiting_reads, Site, site_of_requester, granted_to}
+use Rattle.spec_links.proofs.Terms.{live_key, lane_out, Cpl}
 use Rattle.spec_links.specs.Due.{bytes_due, through_due, forward_out, forward_first, ending_due}
 use Rattle.spec_links.specs.Hops.{HopTlp, has_hop}
 use Rattle.spec_links.specs.Memory.{hop_waiting, unit_ended}
@@ -207,7 +207,7 @@ answer_first_tells : (plan : Plan) (h : History) (link : ℕ) (rs : List Waiting
     Tells plan h e (answer_first plan h (sending_port plan e) rs (outgoing_completion plan h link))
 answer_first_tells plan h link [] = tt
 answer_first_tells plan h link (r ∷ rs) =
-    answer_of_tells plan h link r.draw (site_with plan link r.read.requester)
+    answer_of_tells plan h link r.draw (site_of_requester plan link r.read.requester)
 
 answer_tells : (plan : Plan) (h : History) (link : ℕ) → Tells plan h (Access (ae.Answer link)) (answer_due plan h link)
 answer_tells plan h link =

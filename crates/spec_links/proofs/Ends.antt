@@ -26,8 +26,8 @@ use Rattle.ide_types.specs.declared.plan.PeerPlan.{PeerPlan}
 use Rattle.ide_types.specs.declared.stream.StreamPlan.{StreamPlan}
 use Rattle.ide_types.specs.Plans.{has_stream_id, hop_has_id, link_has_id, links_have_id}
 use Rattle.ide_types.specs.Fits.{FitsPlan, FitsLink, FitsHopIf, FitsPeer}
-use Rattle.ide_types.specs.Ends.{end_at, end_on, far_hop_port, hop_end, line_has, link_hop, near_hop_port, own_has_id}
-use Rattle.ide_types.specs.Ends.{peer_has_id, peer_link, port_beside_end}
+use Rattle.ide_types.specs.Ends.{end_at, end_at_port, far_hop_port, hop_end, line_has, link_hop, near_hop_port}
+use Rattle.ide_types.specs.Ends.{own_has_id, peer_has_id, peer_link, port_beside_end}
 unfoldable use Rattle.ide_types.specs.Ends.{peer_end}
 use Rattle.ide_prefix.specs.Packet.{packet_bytes}
 
@@ -232,21 +232,21 @@ hosts side a b same = ap (on_side side) same
 
 -- what a port gives to an ID
 on_link : (plan : Plan) (side : Side) (link id : ℕ) → nat_lt link 8 ≡ true → own_has_id (slice_get plan.links link) id
-    ≡ true → end_on plan (on_side side link) id ≡ on_side side link
+    ≡ true → end_at_port plan (on_side side link) id ≡ on_side side link
 on_link plan side link id low own = rw (low, own) refl
 
 on_hop : (plan : Plan) (side : Side) (link id : ℕ) → nat_lt link 8 ≡ true
     → own_has_id (slice_get plan.links link) id ≡ false → hop_has_id (link_hop (slice_get plan.links link)) id ≡ true
-    → end_on plan (on_side side link) id ≡ hop_end side link
+    → end_at_port plan (on_side side link) id ≡ hop_end side link
 on_hop plan side link id low own hop = rw (low, own, hop) refl
 
 on_peer : (plan : Plan) (link id : ℕ) (e : PortName) → nat_lt link 8 ≡ true
     → (own_has_id (slice_get plan.links link) id ≡ false) ×
     (hop_has_id (link_hop (slice_get plan.links link)) id ≡ false)
-    → peer_end plan.peers 0 link id ≡ Some e → end_on plan (on_side Device link) id ≡ e
+    → peer_end plan.peers 0 link id ≡ Some e → end_at_port plan (on_side Device link) id ≡ e
 on_peer plan link id e low free met = rw (low, free.0, free.1, met) refl
 
-on_switch : (plan : Plan) (side : Side) (line id : ℕ) → nat_lt line 8 ≡ false → end_on plan (on_side side line) id
+on_switch : (plan : Plan) (side : Side) (line id : ℕ) → nat_lt line 8 ≡ false → end_at_port plan (on_side side line) id
     ≡ on_side side line
 on_switch plan side line id late = rw late refl
 
@@ -270,12 +270,13 @@ of_late peers e p a b c at = rw (a, b, c, at) refl
 -- by the line's number
 module _ (plan : Plan) (fits : FitsPlan plan) (line id : ℕ) (has : line_has plan line id ≡ true) where
   link_met : nat_lt line 8 ≡ true → (side : Side) → end_at plan (on_side side line) id ≡ on_side side line
-  link_met a side = ap (λ (q : PortName). end_on plan q id) (of_link plan.peers (on_side side line) a)
+  link_met a side = ap (λ (q : PortName). end_at_port plan q id) (of_link plan.peers (on_side side line) a)
       ∙ on_link plan side line id a (rw a at has)
 
   near_met : nat_lt line 8 ≡ false → nat_lt line 16 ≡ true → (side : Side)
       → end_at plan (on_side side line) id ≡ on_side side line
-  near_met a b side = ap (λ (q : PortName). end_on plan q id) (of_near plan.peers (on_side side line) a b) ∙ by side
+  near_met a b side = ap (λ (q : PortName). end_at_port plan q id) (of_near plan.peers (on_side side line) a b) ∙ by
+      side
     where
       hop : hop_has_id (link_hop (slice_get plan.links (line - 8))) id ≡ true
       hop = rw (a, b) at has
@@ -283,7 +284,7 @@ module _ (plan : Plan) (fits : FitsPlan plan) (line id : ℕ) (has : line_has pl
       back : 8 + (line - 8) ≡ line
       back = grind (arith, nat_tests)
 
-      by : (side : Side) → end_on plan (near_hop_port side (line - 8)) id ≡ on_side side line
+      by : (side : Side) → end_at_port plan (near_hop_port side (line - 8)) id ≡ on_side side line
       by Host = on_hop plan Host (line - 8) id (grind (arith, nat_tests))
           (hop_apart plan.links fits.each_link (line - 8) id hop) hop ∙ hosts Host (8 + (line - 8)) line back
       by Device = on_switch plan Device (8 + (line - 8)) id (grind (arith, nat_tests))
@@ -291,7 +292,8 @@ module _ (plan : Plan) (fits : FitsPlan plan) (line id : ℕ) (has : line_has pl
 
   far_met : nat_lt line 8 ≡ false → nat_lt line 16 ≡ false → nat_lt line 24 ≡ true → (side : Side)
       → end_at plan (on_side side line) id ≡ on_side side line
-  far_met a b c side = ap (λ (q : PortName). end_on plan q id) (of_far plan.peers (on_side side line) a b c) ∙ by side
+  far_met a b c side = ap (λ (q : PortName). end_at_port plan q id) (of_far plan.peers (on_side side line) a b c) ∙ by
+      side
     where
       hop : hop_has_id (link_hop (slice_get plan.links (line - 16))) id ≡ true
       hop = rw (a, b, c) at has
@@ -299,7 +301,7 @@ module _ (plan : Plan) (fits : FitsPlan plan) (line id : ℕ) (has : line_has pl
       back : 16 + (line - 16) ≡ line
       back = grind (arith, nat_tests)
 
-      by : (side : Side) → end_on plan (far_hop_port side (line - 16)) id ≡ on_side side line
+      by : (side : Side) → end_at_port plan (far_hop_port side (line - 16)) id ≡ on_side side line
       by Host = on_switch plan Host (16 + (line - 16)) id (grind (arith, nat_tests))
           ∙ hosts Host (16 + (line - 16)) line back
       by Device = on_hop plan Device (line - 16) id (grind (arith, nat_tests))
@@ -309,8 +311,8 @@ module _ (plan : Plan) (fits : FitsPlan plan) (line id : ℕ) (has : line_has pl
       → slice_get plan.peers (line - 24) ≡ o → (side : Side) → end_at plan (on_side side line) id ≡ on_side side line
   late_met a b c None at side = absurd (let none = rw (a, b, c, at) at has in cc)
   late_met a b c (Some p) at side =
-      ap (λ (q : PortName). end_on plan q id) (of_late plan.peers (on_side side line) p a b c at)
-      ∙ subst (λ (n : ℕ). end_on plan (on_side Device (peer_link side p)) n ≡ on_side side line)
+      ap (λ (q : PortName). end_at_port plan q id) (of_late plan.peers (on_side side line) p a b c at)
+      ∙ subst (λ (n : ℕ). end_at_port plan (on_side Device (peer_link side p)) n ≡ on_side side line)
       (eqb-true p.id id (rw (a, b, c, at) at has)) (by side)
     where
       peer : FitsPeer plan.links p
@@ -326,7 +328,7 @@ module _ (plan : Plan) (fits : FitsPlan plan) (line id : ℕ) (has : line_has pl
       low : (n : ℕ) → n < length plan.links → nat_lt n 8 ≡ true
       low n less = let most = fits.links_most in grind (arith, nat_tests)
 
-      by : (side : Side) → end_on plan (on_side Device (peer_link side p)) p.id ≡ on_side side line
+      by : (side : Side) → end_at_port plan (on_side Device (peer_link side p)) p.id ≡ on_side side line
       by Host = on_peer plan p.near p.id _ (low p.near peer.near)
           (free_there plan.links p.near p.id peer.near_id_is_new) met.0 ∙ hosts Host (24 + (0 + (line - 24))) line back
       by Device = on_peer plan p.far p.id _ (low p.far peer.far)

@@ -2,10 +2,10 @@
 use Rattle.spec_links.proofs.Terms.{Bool, List, [], ap, arith, drop, false, filter, length, length-append, refl, true}
 use Rattle.spec_links.proofs.Terms.{ℕ, ◌++◌, ◌+◌, ◌-◌, ◌==◌, ◌∙◌, ◌∷◌, ◌≡◌, nat_tests, append-nil, drop-append-le}
 use Rattle.spec_links.proofs.Terms.{drop_all, map-append, reverse-append, filter-append, suffix_len, Pr, SealedList}
-use Rattle.spec_links.proofs.Terms.{ends_unit_since, is_sealed_since, is_sealed_under, posted_since_last, posted_lane}
-use Rattle.spec_links.proofs.Terms.{sub_stream_packets, sub_stream_of, total_in, with_sealed, SubStream, is_same}
-use Rattle.spec_links.proofs.Terms.{is_same_port, lane_out, AllByRecursion, Packet, Plan, PortName, SealedPacket}
-use Rattle.spec_links.proofs.Terms.{SubKind, after_last, if◌then◌else◌, not, ◌&&◌, ◌||◌}
+use Rattle.spec_links.proofs.Terms.{ends_unit_since, is_sealed_from_draw, is_sealed_under, posted_since_last}
+use Rattle.spec_links.proofs.Terms.{posted_lane, sub_stream_packets, sub_stream_of, total_in, with_sealed, SubStream}
+use Rattle.spec_links.proofs.Terms.{is_same, is_same_port, lane_out, AllByRecursion, Packet, Plan, PortName}
+use Rattle.spec_links.proofs.Terms.{SealedPacket, SubKind, after_last, if◌then◌else◌, not, ◌&&◌, ◌||◌}
 use Rattle.spec_keys.proofs.Tests.{neither-true}
 
 -- ---- the last place that passes a test
@@ -33,23 +33,26 @@ count_after p q xs x other = rw (after_last-miss p xs x other, filter-append, le
 -- ---- posted counts
 
 -- a packet of the sub-stream begins its count again
-pub posted-own : (xs : SealedList) (x : SealedPacket × Packet) (s : SubStream) (from : ℕ) → is_sealed_since s from x
+pub posted-own : (xs : SealedList) (x : SealedPacket × Packet) (s : SubStream) (from : ℕ) → is_sealed_from_draw s from x
     ≡ true
     → posted_since_last (xs ++ x ∷ []) s from ≡ 0
 unfolding posted_since_last
-posted-own xs x s from here = rw (after_last-hit (is_sealed_since s from) xs x here) refl
+posted-own xs x s from here = rw (after_last-hit (is_sealed_from_draw s from) xs x here) refl
 
 -- one of another counts if it is a posted one
-pub posted-more : (xs : SealedList) (x : SealedPacket × Packet) (s : SubStream) (from : ℕ) → is_sealed_since s from x
+pub posted-more : (xs : SealedList) (x : SealedPacket × Packet) (s : SubStream) (from : ℕ)
+    → is_sealed_from_draw s from x
     ≡ false
     → posted_since_last (xs ++ x ∷ []) s from ≡ posted_since_last xs s from
-    + (if is_sealed_since (posted_lane s) from x then 1 else 0)
+    + (if is_sealed_from_draw (posted_lane s) from x then 1 else 0)
 unfolding posted_since_last
-posted-more xs x s from other = count_after (is_sealed_since s from) (is_sealed_since (posted_lane s) from) xs x other
+posted-more xs x s from other = count_after (is_sealed_from_draw s from) (is_sealed_from_draw (posted_lane s) from) xs x
+    other
 
-pub posted-same : (xs : SealedList) (x : SealedPacket × Packet) (s : SubStream) (from : ℕ) → is_sealed_since s from x
+pub posted-same : (xs : SealedList) (x : SealedPacket × Packet) (s : SubStream) (from : ℕ)
+    → is_sealed_from_draw s from x
     ≡ false
-    → is_sealed_since (posted_lane s) from x ≡ false
+    → is_sealed_from_draw (posted_lane s) from x ≡ false
     → posted_since_last (xs ++ x ∷ []) s from ≡ posted_since_last xs s from
 posted-same xs x s from other none = posted-more xs x s from other ∙ rw none (omega arith)
 
@@ -92,7 +95,7 @@ pub not_here : (port : PortName) (stream : ℕ) (u : SubKind) (d : SealedPacket)
 not_here port stream u d out = grind (arith, nat_tests)
 
 not_in : (port : PortName) (stream : ℕ) (u : SubKind) (from : ℕ) (d : SealedPacket) (p : Packet) → is_out port stream d
-    ≡ false → is_sealed_since (lane_out port stream u) from (d, p) ≡ false
+    ≡ false → is_sealed_from_draw (lane_out port stream u) from (d, p) ≡ false
 not_in port stream u from d p out = rw (not_here port stream u d out) refl
 
 -- what none of its packets changes, a send leaves

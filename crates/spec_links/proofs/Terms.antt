@@ -24,7 +24,7 @@ pub use Rattle.spec_keys.specs.Keys.{Accept, Clear as ClearTouch, Go as GoTouch,
 pub use Rattle.spec_keys.specs.Keys.{Touch, is_on, draw_of_keyed, sender_draw, without_outlived, keys_after_touch}
 unfoldable pub use Rattle.spec_keys.specs.Keys.{is_open, keys}
 pub use Rattle.spec_keys.specs.Laws.{KeyCauseLaw, GivenFits, UsesFit}
-pub use Rattle.spec_keys.specs.Operations.{Begun, Idle, Manager, StreamStage, Reach, Stopping, Work, op_after}
+pub use Rattle.spec_keys.specs.Operations.{Begun, Idle, Manager, StreamStage, Reach, Stopping, Work, op_after_reach}
 pub use Rattle.spec_keys.specs.Operations.{manager_after_operation, reach_of, work_of}
 pub use Rattle.spec_keys.specs.Places.{is_on_stream, is_same_side, is_same_sub, lane, places_of}
 pub use Rattle.spec_links.specs.Cause.{CauseLaw, OneHistory, events_of}
@@ -37,11 +37,11 @@ pub use Rattle.spec_links.specs.Due.{judged_by, answer_judged}
 unfoldable pub use Rattle.spec_links.specs.Due.{before_tag, due}
 pub use Rattle.spec_links.specs.History.{Arrival, KeyName, SealedList, accepted_keys, after_ends, ahead_of_packet}
 pub use Rattle.spec_links.specs.History.{arrived_packet, cut_packet, ended_keys, ends_port_unit, ends_unit_since}
-pub use Rattle.spec_links.specs.History.{has_failed, fails_at, has_live_key, is_sealed_since, is_keyed, is_sealed_under}
-pub use Rattle.spec_links.specs.History.{keys_by_role, lesser, live_key, meets_counts, on_draw, packet_by_number}
-pub use Rattle.spec_links.specs.History.{arrival_packet, place_in_sub_stream, posted_lane, received_in, receives_it}
-pub use Rattle.spec_links.specs.History.{sends_it, sent_packets, sent_bytes, sub_stream_of, waits, with_sealed}
-pub use Rattle.spec_links.specs.History.{sending_port}
+pub use Rattle.spec_links.specs.History.{has_failed, fails_at, has_live_key, is_sealed_from_draw, is_keyed}
+pub use Rattle.spec_links.specs.History.{is_sealed_under, keys_by_role, lesser, live_key, meets_counts, on_draw}
+pub use Rattle.spec_links.specs.History.{packet_by_number, arrival_packet, place_in_sub_stream, posted_lane}
+pub use Rattle.spec_links.specs.History.{received_in, receives_it, sends_it, sent_packets, sent_bytes, sub_stream_of}
+pub use Rattle.spec_links.specs.History.{waits, with_sealed, sending_port}
 unfoldable pub use Rattle.spec_links.specs.History.{arrival_of_event, draws_got, got_since, has_live_in, has_live_out}
 unfoldable pub use Rattle.spec_links.specs.History.{packets_in_hold, port_keys, packet_of, posted_since_last}
 unfoldable pub use Rattle.spec_links.specs.History.{sealed_packets, sub_stream_packets, total_in, units_got}
@@ -56,8 +56,9 @@ pub use Rattle.spec_links.specs.Terms.{Event, Held, History, Host, KeyPlan, Keye
 pub use Rattle.spec_links.specs.Terms.{Plan, PortName, Pass, Refresh, Reset, Sealed, SealedPacket, Send, Status, Stop}
 pub use Rattle.spec_links.specs.Terms.{SubKind, UnitName, Verdict, after_last, keeps_live, key_in, place_keys, list_any}
 pub use Rattle.spec_links.specs.Terms.{no_keys, on_in, received_direction, sent_direction, history_status, sub_bits}
-pub use Rattle.spec_links.specs.Terms.{Interface, InterfaceEvent, Access, Site, WaitingRead, granted_to, site_with}
-pub use Rattle.spec_links.specs.Units.{rest_after, units_after}
+pub use Rattle.spec_links.specs.Terms.{Interface, InterfaceEvent, Access, Site, WaitingRead, granted_to}
+pub use Rattle.spec_links.specs.Terms.{site_of_requester}
+pub use Rattle.spec_links.specs.Units.{rest_after, units_finished}
 unfoldable pub use Rattle.spec_links.specs.Units.{open_unit, units}
 pub use Rattle.spec_links.specs.Memory.{memory_due, waiting_reads}
 unfoldable pub use Rattle.spec_links.specs.Sent.{bytes_by}

@@ -2,7 +2,7 @@
 use Rattle.spec_links.proofs.Terms.{Bool, List, Some, [], ap, append_assoc, arith, drop, false, length, refl, slice_get}
 use Rattle.spec_links.proofs.Terms.{subst, suc, sym, take, true, zero, ℕ, ◌++◌, ◌∙◌, ◌∷◌, ◌≡◌, ◌≤◌, append-nil}
 use Rattle.spec_links.proofs.Terms.{take-append-drop, get_or_from_slice_get, slice_get_within, flat_map, AllByRecursion}
-use Rattle.spec_links.proofs.Terms.{Packet, if◌then◌else◌, open_unit, rest_after, units, units_after}
+use Rattle.spec_links.proofs.Terms.{Packet, if◌then◌else◌, open_unit, rest_after, units, units_finished}
 use Rattle.std.proofs.Math.Seq.{take-suc}
 use Rattle.std.proofs.lemmas.Grind.{flat_map-append}
 use Rattle.spec_links.proofs.LastPlaces.{all_of}
@@ -13,11 +13,12 @@ packets_of_units us = flat_map (λ (u : List Packet). u) us
 
 -- ---- more packets
 
-units_after-append : (unfinished ps qs : List Packet) → units_after unfinished (ps ++ qs) ≡ units_after unfinished ps
-    ++ units_after (rest_after unfinished ps) qs
-units_after-append unfinished [] qs = refl
-units_after-append unfinished (p ∷ ps) qs = grind
-    (arith, units_after-append [] ps qs, units_after-append (unfinished ++ p ∷ []) ps qs)
+units_finished-append : (unfinished ps qs : List Packet) → units_finished unfinished (ps ++ qs)
+    ≡ units_finished unfinished ps
+    ++ units_finished (rest_after unfinished ps) qs
+units_finished-append unfinished [] qs = refl
+units_finished-append unfinished (p ∷ ps) qs = grind
+    (arith, units_finished-append [] ps qs, units_finished-append (unfinished ++ p ∷ []) ps qs)
 
 rest_after-append : (unfinished ps qs : List Packet) → rest_after unfinished (ps ++ qs)
     ≡ rest_after (rest_after unfinished ps) qs
@@ -25,15 +26,16 @@ rest_after-append unfinished [] qs = refl
 rest_after-append unfinished (p ∷ ps) qs = grind
     (arith, rest_after-append [] ps qs, rest_after-append (unfinished ++ p ∷ []) ps qs)
 
-joined_after : (unfinished ps : List Packet) → packets_of_units (units_after unfinished ps) ++ rest_after unfinished ps
+joined_after : (unfinished ps : List Packet) → packets_of_units (units_finished unfinished ps)
+    ++ rest_after unfinished ps
     ≡ unfinished ++ ps
 joined_after unfinished [] = sym (append-nil unfinished)
 joined_after unfinished (q ∷ ps) = grind
     (arith, append_assoc, joined_after [] ps, joined_after (unfinished ++ q ∷ []) ps)
 
-pub units-append : (ps qs : List Packet) → units (ps ++ qs) ≡ units ps ++ units_after (open_unit ps) qs
+pub units-append : (ps qs : List Packet) → units (ps ++ qs) ≡ units ps ++ units_finished (open_unit ps) qs
 unfolding units open_unit
-units-append ps qs = units_after-append [] ps qs
+units-append ps qs = units_finished-append [] ps qs
 
 pub open_unit-append : (ps qs : List Packet) → open_unit (ps ++ qs) ≡ rest_after (open_unit ps) qs
 unfolding open_unit
@@ -104,15 +106,17 @@ open_unit-unfinished ps qs unfinished = open_unit-append ps qs ∙ open_after_fr
 each_unit : (F : List Packet → Type 0) (R : Packet → Type 0) (P : List Packet → Type 0) → F []
     → ((f : List Packet) (p : Packet) → F f → R p → p.prefix.m ≡ true → P (f ++ p ∷ []))
     → ((f : List Packet) (p : Packet) → F f → R p → p.prefix.m ≡ false → F (f ++ p ∷ []))
-    → (unfinished ps : List Packet) → F unfinished → AllByRecursion R ps → AllByRecursion P (units_after unfinished ps)
+    → (unfinished ps : List Packet) → F unfinished → AllByRecursion R ps
+    → AllByRecursion P (units_finished unfinished ps)
 each_unit F R P none ends goes unfinished [] f all = tt
 each_unit F R P none ends goes unfinished (q ∷ ps) f all =
     by_m q.prefix.m refl (each_unit F R P none ends goes [] ps none all.1)
     (λ g. each_unit F R P none ends goes (unfinished ++ q ∷ []) ps g all.1)
   where
-    by_m : (b : Bool) → q.prefix.m ≡ b → AllByRecursion P (units_after [] ps)
-        → (F (unfinished ++ q ∷ []) → AllByRecursion P (units_after (unfinished ++ q ∷ []) ps))
-        → AllByRecursion P (if b then (unfinished ++ q ∷ []) ∷ units_after [] ps else units_after (unfinished ++ q ∷ [])
+    by_m : (b : Bool) → q.prefix.m ≡ b → AllByRecursion P (units_finished [] ps)
+        → (F (unfinished ++ q ∷ []) → AllByRecursion P (units_finished (unfinished ++ q ∷ []) ps))
+        → AllByRecursion P (if b then (unfinished ++ q ∷ []) ∷ units_finished [] ps else units_finished
+        (unfinished ++ q ∷ [])
         ps)
     by_m true m rest more = (ends unfinished q f all.0 m, rest)
     by_m false m rest more = more (goes unfinished q f all.0 m)

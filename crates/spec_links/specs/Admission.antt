@@ -23,7 +23,7 @@ pub record Policy : Type 0 where
   -- how many trusted reads of a link wait for their answer
   pub waiting : ℕ → ℕ
   -- how the interfaces of a link's device stand
-  pub standings : ℕ → List InterfaceStatus
+  pub statuses : ℕ → List InterfaceStatus
 
 -- of the TLP's requester
 abbrev pub requester_bound : Grants → PortName → HeadView → Option Binding
@@ -43,8 +43,8 @@ host_effect plan grants waiting port unit p (Ok head) =
 
 -- at a device's port, whose interfaces stand so
 abbrev pub device_effect : List InterfaceStatus → UnitName → Packet → Result HeadView TlpFault → Effect
-device_effect standings unit p (Err f) = effect.Delivered
-device_effect standings unit p (Ok head) = mmio_effect standings p.prefix.t unit.stream unit.draw (write_span head)
+device_effect statuses unit p (Err f) = effect.Delivered
+device_effect statuses unit p (Ok head) = mmio_effect statuses p.prefix.t unit.stream unit.draw (write_span head)
 
 -- at a switch each TLP waits
 abbrev pub switch_effect : Effect
@@ -56,7 +56,7 @@ effect_by plan policy waiting port unit p =
     else if at_switch plan port then switch_effect
     else if sent_direction port.side == 0
     then host_effect plan policy.grants waiting port unit p (read_head_of p.head)
-    else device_effect (policy.standings port.line) unit p (read_head_of p.head)
+    else device_effect (policy.statuses port.line) unit p (read_head_of p.head)
 
 -- a read that is queued waits too
 abbrev pub waiting_then : Effect → ℕ → ℕ

@@ -3,7 +3,7 @@ use Rattle.std.specs.Prelude.{if◌then◌else◌, ◌&&◌, ◌++◌, ◌+◌, 
 use Rattle.std.specs.Prelude.{Result, Some, [], false, true, is_some, length, nat_le, nat_lt, not, ℕ}
 use Rattle.spec_links.specs.Terms.{option_map_or, PortName, Device, Host, Plan, Access, Alter, Arrive, Cut, Dump, Event}
 use Rattle.spec_links.specs.Terms.{Establish, Interface, Pass, Refresh, Reset, Send, Status, Stop, t_at, owners_link}
-use Rattle.spec_links.specs.Terms.{granted_to, Site, site_with, WaitingRead, owner_site, SealedPacket, UnitName}
+use Rattle.spec_links.specs.Terms.{granted_to, Site, site_of_requester, WaitingRead, owner_site, SealedPacket, UnitName}
 use Rattle.spec_links.specs.Terms.{Verdict, header, iv_of, Packet, packet_bytes, CutValue, IdePacket, PlainTlp, cut_of}
 use Rattle.spec_links.specs.Terms.{authenticated_bytes, encrypted_bytes, PacketFault, verifies, History, history_status}
 use Rattle.spec_links.specs.Terms.{received_direction}
@@ -137,7 +137,7 @@ site_answer plan h port draw (Some x) out = completion_verdict plan h port x.num
 abbrev pub answer_first : Plan → History → PortName → List WaitingRead → Outgoing → Verdict
 answer_first plan h port [] out = v.Access (av.Empty port.line)
 answer_first plan h port (r ∷ rs) out =
-    site_answer plan h port r.draw (site_with plan port.line r.read.requester) out
+    site_answer plan h port r.draw (site_of_requester plan port.line r.read.requester) out
 
 -- what the completion comes to at the host's port
 abbrev pub outgoing_completion : Plan → History → ℕ → Outgoing

@@ -61,11 +61,11 @@ asked_happens plan e w link = []
 
 -- at the device of a link whose interfaces stand so, if the verdict of an event ends a unit of these packets, or none
 abbrev pub happens_by : Plan → (ℕ → List InterfaceStatus) → List Packet → Event → Verdict → ℕ → List (Option Happened)
-happens_by plan standings ps e (v.Accepted port unit effects) link =
-    if (port_of plan port).line == link then unit_happenings (standings (port_of plan port).line) plan port unit ps else
+happens_by plan statuses ps e (v.Accepted port unit effects) link =
+    if (port_of plan port).line == link then unit_happenings (statuses (port_of plan port).line) plan port unit ps else
     []
-happens_by plan standings ps (event.Reset l ends) (v.Reset k) link = happens_if (l == link) AllReset
-happens_by plan standings ps e w link = asked_happens plan e w link
+happens_by plan statuses ps (event.Reset l ends) (v.Reset k) link = happens_if (l == link) AllReset
+happens_by plan statuses ps e w link = asked_happens plan e w link
 
 -- the packets of the unit that a verdict ends
 abbrev pub verdict_unit : Plan → History → Event → Verdict → List Packet

@@ -71,12 +71,12 @@ with_sealed plan ahead bytes (d ∷ ds) before =
     ∷ [])
 
 -- whether a sealed packet is of the sub-stream, and of a draw from this one on
-abbrev pub is_sealed_since : SubStream → ℕ → SealedPacket × Packet → Bool
-is_sealed_since s from x = is_same (sub_stream_of x.0) s && nat_le from x.0.draw
+abbrev pub is_sealed_from_draw : SubStream → ℕ → SealedPacket × Packet → Bool
+is_sealed_from_draw s from x = is_same (sub_stream_of x.0) s && nat_le from x.0.draw
 
 -- ends a unit there
 abbrev pub ends_unit_since : SubStream → ℕ → SealedPacket × Packet → Bool
-ends_unit_since s from x = is_sealed_since s from x && x.1.prefix.m
+ends_unit_since s from x = is_sealed_from_draw s from x && x.1.prefix.m
 
 -- the total of a sender: the units of a sub-stream that were finished under all draws from this one on
 unfoldable pub total_in : SealedList → SubStream → ℕ → ℕ
@@ -254,8 +254,8 @@ posted_lane s = record s { sub = Pr }
 -- how many posted packets were sealed in its direction since the last packet of the sub-stream, of draws from this one
 -- on
 unfoldable pub posted_since_last : SealedList → SubStream → ℕ → ℕ
-posted_since_last xs s from = length (filter (is_sealed_since (posted_lane s) from)
-    (after_last (is_sealed_since s from) xs))
+posted_since_last xs s from = length (filter (is_sealed_from_draw (posted_lane s) from)
+    (after_last (is_sealed_from_draw s from) xs))
 
 abbrev pub posted_count : Plan → History → SubStream → ℕ
 posted_count plan h s = posted_since_last (sealed_packets plan h) s (base h s.line s.stream)

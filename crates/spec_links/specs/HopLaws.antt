@@ -103,8 +103,8 @@ pub record Unchanged (plan : Plan) (h : History) (e : Event) (w : Verdict) : Typ
   pub sealed : sealed_packets plan ((e, w) ∷ h) ≡ sealed_packets plan h
   pub operations : manager ((e, w) ∷ h) ≡ manager h
   pub keys : (p : KeyPlace) → place_keys ((e, w) ∷ h) p ≡ place_keys h p
-  pub failures : (side : Side) (link stream : ℕ)
-      → failed_there ((e, w) ∷ h) side link stream ≡ failed_there h side link stream
+  pub failures : (side : Side) (line stream : ℕ)
+      → failed_there ((e, w) ∷ h) side line stream ≡ failed_there h side line stream
   pub accepted : (s : SubStream) (j : ℕ) → accepted_packets plan ((e, w) ∷ h) s j ≡ accepted_packets plan h s j
   pub pending_packets : (s : SubStream) (j n : ℕ) → packets_in_hold plan ((e, w) ∷ h) s j n
       ≡ packets_in_hold plan h s j n

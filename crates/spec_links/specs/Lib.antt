@@ -42,7 +42,7 @@ unfoldable pub use Rattle.spec_links.specs.HopLaws.{tlps_since_reset, draws_sinc
 pub use Rattle.spec_links.specs.HopLaws.{OneDraw, HopLaw, ThroughLaw}
 pub use Rattle.spec_interfaces.specs.Cause.{owner_id}
 pub use Rattle.spec_interfaces.specs.Devices.{devices}
-pub use Rattle.spec_interfaces.specs.Sites.{Site, site_with}
+pub use Rattle.spec_interfaces.specs.Sites.{Site, site_of_requester}
 pub use Rattle.spec_interfaces.specs.Views.{grant_at, granted_to}
 pub use Rattle.trusted_memory.specs.declared.queue.WaitingRead.{WaitingRead}
 unfoldable pub use Rattle.spec_interfaces.specs.Sites.{sites}

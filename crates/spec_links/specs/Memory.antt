@@ -1,9 +1,9 @@
 -- What accepted units do to trusted memory, which reads wait, and what stands in memory.
 use Rattle.std.specs.Prelude.{◌++◌, ◌∷◌, ◌≡◌, Bool, List, None, Ok, Option, [], drop, false, length, true, ℕ}
 use Rattle.spec_links.specs.Terms.{PortName, Plan, Event, InterfaceEvent, Effect, UnitName, Verdict, Accepted, Packet}
-use Rattle.spec_links.specs.Terms.{History, Device, is_sync_packet, read_head_of, Write, newest_first, byte_after}
-use Rattle.spec_links.specs.Terms.{bytes_from, in_one_region, grant_at, MemoryContents, IsLeftBy, Leads, admitted_write}
-use Rattle.spec_links.specs.Terms.{memory_write, WaitingRead, history_statuses}
+use Rattle.spec_links.specs.Terms.{History, Device, is_sync_packet, read_head_of, Write, newest_first}
+use Rattle.spec_links.specs.Terms.{byte_last_written, bytes_from, in_one_region, grant_at, MemoryContents, IsLeftBy}
+use Rattle.spec_links.specs.Terms.{Leads, admitted_write, memory_write, WaitingRead, history_statuses}
 use Rattle.spec_links.specs.Ports.{port_of, is_host_port}
 use Rattle.tlp_layout.specs.declared.head.HeadView.{HeadView}
 use Rattle.spec_links.specs.History.{arrived_packet, received_in, packets_in_hold, sealed_packets}
@@ -44,7 +44,7 @@ abbrev pub policy_at : Plan → History → Policy
 policy_at plan h = record {
   grants = grant_at plan h;
   waiting = λ link. length (waiting_reads plan h link);
-  standings = history_statuses plan h;
+  statuses = history_statuses plan h;
 }
 
 abbrev pub effects_of : Plan → History → PortName → UnitName → List Packet → List Effect
@@ -78,7 +78,7 @@ shown_if false bytes = v.Nothing
 -- the bytes from an address on, if one region has them all
 abbrev pub memory_due : Plan → History → InterfaceEvent → Verdict
 memory_due plan h (ie.Memory at len) =
-    shown_if (in_one_region plan.memory at len) (bytes_from (byte_after (writes plan h)) at len)
+    shown_if (in_one_region plan.memory at len) (bytes_from (byte_last_written (writes plan h)) at len)
 memory_due plan h e = v.Nothing
 
 -- ---- contents that stand for the history

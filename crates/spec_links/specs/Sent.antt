@@ -4,7 +4,7 @@ use Rattle.std.specs.Prelude.{if◌then◌else◌, ◌&&◌, ◌++◌, ◌+◌, 
 use Rattle.std.specs.Prelude.{Some, [], false, slice_get, ℕ}
 use Rattle.spec_links.specs.Terms.{option_map_or, PortName, Host, Plan, Event, Access, Reset, Send, Effect, UnitName}
 use Rattle.spec_links.specs.Terms.{Accepted, Sealed, read_head_of, TlpFault, Packet, History, newest_first, Held, Write}
-use Rattle.spec_links.specs.Terms.{byte_after, completion_bytes, grant_at, MemReadView, WaitingRead, memory_read}
+use Rattle.spec_links.specs.Terms.{byte_last_written, completion_bytes, grant_at, MemReadView, WaitingRead, memory_read}
 use Rattle.tlp_layout.specs.declared.head.HeadView.{HeadView}
 use Rattle.spec_links.specs.Ports.{port_of, sealing_end}
 use Rattle.spec_links.specs.Packets.{SealedList}
@@ -79,7 +79,7 @@ oldest_in plan xs h link = slice_get (queued_in plan xs h link) (reads_taken h l
 -- its completion, from memory as it is now
 abbrev pub oldest_completion : Plan → SealedList → History → ℕ → List ℕ
 oldest_completion plan xs h link =
-    option_map_or (λ (r : WaitingRead). completion_bytes (byte_after (writes_in plan xs h)) r.read)
+    option_map_or (λ (r : WaitingRead). completion_bytes (byte_last_written (writes_in plan xs h)) r.read)
     (oldest_in plan xs h link) []
 
 unfoldable pub bytes_by : Plan → SealedList → History → Event → List ℕ

@@ -32,12 +32,12 @@ pub use Rattle.spec_keys.specs.Keys.{Keyed, Keys, Off, On, key_in, no_keys, on_i
 pub use Rattle.spec_keys.specs.Places.{KeyPlan, KeyPlace, received_direction, sent_direction}
 pub use Rattle.spec_interfaces.specs.Views.{grant_at, granted_to}
 pub use Rattle.spec_interfaces.specs.Floors.{history_statuses}
-pub use Rattle.spec_interfaces.specs.Sites.{Site, site_with}
+pub use Rattle.spec_interfaces.specs.Sites.{Site, site_of_requester}
 pub use Rattle.spec_interfaces.specs.Cause.{owner_id, owner_site, owners_link, t_at}
 pub use Rattle.trusted_memory.specs.declared.grant.Grant.{Grant}
 pub use Rattle.trusted_memory.specs.Spans.{write_span}
 pub use Rattle.trusted_memory.specs.Writes.{Write, memory_write, newest_first}
-unfoldable pub use Rattle.trusted_memory.specs.Writes.{byte_after}
+unfoldable pub use Rattle.trusted_memory.specs.Writes.{byte_last_written}
 pub use Rattle.trusted_memory.specs.Regions.{in_one_region}
 pub use Rattle.trusted_memory.specs.Admitted.{is_on_bound, if_placed, admitted_write}
 pub use Rattle.trusted_memory.specs.Memory.{MemoryContents, IsLeftBy, Leads, bytes_from}

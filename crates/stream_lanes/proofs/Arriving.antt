@@ -2,9 +2,8 @@
 -- always holds. It goes by the packet's sub-stream and the answer: its own receiver takes the packet, and if that
 -- failed all three drop what they hold, its own one for the second time, which changes nothing. The order stays since
 -- an accepted unit has passed its test, and the number of accepted posted packets never falls.
-use Rattle.std.proofs.Common.{◌≡◌, ℕ, ◌+◌, ◌≤◌, Bool, true, false, not, ◌&&◌, ◌||◌, ◌==◌, nat_le}
-use Rattle.std.proofs.Common.{if◌then◌else◌, [], ◌∷◌, ◌++◌, length, Option, Some, None, refl, sym, ap, ◌∙◌, subst}
-use Rattle.std.proofs.Common.{arith}
+use Rattle.std.proofs.Common.{◌≡◌, ℕ, ◌+◌, ◌≤◌, Bool, true, false, not, ◌&&◌, ◌||◌, ◌==◌, nat_le, if◌then◌else◌, []}
+use Rattle.std.proofs.Common.{◌∷◌, ◌++◌, length, Option, Some, None, refl, sym, ap, ◌∙◌, subst, arith}
 use Rattle.std.proofs.lemmas.Grind.{common_steps}
 use Rattle.ide_types.specs.Sub.{sub_bits, is_same_sub}
 use Rattle.ide_types.specs.declared.sub.SubKind.{SubKind}

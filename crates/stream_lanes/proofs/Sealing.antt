@@ -21,7 +21,7 @@ use Rattle.spec_stream.specs.Stream.{live_sender}
 use Rattle.spec_stream.specs.Stream.{lane_of, packet_under, tagged_under, untagged_under, sealed_slots, ended_slots}
 use Rattle.spec_stream.specs.Slots.{is_live_slot, any_live, is_busy, both_slots, slot_gone}
 use Rattle.key_slots.specs.{is_only_live}
-use Rattle.sub_stream.specs.{Sender, Content, packets_under, ready_of, ready_under, sealing_of, sealing_under}
+use Rattle.sub_stream.specs.{Sender, Content, packets_under, ready_of, ready_key, sealing_of, sealing_if_ready}
 use Rattle.sub_stream.specs.{sender_ahead, unit_ahead, Sealing, slot_pair, gone_slots, gone_sender, programmed_sender}
 use Rattle.stream_lanes.specs.Lanes.{SendEnd, IsSendLane, open_unit_number, open_in, sealing_lane, described_packet}
 use Rattle.stream_lanes.specs.Lanes.{is_spent, packet_said, measured_packet, sync_said}
@@ -270,7 +270,7 @@ sealing-is tx limit closed posted total lent c more inv live unspent is_lent is_
         let spent : ((length x.1.packets == 0) && (x.1.units == tx.limit)) ≡ false =
         ap (λ (o : Option (Bool × LiveKey)). begins_unit (lane_of posted o) && ((lane_of posted o).units == tx.limit))
         (sym is) ∙ unspent in
-        let ready : ready_of tx ≡ Ok x = ap (ready_under tx.limit) is ∙ ready_live tx.limit _ x spent in
+        let ready : ready_of tx ≡ Ok x = ap (ready_key tx.limit) is ∙ ready_live tx.limit _ x spent in
         let open_ahead : (length x.1.packets == 0) ≡ false → tx.ahead ≡ total_ahead closed (x.1.units + 1) total =
         subst (λ (o : Option (Bool × LiveKey)). (length (packets_under o) == 0) ≡ false → tx.ahead
         ≡ total_ahead closed (open_unit_number o) total) is inv.ahead in
@@ -278,7 +278,7 @@ sealing-is tx limit closed posted total lent c more inv live unspent is_lent is_
         ahead-right (length x.1.packets == 0) tx.ahead closed total (x.1.units + 1) lent is_lent open_ahead in
         let count : c.posted ≡ (if is_posted tx.sub then 0 else posted) = is_posted_count ∙ count_said
         (is_posted tx.sub) posted inv.no_count in
-        ap (sealing_under tx lent c more) ready
+        ap (sealing_if_ready tx lent c more) ready
         ∙ (λ i. Ok (sealed_with x (ahead i) (count i)))
         ∙ ap (λ (o : Option (Bool × LiveKey)). Ok (sealing_with tx closed posted total c more o)) (sym is)
       where

@@ -18,8 +18,7 @@ ghost use Rattle.stream_lanes.specs.Sends.{refusal_verdict, IsSealed, IsSealedOr
 ghost use Rattle.stream_lanes.specs.Lanes.{new_send_ends, send_end_at, sealing_lanes, sealing_lane, is_spent, tlp_said};
 ghost use Rattle.stream_lanes.specs.Lanes.{packet_said_at, sealed_ends, measured_packet, open_in, any_out, all_out};
 ghost use Rattle.stream_lanes.specs.Lanes.{settled_senders, called_ends, ends_after_sync, sync_packets, sync_bytes};
-ghost use Rattle.stream_lanes.specs.Lanes.{new_send_end};
-ghost use Rattle.stream_lanes.specs.Lanes.{sync_said, packet_said, sealed_end, posted_end, forgotten_end};
+ghost use Rattle.stream_lanes.specs.Lanes.{new_send_end, sync_said, packet_said, sealed_end, posted_end, forgotten_end};
 ghost use Rattle.stream_lanes.specs.Lanes.{called_send_end, KeepsUnit, SealedAtMost};
 
 use crate::fixed::{Fixed, lent_total};

@@ -30,7 +30,7 @@ use Rattle.sub_stream.specs.Seen.{slot_as_seen, live_key_seen, has_armed, is_pro
 use Rattle.sub_stream.specs.Senders.{begun_where_empty, unit_ahead}
 use Rattle.sub_stream.specs.Receivers.{Receiver, held_zero, held_one, receiver_slots_seen, packets_if_delivered}
 use Rattle.sub_stream.specs.Receivers.{ahead_if_held, HoldsFew, IsReceiver, holds_some, holds_apart, held_set}
-use Rattle.sub_stream.specs.Receivers.{holds_after, held_alone, held_unless_failed, is_accepted, is_draw_below}
+use Rattle.sub_stream.specs.Receivers.{holds_after_answer, held_alone, held_unless_failed, is_accepted, is_draw_below}
 use Rattle.sub_stream.specs.Receivers.{without_older, slots_after, fits_held, fits_unit, key_for, receiver_ahead}
 use Rattle.sub_stream.specs.Receivers.{is_tagged_behind, judged_packet, early_answer, early_of, BufferAfter}
 use Rattle.sub_stream.specs.Receivers.{receiver_outcome_by_keys, receiver_outcome, dropped_slots, dropped_receiver}
@@ -348,7 +348,7 @@ pub view-answered : (stream : ℕ) (sub : SubKind) (aggregation u0 u1 : ℕ) (pa
     (live_key_seen (units_of p.prefix.k u0 u1) (unit_kept h unit).packets held) p t new
     → view stream sub aggregation (counted_zero p.prefix.k u0 a) (counted_one p.prefix.k u1 a)
     (slots_after a p.prefix.k pair)
-    (holds_after p.prefix.k a) new
+    (holds_after_answer p.prefix.k a) new
     ≡ after_answer (view stream sub aggregation u0 u1 pair h unit) total p t
 view-answered stream sub aggregation u0 u1 pair h unit new total p held a t is apart tagless judged answered
     buffer =
@@ -358,7 +358,7 @@ view-answered stream sub aggregation u0 u1 pair h unit new total p held a t is a
         → BufferAfter (begun_where_empty (unit_kept h unit) total (units_of p.prefix.k u0 u1 + 1))
         (live_key_seen (units_of p.prefix.k u0 u1) (unit_kept h unit).packets held) p t new
         → view stream sub aggregation (counted_zero p.prefix.k u0 a) (counted_one p.prefix.k u1 a)
-        (slots_after a p.prefix.k pair) (holds_after p.prefix.k a) new
+        (slots_after a p.prefix.k pair) (holds_after_answer p.prefix.k a) new
         ≡ after_answer (view stream sub aggregation u0 u1 pair h unit) total p t
     by_taken NotKeyed j e b = absurd j
     by_taken Insecure j e b = absurd j
@@ -485,7 +485,7 @@ pub receiver-answered : (aggregation u0 u1 : ℕ) (pair : SlotPair) (h : Holds) 
     → BufferAfter (begun_where_empty (unit_kept h unit) total (units_of p.prefix.k u0 u1 + 1))
     (live_key_seen (units_of p.prefix.k u0 u1) (unit_kept h unit).packets held) p t new
     → new.aggregation ≡ aggregation
-    → IsReceiver aggregation (slots_after a p.prefix.k pair) (holds_after p.prefix.k a) new
+    → IsReceiver aggregation (slots_after a p.prefix.k pair) (holds_after_answer p.prefix.k a) new
 receiver-answered aggregation u0 u1 pair h unit new total p held a t inv is fits judged answered buffer
     same_aggregation
     =
@@ -493,8 +493,8 @@ receiver-answered aggregation u0 u1 pair h unit new total p held a t inv is fits
   where
     with_few : (b : Answer) → has_armed (slots_after b p.prefix.k pair) ≡ false → (slots_after b p.prefix.k pair).sender
         ≡ false
-        → HoldsFew (slots_after b p.prefix.k pair) aggregation (holds_after p.prefix.k b) new.packets
-        → IsReceiver aggregation (slots_after b p.prefix.k pair) (holds_after p.prefix.k b) new
+        → HoldsFew (slots_after b p.prefix.k pair) aggregation (holds_after_answer p.prefix.k b) new.packets
+        → IsReceiver aggregation (slots_after b p.prefix.k pair) (holds_after_answer p.prefix.k b) new
     with_few b armed_pair sender few = record {
       sender = sender;
       never_armed = armed_pair;
@@ -507,7 +507,7 @@ receiver-answered aggregation u0 u1 pair h unit new total p held a t inv is fits
     by_taken : (t : Taken) → IsJudged p t → Some a ≡ answer_taken t
         → BufferAfter (begun_where_empty (unit_kept h unit) total (units_of p.prefix.k u0 u1 + 1))
         (live_key_seen (units_of p.prefix.k u0 u1) (unit_kept h unit).packets held) p t new
-        → IsReceiver aggregation (slots_after a p.prefix.k pair) (holds_after p.prefix.k a) new
+        → IsReceiver aggregation (slots_after a p.prefix.k pair) (holds_after_answer p.prefix.k a) new
     by_taken NotKeyed j e b = absurd j
     by_taken Insecure j e b = absurd j
     by_taken (Failed cause) j e b =

@@ -16,7 +16,7 @@ use Rattle.ide_prefix.specs.Packet.{Packet, prefix_bytes, begins_sync}
 use Rattle.ide_prefix.specs.Units.{clear_bytes, authenticated_bytes, encrypted_bytes}
 use Rattle.spec_stream.specs.Stream.{posted_sum}
 use Rattle.ide_prefix.specs.{heads_of, bodies_of, overwritten_bytes, packets_with_bodies}
-use Rattle.sub_stream.specs.Gathered.{packets_in, parts_of, opened_from_byte, lent_parts, mark_of}
+use Rattle.sub_stream.specs.Gathered.{packets_of_prefixes, parts_of, opened_from_byte, lent_parts, mark_of}
 
 abbrev pub Parts : Type 0
 Parts = List ℕ × List ℕ
@@ -31,22 +31,22 @@ pub bodies-parts : (ps : List Packet) → bodies_of (map parts_of ps) ≡ encryp
 bodies-parts [] = refl
 bodies-parts (p ∷ ps) = ap (λ x. p.body ++ x) (bodies-parts ps)
 
-pub heads_in : (xs : List Parts) (ps : List Prefix) → map parts_of (packets_in xs ps) ≡ xs → heads_of xs
-    ≡ authenticated_bytes (packets_in xs ps)
-heads_in xs ps e = ap heads_of (sym e) ∙ heads-parts (packets_in xs ps)
+pub heads_in : (xs : List Parts) (ps : List Prefix) → map parts_of (packets_of_prefixes xs ps) ≡ xs → heads_of xs
+    ≡ authenticated_bytes (packets_of_prefixes xs ps)
+heads_in xs ps e = ap heads_of (sym e) ∙ heads-parts (packets_of_prefixes xs ps)
 
-pub bodies_in : (xs : List Parts) (ps : List Prefix) → map parts_of (packets_in xs ps) ≡ xs → bodies_of xs
-    ≡ encrypted_bytes (packets_in xs ps)
-bodies_in xs ps e = ap bodies_of (sym e) ∙ bodies-parts (packets_in xs ps)
+pub bodies_in : (xs : List Parts) (ps : List Prefix) → map parts_of (packets_of_prefixes xs ps) ≡ xs → bodies_of xs
+    ≡ encrypted_bytes (packets_of_prefixes xs ps)
+bodies_in xs ps e = ap bodies_of (sym e) ∙ bodies-parts (packets_of_prefixes xs ps)
 
-pub length-packets_in : (xs : List Parts) (ps : List Prefix) → map parts_of (packets_in xs ps) ≡ xs
-    → length (packets_in xs ps) ≡ length xs
-length-packets_in xs ps e = sym (length-map (packets_in xs ps) parts_of) ∙ ap length e
+pub length-packets_of_prefixes : (xs : List Parts) (ps : List Prefix) → map parts_of (packets_of_prefixes xs ps) ≡ xs
+    → length (packets_of_prefixes xs ps) ≡ length xs
+length-packets_of_prefixes xs ps e = sym (length-map (packets_of_prefixes xs ps) parts_of) ∙ ap length e
 
 -- ---- one more
 
 pub packets-added : (xs : List Parts) (ps : List Prefix) (p : Prefix) (h b : List ℕ) → length xs < length ps
-    → packets_in (xs ++ (prefix_bytes p ++ h, b) ∷ []) (set ps (length xs) p) ≡ packets_in xs ps
+    → packets_of_prefixes (xs ++ (prefix_bytes p ++ h, b) ∷ []) (set ps (length xs) p) ≡ packets_of_prefixes xs ps
     ++ record { prefix = p; head = h; body = b; tag = [] } ∷ []
 packets-added [] [] p h b lt = absurd (omega arith)
 packets-added [] (q ∷ ps) p h b lt = refl
@@ -65,22 +65,24 @@ pub posted-cons : (p : Packet) (ps : List Packet) → posted_sum (p ∷ ps) ≡ 
 posted-cons p ps = sum_by-cons (λ (x : Packet). x.prefix.posted) p ps
 
 pub posted-packets_with_bodies : (xs : List Parts) (ps : List Prefix) (bytes : List ℕ)
-    → posted_sum (packets_in (packets_with_bodies xs bytes) ps) ≡ posted_sum (packets_in xs ps)
+    → posted_sum (packets_of_prefixes (packets_with_bodies xs bytes) ps) ≡ posted_sum (packets_of_prefixes xs ps)
 posted-packets_with_bodies [] ps bytes = refl
 posted-packets_with_bodies (x ∷ xs) [] bytes = refl
 posted-packets_with_bodies (x ∷ xs) (p ∷ ps) bytes =
     let q : List ℕ → Packet = λ b. record { prefix = p; head = drop 4 x.0; body = b; tag = [] } in
-    posted-cons (q (take (length x.1) bytes)) (packets_in (packets_with_bodies xs (drop (length x.1) bytes)) ps)
+    posted-cons (q (take (length x.1) bytes))
+    (packets_of_prefixes (packets_with_bodies xs (drop (length x.1) bytes)) ps)
     ∙ ap (λ n. p.posted + n) (posted-packets_with_bodies xs ps (drop (length x.1) bytes))
-    ∙ sym (posted-cons (q x.1) (packets_in xs ps))
+    ∙ sym (posted-cons (q x.1) (packets_of_prefixes xs ps))
 
-pub parts-packets_with_bodies : (xs : List Parts) (ps : List Prefix) (bytes : List ℕ) → map parts_of (packets_in xs ps)
+pub parts-packets_with_bodies : (xs : List Parts) (ps : List Prefix) (bytes : List ℕ)
+    → map parts_of (packets_of_prefixes xs ps)
     ≡ xs
-    → map parts_of (packets_in (packets_with_bodies xs bytes) ps) ≡ packets_with_bodies xs bytes
+    → map parts_of (packets_of_prefixes (packets_with_bodies xs bytes) ps) ≡ packets_with_bodies xs bytes
 parts-packets_with_bodies [] ps bytes e = refl
 parts-packets_with_bodies (x ∷ xs) [] bytes e = absurd (cc)
 parts-packets_with_bodies (x ∷ xs) (p ∷ ps) bytes e =
-    let rest : map parts_of (packets_in xs ps) ≡ xs = cc in
+    let rest : map parts_of (packets_of_prefixes xs ps) ≡ xs = cc in
     let first : parts_of (record { prefix = p; head = drop 4 x.0; body = x.1; tag = [] }) ≡ x = cc in
     let head : prefix_bytes p ++ drop 4 x.0 ≡ x.0 = ap (λ (y : Parts). y.0) first in
     λ i. (head i, take (length x.1) bytes) ∷ parts-packets_with_bodies xs ps (drop (length x.1) bytes) rest i
@@ -92,8 +94,8 @@ cut_back : (a b : List ℕ) (n : ℕ) → n ≡ length a → drop n (a ++ b) ≡
 cut_back a b n e = rw e (drop-append_seam a b)
 
 pub opened_packets-packets_with_bodies : (key iv : List ℕ) (n : ℕ) (xs : List Parts) (ps : List Prefix)
-    → packets_in (packets_with_bodies xs (masked_bytes key iv n (bodies_of xs))) ps
-    ≡ opened_from_byte key iv n (packets_in xs ps)
+    → packets_of_prefixes (packets_with_bodies xs (masked_bytes key iv n (bodies_of xs))) ps
+    ≡ opened_from_byte key iv n (packets_of_prefixes xs ps)
 opened_packets-packets_with_bodies key iv n [] ps = refl
 opened_packets-packets_with_bodies key iv n (x ∷ xs) [] = refl
 opened_packets-packets_with_bodies key iv n (x ∷ xs) (p ∷ ps) =
@@ -106,7 +108,7 @@ opened_packets-packets_with_bodies key iv n (x ∷ xs) (p ∷ ps) =
     let back : drop (length x.1) (masked_bytes key iv n (x.1 ++ bodies_of xs))
     ≡ b = rw both (cut_back a b (length x.1) la) in
     (λ i. record { prefix = p; head = drop 4 x.0; body = front i; tag = [] }
-    ∷ packets_in (packets_with_bodies xs (back i)) ps)
+    ∷ packets_of_prefixes (packets_with_bodies xs (back i)) ps)
     ∙ ap (λ y. record { prefix = p; head = drop 4 x.0; body = a; tag = [] } ∷ y)
     (opened_packets-packets_with_bodies key iv (n + length x.1) xs ps)
 
@@ -119,14 +121,17 @@ pub parts-lent : (ps : List Packet) → map (λ (x : Parts). (drop 4 x.0, x.1)) 
 parts-lent [] = refl
 parts-lent (p ∷ ps) = ap (λ y. lent_parts p ∷ y) (parts-lent ps)
 
-pub lent_at : (xs : List Parts) (ps : List Prefix) (i : ℕ) (clear body : List ℕ) → map parts_of (packets_in xs ps) ≡ xs
-    → slice_get xs i ≡ Some (clear, body) → slice_get (map lent_parts (packets_in xs ps)) i ≡ Some (drop 4 clear, body)
+pub lent_at : (xs : List Parts) (ps : List Prefix) (i : ℕ) (clear body : List ℕ)
+    → map parts_of (packets_of_prefixes xs ps) ≡ xs
+    → slice_get xs i ≡ Some (clear, body) → slice_get (map lent_parts (packets_of_prefixes xs ps)) i
+    ≡ Some (drop 4 clear, body)
 lent_at xs ps i clear body e at =
     let cut : Parts → Parts = λ x. (drop 4 x.0, x.1) in
-    ap (λ y. slice_get y i) (sym (parts-lent (packets_in xs ps)) ∙ ap (map cut) e)
+    ap (λ y. slice_get y i) (sym (parts-lent (packets_of_prefixes xs ps)) ∙ ap (map cut) e)
     ∙ slice_get-map cut xs i ∙ ap (option_map cut) at
 
-pub clear_long : (xs : List Parts) (ps : List Prefix) (i : ℕ) (clear body : List ℕ) → map parts_of (packets_in xs ps)
+pub clear_long : (xs : List Parts) (ps : List Prefix) (i : ℕ) (clear body : List ℕ)
+    → map parts_of (packets_of_prefixes xs ps)
     ≡ xs
     → slice_get xs i ≡ Some (clear, body) → 4 ≤ length clear
 clear_long [] ps i clear body e at = absurd (cc)
@@ -137,12 +142,12 @@ clear_long (x ∷ xs) (p ∷ ps) zero clear body e at =
     let head : prefix_bytes p ++ drop 4 x.0 ≡ clear = ap (λ (y : Parts). y.0) (first ∙ same) in
     omega (arith, ap length head)
 clear_long (x ∷ xs) (p ∷ ps) (suc i) clear body e at =
-    let rest : map parts_of (packets_in xs ps) ≡ xs = cc in
+    let rest : map parts_of (packets_of_prefixes xs ps) ≡ xs = cc in
     clear_long xs ps i clear body rest at
 
 pub mark_at : (xs : List Parts) (ps : List Prefix) (i : ℕ) (clear body : List ℕ) (d : Prefix) → i < length xs
-    → map parts_of (packets_in xs ps) ≡ xs → slice_get xs i ≡ Some (clear, body)
-    → slice_get (map mark_of (packets_in xs ps)) i ≡ Some
+    → map parts_of (packets_of_prefixes xs ps) ≡ xs → slice_get xs i ≡ Some (clear, body)
+    → slice_get (map mark_of (packets_of_prefixes xs ps)) i ≡ Some
     (record { t = (get_or ps i d).t; sync = begins_sync (get_or ps i d).sub (slice_index clear 4) })
 mark_at [] ps i clear body d lt e at = absurd (omega arith)
 mark_at (x ∷ xs) [] i clear body d lt e at = absurd (cc)
@@ -152,7 +157,7 @@ mark_at (x ∷ xs) (p ∷ ps) zero clear body d lt e at =
     let head : prefix_bytes p ++ drop 4 x.0 ≡ clear = ap (λ (y : Parts). y.0) (first ∙ same) in
     ap (λ y. Some (record { t = p.t; sync = begins_sync p.sub (slice_index y 4) })) head
 mark_at (x ∷ xs) (p ∷ ps) (suc i) clear body d lt e at =
-    let rest : map parts_of (packets_in xs ps) ≡ xs = cc in
+    let rest : map parts_of (packets_of_prefixes xs ps) ≡ xs = cc in
     mark_at xs ps i clear body d (omega arith) rest at
 
 pub whole_rest : (s : List ℕ) → take (length s - 4) (drop 4 s) ≡ drop 4 s

@@ -19,12 +19,12 @@ use Rattle.sub_stream.specs.declared.answer.TxRefusal.TheVariants.{Worn}
 use Rattle.sub_stream.specs.Seen.{sender_slots_seen, has_live, both_live}
 use Rattle.sub_stream.specs.Gathered.{Gathered, with_packet, clear_of, no_packets}
 use Rattle.sub_stream.specs.Masked.{masked_packet, packet_with_tag}
-use Rattle.sub_stream.specs.Senders.{Sender, Content, ready_of, ready_under, sealing_of, sealing_under, sealing_as}
+use Rattle.sub_stream.specs.Senders.{Sender, Content, ready_of, ready_key, sealing_of, sealing_if_ready, sealing_by_key}
 use Rattle.sub_stream.specs.Senders.{tagged_packet, ends, sender_ahead, IsSender}
 
 pub sealing_with : (tx : Sender) (total : List ℕ) (c : Content) (more : Bool) (x : Bool × LiveKey) → Ok x ≡ ready_of tx
-    → sealing_of tx total c more ≡ Ok (sealing_as tx total x c (ends tx x.1 more))
-sealing_with tx total c more x e = ap (sealing_under tx total c more) (sym e)
+    → sealing_of tx total c more ≡ Ok (sealing_by_key tx total x c (ends tx x.1 more))
+sealing_with tx total c more x e = ap (sealing_if_ready tx total c more) (sym e)
 
 -- it is the rules' packet
 pub packet-tagged : (tx : Sender) (total : List ℕ) (x : Bool × LiveKey) (c : Content) (m : Bool) (unit : Gathered)
@@ -188,12 +188,12 @@ not_worn false b x y n e h = absurd (cc)
 
 -- a unit that begins is one of those that the key may seal
 begins_within : (pair : SlotPair) (units limit : ℕ) (ps : List Packet) (x : Bool × LiveKey)
-    → Ok x ≡ ready_under limit (live_sender (sender_slots_seen pair units ps)) → (length ps == 0) ≡ true
+    → Ok x ≡ ready_key limit (live_sender (sender_slots_seen pair units ps)) → (length ps == 0) ≡ true
     → (units == limit)
     ≡ false
 begins_within pair units limit ps x = by_slots pair.zero pair.one
   where
-    by_slots : (a b : KeySlot) → Ok x ≡ ready_under limit
+    by_slots : (a b : KeySlot) → Ok x ≡ ready_key limit
         (live_sender (sender_slots_seen (record { sender = true; zero = a; one = b }) units ps))
         → (length ps == 0) ≡ true → (units == limit) ≡ false
     by_slots (Live g) b e h = not_worn (length ps == 0) (units == limit) x _ limit e h
@@ -212,10 +212,10 @@ begins_within pair units limit ps x = by_slots pair.zero pair.one
 
 -- a key that seals is Live
 pub keyed_live : (pair : SlotPair) (units limit : ℕ) (ps : List Packet) (x : Bool × LiveKey)
-    → Ok x ≡ ready_under limit (live_sender (sender_slots_seen pair units ps)) → has_live pair ≡ true
+    → Ok x ≡ ready_key limit (live_sender (sender_slots_seen pair units ps)) → has_live pair ≡ true
 keyed_live pair units limit ps x = by_slots pair.zero pair.one
   where
-    by_slots : (a b : KeySlot) → Ok x ≡ ready_under limit
+    by_slots : (a b : KeySlot) → Ok x ≡ ready_key limit
         (live_sender (sender_slots_seen (record { sender = true; zero = a; one = b }) units ps))
         → has_live (record { sender = true; zero = a; one = b }) ≡ true
     by_slots (Live g) b e = refl
@@ -234,7 +234,7 @@ keyed_live pair units limit ps x = by_slots pair.zero pair.one
 
 within_limit : (aggregation limit units : ℕ) (pair : SlotPair) (unit : Gathered) (x : Bool × LiveKey)
     → IsSender aggregation limit units pair unit → has_live pair ≡ true
-    → Ok x ≡ ready_under limit (live_sender (sender_slots_seen pair units unit.packets)) → units < limit
+    → Ok x ≡ ready_key limit (live_sender (sender_slots_seen pair units unit.packets)) → units < limit
 within_limit aggregation limit units pair unit x inv live e = by_open (length unit.packets == 0) refl
   where
     by_open : (b : Bool) → (length unit.packets == 0) ≡ b → units < limit
@@ -248,7 +248,7 @@ pub sender-sealed : (aggregation limit units units' : ℕ) (pair pair' : SlotPai
     (m more : Bool)
     (x : Bool × LiveKey)
     → IsSender aggregation limit units pair unit
-    → Ok x ≡ ready_under limit (live_sender (sender_slots_seen pair units unit.packets))
+    → Ok x ≡ ready_key limit (live_sender (sender_slots_seen pair units unit.packets))
     → m ≡ (not more || (length unit.packets + 1 == aggregation))
     → (m ≡ false → length unit2.packets ≡ length unit.packets + 1) → unit2.aggregation ≡ unit.aggregation
     → unit' ≡ (if m then no_packets unit2.aggregation else unit2)

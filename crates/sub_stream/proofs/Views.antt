@@ -12,14 +12,14 @@ use Rattle.ide_prefix.specs.Packet.{Packet, prefix_bytes}
 use Rattle.spec_stream.specs.Stream.{posted_sum}
 use Rattle.ide_prefix.specs.{Collected, unit_with_packet as with_parts, has_room, packets_with_bodies}
 use Rattle.ide_prefix.specs.{with_bodies, body_of}
-use Rattle.sub_stream.specs.Gathered.{Gathered, packets_in, parts_of, opened_packets, with_packet, IsGathered}
-use Rattle.sub_stream.proofs.Packets.{length-packets_in, packets-added, length-packets_with_bodies}
+use Rattle.sub_stream.specs.Gathered.{Gathered, packets_of_prefixes, parts_of, opened_packets, with_packet, IsGathered}
+use Rattle.sub_stream.proofs.Packets.{length-packets_of_prefixes, packets-added, length-packets_with_bodies}
 use Rattle.sub_stream.proofs.Packets.{posted-packets_with_bodies, parts-packets_with_bodies}
 use Rattle.sub_stream.proofs.Packets.{opened_packets-packets_with_bodies, overwritten_bytes-all}
 
 -- the packets that are seen of these fields
 abbrev pub view : List Prefix → Collected → Gathered
-view ps buf = record { aggregation = buf.aggregation; ahead = buf.ahead; packets = packets_in buf.packets ps }
+view ps buf = record { aggregation = buf.aggregation; ahead = buf.ahead; packets = packets_of_prefixes buf.packets ps }
 
 -- ---- decrypted
 
@@ -64,9 +64,10 @@ view-masked_bytes key iv ps buf new old was is =
 pub has_place : (ps : List Prefix) (n : ℕ) (buf : Collected) (old : Gathered) → IsGathered ps n buf → view ps buf ≡ old
     → length old.packets < old.aggregation → length buf.packets < buf.aggregation
 has_place ps n buf old g was lt =
-    let count : length (packets_in buf.packets ps) ≡ length old.packets = ap (λ (u : Gathered). length u.packets) was in
+    let count : length (packets_of_prefixes buf.packets ps) ≡ length old.packets = ap
+    (λ (u : Gathered). length u.packets) was in
     let aggregation : buf.aggregation ≡ old.aggregation = ap (λ (u : Gathered). u.aggregation) was in
-    omega (arith, count, aggregation, length-packets_in buf.packets ps g.parts, lt)
+    omega (arith, count, aggregation, length-packets_of_prefixes buf.packets ps g.parts, lt)
 
 added : (buf new : Collected) (head body : List ℕ) → length buf.packets < buf.aggregation → new
     ≡ with_parts buf head body
@@ -83,7 +84,7 @@ gathered-added ps n i buf new p h b head g lt at small clear is =
     let room : length buf.packets < length ps = omega (arith, lt, g.places, g.small_aggregation) in
     let xs = buf.packets ++ (prefix_bytes p ++ h, b) ∷ [] in
     let q : Packet = record { prefix = p; head = h; body = b; tag = [] } in
-    let packets : packets_in xs (set ps (length buf.packets) p) ≡ packets_in buf.packets ps ++ q
+    let packets : packets_of_prefixes xs (set ps (length buf.packets) p) ≡ packets_of_prefixes buf.packets ps ++ q
     ∷ [] = packets-added buf.packets ps p h b room in
     let more : length xs ≡ length buf.packets + 1 = length-append buf.packets ((prefix_bytes p ++ h, b) ∷ []) in
     let P : Collected → Type 0 = λ x. IsGathered (set ps (length buf.packets) p) (n + p.posted) x in
@@ -91,12 +92,13 @@ gathered-added ps n i buf new p h b head g lt at small clear is =
       places = length-set ps (length buf.packets) p ∙ g.places;
       small_aggregation = g.small_aggregation;
       fits = omega (arith, more, lt);
-      parts = ap (map parts_of) packets ∙ map-append parts_of (packets_in buf.packets ps) (q ∷ []) ∙ ap
+      parts = ap (map parts_of) packets ∙ map-append parts_of (packets_of_prefixes buf.packets ps) (q ∷ []) ∙ ap
           (λ x. x ++ parts_of q ∷ []) g.parts;
       sum = ap (λ x. x + p.posted) g.sum ∙
-          (let e : posted_sum (packets_in buf.packets ps) + p.posted
-          ≡ posted_sum (packets_in buf.packets ps) + posted_sum (q ∷ []) = omega arith in e)
-          ∙ sym (sum_by-append (λ (x : Packet). x.prefix.posted) (packets_in buf.packets ps) (q ∷ [])) ∙ ap posted_sum
+          (let e : posted_sum (packets_of_prefixes buf.packets ps) + p.posted
+          ≡ posted_sum (packets_of_prefixes buf.packets ps) + posted_sum (q ∷ []) = omega arith in e)
+          ∙ sym (sum_by-append (λ (x : Packet). x.prefix.posted) (packets_of_prefixes buf.packets ps) (q ∷ [])) ∙ ap
+          posted_sum
           (sym packets);
       few = omega (arith, more, g.few, small);
     } in

@@ -37,10 +37,11 @@ lent_totals (Some total) = total.now
 -- ---- packets in a buffer
 
 -- the packets of these prefixes: a head is the bytes of a prefix, and a header
-abbrev pub packets_in : List (List ℕ × List ℕ) → List Prefix → List Packet
-packets_in [] ps = []
-packets_in (x ∷ xs) [] = []
-packets_in (x ∷ xs) (p ∷ ps) = record { prefix = p; head = drop 4 x.0; body = x.1; tag = [] } ∷ packets_in xs ps
+abbrev pub packets_of_prefixes : List (List ℕ × List ℕ) → List Prefix → List Packet
+packets_of_prefixes [] ps = []
+packets_of_prefixes (x ∷ xs) [] = []
+packets_of_prefixes (x ∷ xs) (p ∷ ps) = record { prefix = p; head = drop 4 x.0; body = x.1; tag = [] }
+    ∷ packets_of_prefixes xs ps
 
 abbrev pub parts_of : Packet → List ℕ × List ℕ
 parts_of p = (clear_bytes p, p.body)
@@ -50,8 +51,8 @@ pub record IsGathered (prefixes : List Prefix) (posted : ℕ) (buf : Collected) 
   pub places : length prefixes ≡ 8
   pub small_aggregation : buf.aggregation ≤ 8
   pub fits : length buf.packets ≤ buf.aggregation
-  pub parts : map parts_of (packets_in buf.packets prefixes) ≡ buf.packets
-  pub sum : posted ≡ posted_sum (packets_in buf.packets prefixes)
+  pub parts : map parts_of (packets_of_prefixes buf.packets prefixes) ≡ buf.packets
+  pub sum : posted ≡ posted_sum (packets_of_prefixes buf.packets prefixes)
   pub few : posted ≤ 255 * length buf.packets
 
 -- ---- decrypted

@@ -15,10 +15,10 @@ pub use Rattle.sub_stream.specs.Answers.{numbered_packet, answer_taken}
 pub use Rattle.sub_stream.specs.Gathered.{lent_totals, lent_parts, mark_of, opened_from_byte, opened_packets}
 pub use Rattle.sub_stream.specs.Seen.{key_slot, slot_pair}
 pub use Rattle.spec_stream.specs.Slots.{no_slots}
-pub use Rattle.sub_stream.specs.Senders.{Sender, new_sender, ready_under, ready_of, packets_under, open_packets}
+pub use Rattle.sub_stream.specs.Senders.{Sender, new_sender, ready_key, ready_of, packets_under, open_packets}
 pub use Rattle.sub_stream.specs.Senders.{is_unfinished, Content, tlp_content, sync_content, described_content}
 pub use Rattle.sub_stream.specs.Senders.{with_length, unit_ahead, sender_ahead, tagged_packet, ends, Sealing}
-pub use Rattle.sub_stream.specs.Senders.{sealing_as, sealing_under, sealing_of, sealing_answer, sealing_bytes}
+pub use Rattle.sub_stream.specs.Senders.{sealing_by_key, sealing_if_ready, sealing_of, sealing_answer, sealing_bytes}
 pub use Rattle.sub_stream.specs.Senders.{sender_after, programmed_sender, gone_slots, gone_sender, stopped_slots}
 pub use Rattle.sub_stream.specs.Senders.{stopped_sender}
 pub use Rattle.sub_stream.specs.Receivers.{Receiver, new_receiver, key_for, receiver_ahead, is_tagged_behind, fits_unit}

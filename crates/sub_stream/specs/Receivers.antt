@@ -78,10 +78,10 @@ holds_apart k h = false
 abbrev pub held_set : Bool → Holds
 held_set k = if k then HeldOne else HeldZero
 
-abbrev pub holds_after : Bool → Answer → Holds
-holds_after k (answers.Held draw unit) = held_set k
-holds_after k (answers.Accepted draw unit count) = Delivered
-holds_after k answer = Nothing
+abbrev pub holds_after_answer : Bool → Answer → Holds
+holds_after_answer k (answers.Held draw unit) = held_set k
+holds_after_answer k (answers.Accepted draw unit count) = Delivered
+holds_after_answer k answer = Nothing
 
 abbrev pub is_accepted : Answer → Bool
 is_accepted (answers.Accepted draw unit count) = true

@@ -50,12 +50,12 @@ pub record IsSender (aggregation limit units : ℕ) (pair : SlotPair) (unit : Ga
 -- ---- sealing
 
 -- a key that may seal a packet, with its set, or why there is none
-abbrev pub ready_under : ℕ → Option (Bool × LiveKey) → Result (Bool × LiveKey) TxRefusal
-ready_under limit None = Err NoKey
-ready_under limit (Some x) = if (length x.1.packets == 0) && (x.1.units == limit) then Err (Worn limit) else Ok x
+abbrev pub ready_key : ℕ → Option (Bool × LiveKey) → Result (Bool × LiveKey) TxRefusal
+ready_key limit None = Err NoKey
+ready_key limit (Some x) = if (length x.1.packets == 0) && (x.1.units == limit) then Err (Worn limit) else Ok x
 
 abbrev pub ready_of : Sender → Result (Bool × LiveKey) TxRefusal
-ready_of tx = ready_under tx.limit (live_sender tx.slots)
+ready_of tx = ready_key tx.limit (live_sender tx.slots)
 
 abbrev pub packets_under : Option (Bool × LiveKey) → List Packet
 packets_under None = []
@@ -142,8 +142,8 @@ pub record Sealing : Type 0 where
   pub packet : Packet
   pub sender : Sender
 
-abbrev pub sealing_as : Sender → List ℕ → Bool × LiveKey → Content → Bool → Sealing
-sealing_as tx total x c m =
+abbrev pub sealing_by_key : Sender → List ℕ → Bool × LiveKey → Content → Bool → Sealing
+sealing_by_key tx total x c m =
     let p = tagged_packet tx total x c m in
     record {
       description = with_length (described_content tx x c m) (length (packet_bytes p));
@@ -151,14 +151,14 @@ sealing_as tx total x c m =
       sender = record tx { ahead = (if m then [] else sender_ahead tx x.1 total); slots = sealed_slots m p tx.slots };
     }
 
-abbrev pub sealing_under : Sender → List ℕ → Content → Bool → Result (Bool × LiveKey) TxRefusal
+abbrev pub sealing_if_ready : Sender → List ℕ → Content → Bool → Result (Bool × LiveKey) TxRefusal
     → Result Sealing TxRefusal
-sealing_under tx total c more (Err e) = Err e
-sealing_under tx total c more (Ok x) = Ok (sealing_as tx total x c (ends tx x.1 more))
+sealing_if_ready tx total c more (Err e) = Err e
+sealing_if_ready tx total c more (Ok x) = Ok (sealing_by_key tx total x c (ends tx x.1 more))
 
 -- what becomes of sealing; `more` says that the unit goes on if it has room
 abbrev pub sealing_of : Sender → List ℕ → Content → Bool → Result Sealing TxRefusal
-sealing_of tx total c more = sealing_under tx total c more (ready_of tx)
+sealing_of tx total c more = sealing_if_ready tx total c more (ready_of tx)
 
 abbrev pub sealing_answer : Result Sealing TxRefusal → Result MeasuredPacket TxRefusal
 sealing_answer r = result_map_both (λ (s : Sealing). s.description) (λ (e : TxRefusal). e) r

@@ -14,8 +14,8 @@ ghost use Rattle.sub_stream.specs.Gathered.{lent_totals, clear_of, no_packets};
 ghost use Rattle.sub_stream.specs.Seen.{slot_pair, key_slot, is_programmed, live_key_seen};
 ghost use Rattle.sub_stream.specs.Senders.{begun_where_empty};
 ghost use Rattle.sub_stream.specs.Receivers.{fits_held, judged_packet, BufferAfter, holds_some, holds_apart};
-ghost use Rattle.sub_stream.specs.Receivers.{holds_after, held_alone, held_unless_failed, holds_without, is_accepted};
-ghost use Rattle.sub_stream.specs.Receivers.{without_older, slots_after, held_zero, held_one};
+ghost use Rattle.sub_stream.specs.Receivers.{holds_after_answer, held_alone, held_unless_failed, holds_without};
+ghost use Rattle.sub_stream.specs.Receivers.{is_accepted, without_older, slots_after, held_zero, held_one};
 
 use crate::answer::Taken;
 use crate::facts::{SetFacts, slot_facts};
@@ -94,7 +94,7 @@ impl Holds {
 
     /// What is held after an answer under a Live key.
     pub fn after(k: bool, taken: &Taken) -> Holds
-        ensures { result ≡ holds_after k taken.now }
+        ensures { result ≡ holds_after_answer k taken.now }
     {
         match taken {
             Taken::Held { .. } if k => Holds::HeldOne,

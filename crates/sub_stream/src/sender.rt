@@ -15,9 +15,8 @@ ghost use Rattle.sub_stream.specs.Gathered.{clear_of, lent_totals, with_packet};
 ghost use Rattle.sub_stream.specs.Masked.{masked_packet, packet_with_tag};
 ghost use Rattle.sub_stream.specs.Gathered as gathered;
 ghost use Rattle.sub_stream.specs.Seen.{shown_in_use, in_use, live_key_seen, sender_slots_seen, has_live, both_live};
-ghost use Rattle.sub_stream.specs.Seen.{has_armed};
-ghost use Rattle.sub_stream.specs.Seen.{is_programmed, slot_pair, key_slot};
-ghost use Rattle.sub_stream.specs.Senders.{ready_under, begun_where_empty, carried_content, tlp_content, sync_content};
+ghost use Rattle.sub_stream.specs.Seen.{has_armed, is_programmed, slot_pair, key_slot};
+ghost use Rattle.sub_stream.specs.Senders.{ready_key, begun_where_empty, carried_content, tlp_content, sync_content};
 
 use crate::answer::{MeasuredPacket, TxRefusal};
 use crate::facts::{SetFacts, slot_facts};
@@ -102,7 +101,7 @@ fn sealing_key<'a>(
     limit: u64,
 ) -> Result<(bool, &'a Gcm, u32), TxRefusal>
     ensures { result_map_both (λ x. (x.0, live_key_seen units unit.now.packets (record { key = x.1.now; draw = x.2 })))
-        (λ e. e) result ≡ ready_under limit (live_sender (sender_slots_seen slots.now units unit.now.packets)) }
+        (λ e. e) result ≡ ready_key limit (live_sender (sender_slots_seen slots.now units unit.now.packets)) }
 {
     match live_of(slots) {
         None => Err(TxRefusal::NoKey),

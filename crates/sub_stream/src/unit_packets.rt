@@ -35,14 +35,14 @@ pub struct UnitPackets {
 }
 
 impl Model for UnitPackets {
-    ghost use Rattle.sub_stream.specs.Gathered.{Gathered, packets_in, IsGathered};
+    ghost use Rattle.sub_stream.specs.Gathered.{Gathered, packets_of_prefixes, IsGathered};
 
     ghost Value = { Gathered };
 
     ghost view = { λ u. record {
       aggregation = u.buf.aggregation;
       ahead = u.buf.ahead;
-      packets = packets_in u.buf.packets u.prefixes;
+      packets = packets_of_prefixes u.buf.packets u.prefixes;
     } };
 
     ghost invariant = { λ u. IsGathered u.prefixes u.posted u.buf };

@@ -10,7 +10,7 @@ use Rattle.byteorder.specs.Endian.{little_bytes}
 use Rattle.byteorder.specs.Numbers.{little_number-reads_back}
 use Rattle.ide_types.proofs.Cells.{IsBytes, cells}
 use Rattle.tdisp_codec.specs.declared.fault.TdispFault.TheVariants.{Version, Kind}
-use Rattle.tdisp_codec.specs.Messages.{Ignored, message_bytes, SpellsMessage, type_in, function_in, body_in}
+use Rattle.tdisp_codec.specs.Messages.{Ignored, message_bytes, SpellsMessage, type_in, function_field, body_in}
 use Rattle.tdisp_codec.specs.Messages.{message_fault, message_fault_at}
 use Rattle.tdisp_codec.proofs.Octets.{no_bytes, AreOctets, are_bytes, octets, joins, leads, drop_split_cells}
 use Rattle.tdisp_codec.proofs.Octets.{list_cells, number_4, below_4, drop_octets, four_bytes, ignored_bytes}
@@ -21,7 +21,7 @@ pub record IsMessage (type function : ℕ) (body s : List ℕ) : Type 0 where
   pub protocol : get_or s 0 0 ≡ 1
   pub version : get_or s 1 0 ≡ 16
   pub type_is : type_in s ≡ type
-  pub function_is : function_in s ≡ function
+  pub function_is : function_field s ≡ function
   pub body_is : body_in s ≡ body
   pub long : length s ≡ 17 + length body
 
@@ -60,10 +60,10 @@ header_octets type function body s lt all p =
     rw p.spelled (are_bytes whole)
 
 pub header_spells : (s : List ℕ) → IsBytes s → 17 ≤ length s → get_or s 0 0 ≡ 1 → get_or s 1 0 ≡ 16
-    → SpellsMessage (type_in s) (function_in s) (body_in s) s
+    → SpellsMessage (type_in s) (function_field s) (body_in s) s
 header_spells s f le e0 e1 =
-    let x4 : little_bytes 4 (function_in s) ≡ cells 4 5 s = number_4 5 s f in
-    let whole : cells 17 0 s ++ drop 17 s ≡ message_bytes (cells 2 3 s) (cells 8 9 s) (type_in s) (function_in s)
+    let x4 : little_bytes 4 (function_field s) ≡ cells 4 5 s = number_4 5 s f in
+    let whole : cells 17 0 s ++ drop 17 s ≡ message_bytes (cells 2 3 s) (cells 8 9 s) (type_in s) (function_field s)
     (drop 17 s) = cc in
     record {
       first = ignored_bytes 2 3 s f;
@@ -179,7 +179,7 @@ pub record IsCodec {V : Type 0} (m : Messages V) (Spells : V → List ℕ → Ty
 module _ {V : Type 0} {m : Messages V} {Spells : V → List ℕ → Type 0} (c : IsCodec m Spells) where
   -- what the header says of type, function and body fixes the length and the value
   message_shape : (v : V) (s : List ℕ) → Spells v s → IsShaped (message_fits m.known) (message_size m.body_size) s
-      × (m.from (type_in s) (function_in s) (body_in s) ≡ v)
+      × (m.from (type_in s) (function_field s) (body_in s) ≡ v)
   message_shape v s spells =
       let p = c.spelling v s spells in
       let w = c.written v p.reserved p.fits in
@@ -196,13 +196,13 @@ module _ {V : Type 0} {m : Messages V} {Spells : V → List ℕ → Type 0} (c :
       )
 
   message_spells : (s : List ℕ) → IsShaped (message_fits m.known) (message_size m.body_size) s
-      → Spells (m.from (type_in s) (function_in s) (body_in s)) s
+      → Spells (m.from (type_in s) (function_field s) (body_in s)) s
   message_spells s shape =
       let long = shape.long in
       let f = shape.octets in
       let protocol : get_or s 0 0 ≡ 1 = eqb-true _ _ (shape.fitting 0 (omega arith)) in
       let version : get_or s 1 0 ≡ 16 = eqb-true _ _ (shape.fitting 1 (omega arith)) in
-      let b = c.back (type_in s) (function_in s) (body_in s) (shape.fitting 2 (omega arith)) (drop_octets 17 s f)
+      let b = c.back (type_in s) (function_field s) (body_in s) (shape.fitting 2 (omega arith)) (drop_octets 17 s f)
       (omega (arith, length-drop 17 s)) in
       c.spells _ s (record {
         function = subst (λ (n : ℕ). n < 2 ^ 32) b.function_is (below_4 5 s f);
@@ -212,7 +212,7 @@ module _ {V : Type 0} {m : Messages V} {Spells : V → List ℕ → Type 0} (c :
             (header_spells s f (omega arith) protocol version);
       })
 
-  pub message_reader : IsReader Spells (λ s. m.from (type_in s) (function_in s) (body_in s)) (message_fits m.known)
+  pub message_reader : IsReader Spells (λ s. m.from (type_in s) (function_field s) (body_in s)) (message_fits m.known)
       (message_size m.body_size) message_fault_at
       (λ s. message_fault (m.known (type_in s)) (message_size m.body_size s) s)
   message_reader = record {

@@ -39,12 +39,12 @@ pub record IsSpelled {V : Type 0} (Spells : V → List ℕ → Type 0) (bytes : 
 abbrev pub type_in : List ℕ → ℕ
 type_in bytes = slice_index bytes 2
 
-abbrev pub function_in : List ℕ → ℕ
-function_in bytes = little_number 4 (drop 5 bytes)
+abbrev pub function_field : List ℕ → ℕ
+function_field bytes = little_number 4 (drop 5 bytes)
 
 -- the function ID of a message; a header that is cut off has none
 abbrev pub function_of : List ℕ → Option ℕ
-function_of bytes = if nat_lt (length bytes) 17 then None else Some (function_in bytes)
+function_of bytes = if nat_lt (length bytes) 17 then None else Some (function_field bytes)
 
 abbrev pub body_in : List ℕ → List ℕ
 body_in bytes = drop 17 bytes

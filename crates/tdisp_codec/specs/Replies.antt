@@ -5,7 +5,7 @@ use Rattle.byteorder.specs.Endian.{little_bytes, little_number}
 use Rattle.tdisp_codec.specs.declared.fault.TdispFault.{TdispFault}
 use Rattle.tdisp_codec.specs.declared.reply.ReplyView.{ReplyView}
 use Rattle.tdisp_codec.specs.declared.reply.ReplyView.TheVariants as views
-use Rattle.tdisp_codec.specs.Messages.{Ignored, SpellsMessage, message_spelling, type_in, function_in, body_in}
+use Rattle.tdisp_codec.specs.Messages.{Ignored, SpellsMessage, message_spelling, type_in, function_field, body_in}
 use Rattle.tdisp_codec.specs.Messages.{message_fault, read_or}
 
 -- a reply as a value: lent bytes are the bytes
@@ -149,7 +149,7 @@ reply_of_type type function body =
     else StopInterface function
 
 abbrev pub decoded_reply : List ℕ → Reply
-decoded_reply bytes = reply_of_type (type_in bytes) (function_in bytes) (body_in bytes)
+decoded_reply bytes = reply_of_type (type_in bytes) (function_field bytes) (body_in bytes)
 
 -- the reply, or the first fault
 abbrev pub reply_reading : List ℕ → Result Reply TdispFault

@@ -5,7 +5,7 @@ ghost use Rattle.byteorder.specs.Endian.{little_number};
 ghost use Rattle.tdisp_codec.specs.Messages.{length_fault as length_fault_of, message_fault as message_fault_of};
 ghost use Rattle.tdisp_codec.specs.Messages.{function_of};
 ghost use Rattle.tdisp_codec.specs.Requests.{is_request as is_request_type, request_size as request_size_of};
-ghost use Rattle.tdisp_codec.specs.Requests.{request_from, request_reading};
+ghost use Rattle.tdisp_codec.specs.Requests.{request_of_type, request_reading};
 ghost use Rattle.tdisp_codec.specs.Replies.{is_reply as is_reply_type, reply_size as reply_size_of};
 ghost use Rattle.tdisp_codec.specs.Replies.{DeviceInterfaceReport, capabilities_from, reply_of_type, reply_shown};
 ghost use Rattle.tdisp_codec.specs.Replies.{reply_answer, reply_reading};
@@ -103,7 +103,7 @@ fn nonce(bytes: &[u8]) -> [u8; 32]
 /// The request of this type with this body.
 fn request(kind: u8, function: u32, body: &[u8]) -> RequestView
     requires { length body.now ≡ request_size_of kind }
-    ensures { result ≡ request_from kind function body.now }
+    ensures { result ≡ request_of_type kind function body.now }
 {
     match kind {
         0x81 => RequestView::GetVersion { function },

@@ -3,10 +3,10 @@ use Rattle.std.proofs.Common.{◌≡◌, ℕ, ◌+◌, ◌<◌, ◌≤◌, true,
 use Rattle.std.proofs.Common.{is_some, refl, sym, ap, subst, ◌∙◌, inl, inr, arith}
 use Rattle.std.proofs.lemmas.Bool.{cases_eq, le-ltb, eq-eqb, ne_eqb, and_parts}
 use Rattle.std.proofs.lemmas.List.{take_all}
-use Rattle.tlp_layout.specs.{Layout, HeadView, body_size, TlpFault, SpellsHead, head_size, layout_at, fault_at, IsFault}
-use Rattle.tlp_layout.specs.{IsHeadFault, head_of, rest_size, whole_size, may_follow, SpellsTlp, with_payload}
+use Rattle.tlp_layout.specs.{Layout, HeadView, body_size, TlpFault, SpellsHead, head_size, layout_of_byte, fault_at}
+use Rattle.tlp_layout.specs.{IsFault, IsHeadFault, head_of, rest_size, whole_size, may_follow, SpellsTlp, with_payload}
 use Rattle.tlp_layout.specs.declared.fault.TlpFault.TheVariants as faults
-use Rattle.tlp_layout.specs.Inside.{Agrees, Stops, StopsAt}
+use Rattle.tlp_layout.specs.Inside.{Agrees, GoesOff, GoesOffAt}
 use Rattle.ide_types.proofs.Cells.{IsBytes}
 use Rattle.tlp_layout.proofs.Heads.{back, head_size_at_least}
 use Rattle.tlp_layout.proofs.Walk.{IsWalked, fits_from, agrees_there}
@@ -19,13 +19,14 @@ no_kind : (o : Option Layout) → o ≡ None → is_some o ≡ true → ⊥
 no_kind None e t = absurd cc
 no_kind (Some k) e t = absurd cc
 
-stops_short : (s : List ℕ) (f : TlpFault) (place : ℕ) → StopsAt s f place → place < head_size (get_or s 0 0)
+stops_short : (s : List ℕ) (f : TlpFault) (place : ℕ) → GoesOffAt s f place → place < head_size (get_or s 0 0)
 stops_short s f place h = elim (cases_eq place 0) [
   | inl none ↦ omega (arith, head_size_at_least (get_or s 0 0))
   | inr some ↦ (h.behind (omega arith)).2
 ]
 
-stops_end : (size : List ℕ → ℕ) (s : List ℕ) (f : TlpFault) (place : ℕ) → place ≤ size s → IsBytes s → StopsAt s f place
+stops_end : (size : List ℕ → ℕ) (s : List ℕ) (f : TlpFault) (place : ℕ) → place ≤ size s → IsBytes s
+    → GoesOffAt s f place
     → EndsAt size may_follow s place
 stops_end size s f place sized fit h = record {
   within = h.within;
@@ -38,8 +39,8 @@ stops_end size s f place sized fit h = record {
     | inl none ↦
         let first : may_follow (take 0 s) (get_or s 0 0) ≡ true = subst
         (λ (p : ℕ). may_follow (take p s) (get_or s p 0) ≡ true) none fits in
-        let yes = (and_parts (ltb (get_or s 0 0) 256) (is_some (layout_at (get_or s 0 0))) first).1 in
-        no_kind (layout_at (get_or s 0 0)) (h.first none less) yes
+        let yes = (and_parts (ltb (get_or s 0 0) 256) (is_some (layout_of_byte (get_or s 0 0))) first).1 in
+        no_kind (layout_of_byte (get_or s 0 0)) (h.first none less) yes
     | inr some ↦
         let b = h.behind (omega arith) in
         let no = b.4 less in
@@ -48,7 +49,7 @@ stops_end size s f place sized fit h = record {
   ];
 }
 
-pub head_fault : (s : List ℕ) (f : TlpFault) → IsBytes s → Stops s f → IsHeadFault s f
+pub head_fault : (s : List ℕ) (f : TlpFault) → IsBytes s → GoesOff s f → IsHeadFault s f
 head_fault s f fit h =
     let short = stops_short s f h.0 h.1 in (
       h.0,
@@ -56,7 +57,7 @@ head_fault s f fit h =
       h.1.cause,
     )
 
-pub tlp_fault : (s : List ℕ) (f : TlpFault) → IsBytes s → Stops s f → IsFault s f
+pub tlp_fault : (s : List ℕ) (f : TlpFault) → IsBytes s → GoesOff s f → IsFault s f
 tlp_fault s f fit h =
     let short = stops_short s f h.0 h.1 in
     (h.0, place_of tlps s h.0 (stops_end whole_size s f h.0 (omega arith) fit h.1) (λ _. omega arith), h.1.cause)
@@ -66,12 +67,12 @@ tlp_fault s f fit h =
 -- the bytes begin with a header
 pub record HasHead (k : Layout) (s : List ℕ) (n : ℕ) : Type 0 where
   pub fit : IsBytes s
-  pub kind : layout_at (get_or s 0 0) ≡ Some k
+  pub kind : layout_of_byte (get_or s 0 0) ≡ Some k
   pub size : n ≡ head_size (get_or s 0 0)
   pub within : n ≤ length s
   pub agrees : Agrees k s n
 
-pub has_head : (k : Layout) (s : List ℕ) (n : ℕ) → layout_at (get_or s 0 0) ≡ Some k
+pub has_head : (k : Layout) (s : List ℕ) (n : ℕ) → layout_of_byte (get_or s 0 0) ≡ Some k
     → (n ≡ head_size (get_or s 0 0)) × (n ≤ length s) → Agrees k s n → IsBytes s → HasHead k s n
 has_head k s n kind size agrees fit = record { fit = fit; kind = kind; size = size.0; within = size.1; agrees = agrees }
 

@@ -14,14 +14,14 @@ use Rattle.byteorder.specs.Numbers.{big_from-lt, big_number-reads_back}
 use Rattle.ide_types.proofs.Cells.{IsBytes, cells, drop_cells, all_bytes}
 use Rattle.tlp_layout.specs.{Layout, Lead, HeadView, Fields, Routing, bit, routing_bits, routing_from, status_bits}
 use Rattle.tlp_layout.specs.{completion_status, head_bytes, FitsLead, FitsFields, FitsHead, SpellsHead, is_wide}
-use Rattle.tlp_layout.specs.{has_data, head_size, layout_at, is_allowed_byte, reserved_bits, layout_of, head_of}
+use Rattle.tlp_layout.specs.{has_data, head_size, layout_of_byte, is_allowed_byte, reserved_bits, layout_of, head_of}
 use Rattle.tlp_layout.specs.Terms.layouts
 use Rattle.tlp_layout.specs.declared.head.MemoryFields.{MemoryFields}
 use Rattle.tlp_layout.specs.declared.head.ConfigFields.{ConfigFields}
 use Rattle.tlp_layout.specs.declared.head.MessageFields.{MessageFields}
 use Rattle.tlp_layout.specs.declared.head.CompletionFields.{CompletionFields}
 use Rattle.tlp_layout.specs.Terms.{Memory, Config, Message, Completion}
-use Rattle.tlp_layout.specs.Head.{type_of, tag_in, address_limit, lead_bytes, address_bytes, field_bytes}
+use Rattle.tlp_layout.specs.Head.{type_of, tag_of_fields, address_limit, lead_bytes, address_bytes, field_bytes}
 use Rattle.tlp_layout.specs.Inside.{Agrees}
 use Rattle.tlp_layout.specs.Reading.{address_read, lead_of, fields_of}
 use Rattle.tlp_layout.proofs.Octets.{width_of, clear_3, clear_192, clear_195, clear_240, clear_128}
@@ -29,7 +29,7 @@ use Rattle.tlp_layout.proofs.Octets.{width_of, clear_3, clear_192, clear_195, cl
 -- a header of this layout, byte by byte
 pub record IsRight (k : Layout) (s : List ℕ) : Type 0 where
   pub fit : IsBytes s
-  pub kind : layout_at (get_or s 0 0) ≡ Some k
+  pub kind : layout_of_byte (get_or s 0 0) ≡ Some k
   pub size : length s ≡ head_size (get_or s 0 0)
   pub agrees : Agrees k s (length s)
 
@@ -73,11 +73,11 @@ abbrev is_again : Option Layout → ℕ → Bool
 is_again None b = true
 is_again (Some k) b = eqb (0x40 * bit (has_data b) + 0x20 * bit (is_wide b) + type_from k b) b
 
-first_back : (k : Layout) (b : ℕ) → b < 256 → layout_at b ≡ Some k
+first_back : (k : Layout) (b : ℕ) → b < 256 → layout_of_byte b ≡ Some k
     → 0x40 * bit (has_data b) + 0x20 * bit (is_wide b) + type_from k b ≡ b
 first_back k b lt kind =
     eqb-true _ _ (sym (ap (λ (o : Option Layout). is_again o b) kind)
-    ∙ agree_below_at (λ b. is_again (layout_at b) b) (λ b. true) 256 b refl lt)
+    ∙ agree_below_at (λ b. is_again (layout_of_byte b) b) (λ b. true) 256 b refl lt)
 
 -- ---- bytes 1 to 3
 
@@ -198,7 +198,7 @@ early_clear layouts.Completion size b1 b2 f1 f2 a1 a2 =
 -- the first six bytes come back in each layout; low is the byte of the tag, and x what is written after them
 back_by : (k : Layout) (b0 b1 b2 b3 b4 b5 low : ℕ) (r x : List ℕ) → IsRight k (b0 ∷ b1 ∷ b2 ∷ b3 ∷ b4 ∷ b5 ∷ r)
     → low < 256 → type_of (fields_of k (b0 ∷ b1 ∷ b2 ∷ b3 ∷ b4 ∷ b5 ∷ r)) ≡ type_from k b0
-    → tag_in (fields_of k (b0 ∷ b1 ∷ b2 ∷ b3 ∷ b4 ∷ b5 ∷ r)) ≡ 512 * (b1 / 128) + 256 * (b1 / 8 % 2) + low
+    → tag_of_fields (fields_of k (b0 ∷ b1 ∷ b2 ∷ b3 ∷ b4 ∷ b5 ∷ r)) ≡ 512 * (b1 / 128) + 256 * (b1 / 8 % 2) + low
     → field_bytes (is_wide b0) (fields_of k (b0 ∷ b1 ∷ b2 ∷ b3 ∷ b4 ∷ b5 ∷ r))
     ≡ big_bytes 2 (big_number 2 (b4 ∷ b5 ∷ r)) ++ x → x ≡ r
     → FitsFields (lead_of (b0 ∷ b1 ∷ b2 ∷ b3 ∷ b4 ∷ b5 ∷ r)) (fields_of k (b0 ∷ b1 ∷ b2 ∷ b3 ∷ b4 ∷ b5 ∷ r))
@@ -327,7 +327,8 @@ first_is : (p w : Bool) (t : ℕ) → t < 32
 first_is p w t lt = grind (arith, nat_tests)
 
 -- byte 0, and bytes that may stand after it
-right : (k : Layout) (p w : Bool) (t : ℕ) (bs : List ℕ) → layout_at (0x40 * bit p + 0x20 * bit w + t) ≡ Some k → t < 32
+right : (k : Layout) (p w : Bool) (t : ℕ) (bs : List ℕ) → layout_of_byte (0x40 * bit p + 0x20 * bit w + t) ≡ Some k
+    → t < 32
     → suc (length bs) ≡ cond w 16 12 → FitFrom k (cond w 16 12) 1 bs
     → IsRight k ((0x40 * bit p + 0x20 * bit w + t) ∷ bs)
 right k p w t bs kind lt long f =
@@ -343,16 +344,17 @@ right k p w t bs kind lt long f =
     }
 
 -- the layout that byte 0 of a header names
-memory_kind : (p w : Bool) → layout_at (0x40 * bit p + 0x20 * bit w + 0x00) ≡ Some layouts.Memory
+memory_kind : (p w : Bool) → layout_of_byte (0x40 * bit p + 0x20 * bit w + 0x00) ≡ Some layouts.Memory
 memory_kind p w = grind arith
 
-config_kind : (p one : Bool) → layout_at (0x40 * bit p + 0x20 * bit false + (0x04 + bit one)) ≡ Some layouts.Config
+config_kind : (p one : Bool) → layout_of_byte (0x40 * bit p + 0x20 * bit false + (0x04 + bit one)) ≡ Some layouts.Config
 config_kind p one = grind arith
 
-message_at : (n : ℕ) (p : Bool) → n < 6 → layout_at (0x40 * bit p + 0x20 * bit true + (0x10 + n)) ≡ Some layouts.Message
+message_at : (n : ℕ) (p : Bool) → n < 6 → layout_of_byte (0x40 * bit p + 0x20 * bit true + (0x10 + n))
+    ≡ Some layouts.Message
 message_at n p lt = grind (arith, nat_tests)
 
-completion_kind : (p : Bool) → layout_at (0x40 * bit p + 0x20 * bit false + 0x0a) ≡ Some layouts.Completion
+completion_kind : (p : Bool) → layout_of_byte (0x40 * bit p + 0x20 * bit false + 0x0a) ≡ Some layouts.Completion
 completion_kind p = grind arith
 
 low_byte : (n : ℕ) → n % 256 < 256

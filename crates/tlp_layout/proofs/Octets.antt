@@ -3,7 +3,7 @@ use Rattle.std.proofs.Common.{◌≡◌, ℕ, ◌%◌, ◌<◌, Bool, true, ◌&
 use Rattle.std.proofs.Common.{ap, ◌∙◌}
 use Rattle.std.specs.Prelude.{◌↔◌}
 use Rattle.std.proofs.lemmas.Bool.{agree_below, agree_below_at, eqb-true, ltb-true, eq-eqb, lt-ltb, and_parts, and_from}
-use Rattle.tlp_layout.specs.{is_wide, layout_at, Layout}
+use Rattle.tlp_layout.specs.{is_wide, layout_of_byte, Layout}
 use Rattle.tlp_layout.specs.Terms.layouts
 
 mask_is : (m : ℕ) (test : ℕ → Bool) → agree_below (λ b. eqb (bit_and m b) 0) test 256 ≡ true → (b : ℕ) → b < 256
@@ -49,7 +49,7 @@ abbrev is_width : Option Layout → Bool → Bool
 is_width None wide = true
 is_width (Some k) wide = has_width k wide
 
-pub width_of : (k : Layout) (b : ℕ) → b < 256 → layout_at b ≡ Some k → has_width k (is_wide b) ≡ true
+pub width_of : (k : Layout) (b : ℕ) → b < 256 → layout_of_byte b ≡ Some k → has_width k (is_wide b) ≡ true
 width_of k b lt kind =
     sym (ap (λ (o : Option Layout). is_width o (is_wide b)) kind)
-    ∙ agree_below_at (λ b. is_width (layout_at b) (is_wide b)) (λ b. true) 256 b refl lt
+    ∙ agree_below_at (λ b. is_width (layout_of_byte b) (is_wide b)) (λ b. true) 256 b refl lt

@@ -7,7 +7,7 @@ use Rattle.tlp_layout.specs.declared.tlp.Tlp.{Tlp}
 use Rattle.tlp_layout.specs.Tlp.{header}
 use Rattle.tlp_layout.specs.Reading.{read_of}
 use Rattle.tlp_layout.specs.Choice.{choice_of, chosen_stream}
-use Rattle.tlp_layout.specs.Outgoing.{NoTlp, OnStream, outgoing_of, outgoing_on, stream_taken}
+use Rattle.tlp_layout.specs.Outgoing.{NoTlp, OnStream, outgoing_of, outgoing_if_chosen, stream_taken}
 
 pub no_tlp_reads : (streams : List StreamPlan) (side : Side) (bytes : List ℕ) (fault : TlpFault)
     → outgoing_of streams side bytes ≡ NoTlp fault → read_of bytes ≡ Err fault
@@ -20,7 +20,7 @@ pub on_stream_reads : (streams : List StreamPlan) (side : Side) (bytes : List �
 unfolding outgoing_of
 on_stream_reads streams side bytes t stream is = (grind arith, grind arith)
 
-taken_on : (t : Tlp) (o : Option ℕ) → stream_taken (outgoing_on t o) ≡ o
+taken_on : (t : Tlp) (o : Option ℕ) → stream_taken (outgoing_if_chosen t o) ≡ o
 taken_on t None = refl
 taken_on t (Some stream) = refl
 

@@ -7,8 +7,8 @@ use Rattle.std.proofs.Common.{arith, length-take, get_or-take}
 use Rattle.std.proofs.lemmas.Bool.{cases_lt, ltb-true, lt-ltb, le-ltb, ne_eqb, and_parts, and_from, cases_eq, eq-eqb}
 use Rattle.std.proofs.lemmas.Nat.{and_comm}
 use Rattle.ide_types.proofs.Fronts.{Fitting}
-use Rattle.tlp_layout.specs.{Layout, may_follow, rest_size, whole_size, is_wide, head_size, layout_at, reserved_bits}
-use Rattle.tlp_layout.specs.{is_allowed_byte, body_size}
+use Rattle.tlp_layout.specs.{Layout, may_follow, rest_size, whole_size, is_wide, head_size, layout_of_byte}
+use Rattle.tlp_layout.specs.{reserved_bits, is_allowed_byte, body_size}
 use Rattle.tlp_layout.specs.Terms.layouts
 pub use Rattle.tlp_layout.proofs.Heads.{head_size_at_least}
 
@@ -38,12 +38,12 @@ whole_front i s le = omega (arith, rest_front i s le, ap head_size (get_or-take 
 -- what is known of bytes that walk
 pub record IsWalked (k : Layout) (s : List ℕ) (n : ℕ) : Type 0 where
   pub fit : (i : ℕ) → i < n → get_or s i 0 < 256
-  pub kind : layout_at (get_or s 0 0) ≡ Some k
+  pub kind : layout_of_byte (get_or s 0 0) ≡ Some k
   pub agrees : (i : ℕ) → 0 < i → i < n → i < head_size (get_or s 0 0)
       → is_allowed_byte k (head_size (get_or s 0 0)) i (get_or s i 0) ≡ true
 
 -- after byte 0 of a layout, what may follow a prefix goes by its place
-follow_is : (k : Layout) (s : List ℕ) → layout_at (get_or s 0 0) ≡ Some k → (i b : ℕ) → 0 < i → i ≤ length s
+follow_is : (k : Layout) (s : List ℕ) → layout_of_byte (get_or s 0 0) ≡ Some k → (i b : ℕ) → 0 < i → i ≤ length s
     → may_follow (take i s) b ≡
     (ltb b 256 && cond (ltb i (head_size (get_or s 0 0))) (is_allowed_byte k (head_size (get_or s 0 0)) i b) true)
 follow_is k s kind zero b pos le = absurd (omega arith)
@@ -66,7 +66,7 @@ some_of : (o : Option Layout) → is_some o ≡ true → (k : Layout) × (o ≡ 
 some_of None e = absurd cc
 some_of (Some k) e = (k, refl)
 
-pub agrees_there : (k : Layout) (s : List ℕ) → layout_at (get_or s 0 0) ≡ Some k → (i : ℕ) → i < length s → 0 < i
+pub agrees_there : (k : Layout) (s : List ℕ) → layout_of_byte (get_or s 0 0) ≡ Some k → (i : ℕ) → i < length s → 0 < i
     → i < head_size (get_or s 0 0) → IsTrue (may_follow (take i s) (get_or s i 0))
     → is_allowed_byte k (head_size (get_or s 0 0)) i (get_or s i 0) ≡ true
 agrees_there k s kind i lt pos less f =
@@ -75,8 +75,8 @@ agrees_there k s kind i lt pos less f =
 
 pub walked_in : (s : List ℕ) → 0 < length s → Fitting may_follow s (length s) → (k : Layout) × IsWalked k s (length s)
 walked_in s pos f =
-    let sk = some_of (layout_at (get_or s 0 0))
-    ((and_parts (ltb (get_or s 0 0) 256) (is_some (layout_at (get_or s 0 0))) (f 0 pos)).1) in (
+    let sk = some_of (layout_of_byte (get_or s 0 0))
+    ((and_parts (ltb (get_or s 0 0) 256) (is_some (layout_of_byte (get_or s 0 0))) (f 0 pos)).1) in (
       sk.0,
       record {
         fit = λ i lt. ltb-true _ _ ((and_parts _ _ (f i lt)).0);

@@ -20,8 +20,8 @@ abbrev pub head_size : ℕ → ℕ
 head_size b = if is_wide b then 16 else 12
 
 -- Type 00000, 10rrr with rrr up to 5, 0010x or 01010; a message has 4 double words, the last two have 3
-abbrev pub layout_at : ℕ → Option Layout
-layout_at b =
+abbrev pub layout_of_byte : ℕ → Option Layout
+layout_of_byte b =
     if nat_le 0x80 b then None
     else if b % 0x20 == 0x00 then Some Memory
     else if is_wide b && nat_le 0x10 (b % 0x20) && nat_lt (b % 0x20) 0x16 then Some Message

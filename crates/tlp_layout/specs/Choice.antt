@@ -106,9 +106,9 @@ chosen_stream (Some choice) = Some choice.1
 
 -- ---- as a call gives it
 
-abbrev pub choice_in : Option ChosenStream → Choice
-choice_in None = None
-choice_in (Some stream) = Some (stream.way, stream.id)
+abbrev pub choice_of_stream : Option ChosenStream → Choice
+choice_of_stream None = None
+choice_of_stream (Some stream) = Some (stream.way, stream.id)
 
 -- the place of the first stream of an ID
 abbrev pub plan_place : List StreamPlan → ℕ → Option ℕ

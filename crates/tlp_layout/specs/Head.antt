@@ -20,11 +20,11 @@ type_of (Completion f) = 0x0a
 abbrev pub first_byte : HeadView → ℕ
 first_byte h = 0x40 * bit h.has_payload + 0x20 * bit h.lead.wide + type_of h.fields
 
-abbrev pub tag_in : Fields → ℕ
-tag_in (Memory f) = f.tag
-tag_in (Config f) = f.tag
-tag_in (Message f) = f.tag
-tag_in (Completion f) = f.tag
+abbrev pub tag_of_fields : Fields → ℕ
+tag_of_fields (Memory f) = f.tag
+tag_of_fields (Config f) = f.tag
+tag_of_fields (Message f) = f.tag
+tag_of_fields (Completion f) = f.tag
 
 -- T9, TC, T8 and Attr[2]; then Attr[1:0], AT and Length. T9 and T8 are bits 9 and 8 of the tag
 abbrev pub lead_bytes : Lead → ℕ → List ℕ
@@ -51,7 +51,7 @@ field_bytes wide (Completion f) =
     ∷ big_bytes 2 f.requester ++ (f.tag % 256) ∷ f.lower ∷ []
 
 abbrev pub head_bytes : HeadView → List ℕ
-head_bytes h = first_byte h ∷ (lead_bytes h.lead (tag_in h.fields) ++ field_bytes h.lead.wide h.fields)
+head_bytes h = first_byte h ∷ (lead_bytes h.lead (tag_of_fields h.fields) ++ field_bytes h.lead.wide h.fields)
 
 -- its length in bytes, 4 or 3 double words
 abbrev pub head_length : HeadView → ℕ

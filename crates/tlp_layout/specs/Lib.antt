@@ -16,9 +16,9 @@ pub use Rattle.tlp_layout.specs.Terms.{TlpFault, HeadView, Lead, Fields, Routing
 pub use Rattle.tlp_layout.specs.Terms.{TlpView}
 pub use Rattle.tlp_layout.specs.Numbers.{bit, routing_bits, routing_from, status_bits, completion_status, FitsStatus}
 pub use Rattle.tlp_layout.specs.Head.{head_bytes, head_length, FitsLead, FitsFields, FitsHead, SpellsHead, IsHead}
-pub use Rattle.tlp_layout.specs.Causes.{is_wide, has_data, head_size, layout_at, reserved_bits, is_allowed_byte}
+pub use Rattle.tlp_layout.specs.Causes.{is_wide, has_data, head_size, layout_of_byte, reserved_bits, is_allowed_byte}
 pub use Rattle.tlp_layout.specs.Causes.{cause_at, fault_at}
-pub use Rattle.tlp_layout.specs.Class.{layout_of, kind_with, kind_of, kind_class, class_of, kind_of_byte}
+pub use Rattle.tlp_layout.specs.Class.{layout_of, kind_of_layout, kind_of, kind_class, class_of, kind_of_byte}
 pub use Rattle.tlp_layout.specs.Tlp.{header, body, body_size, with_payload, tlp_bytes, FitsTlp, SpellsTlp, IsTlp}
 pub use Rattle.tlp_layout.specs.Tlp.{viewed_tlp, viewed_result}
 pub use Rattle.tlp_layout.specs.Faults.{IsFault, IsHeadFault, place_in}

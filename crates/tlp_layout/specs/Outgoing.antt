@@ -14,13 +14,13 @@ pub data Outgoing : Type 0 where
   OnNone : Outgoing
   OnStream : Tlp → ℕ → Outgoing
 
-abbrev pub outgoing_on : Tlp → Option ℕ → Outgoing
-outgoing_on t None = OnNone
-outgoing_on t (Some stream) = OnStream t stream
+abbrev pub outgoing_if_chosen : Tlp → Option ℕ → Outgoing
+outgoing_if_chosen t None = OnNone
+outgoing_if_chosen t (Some stream) = OnStream t stream
 
-abbrev pub outgoing_as : List StreamPlan → Side → Result Tlp TlpFault → Outgoing
-outgoing_as streams side (Err fault) = NoTlp fault
-outgoing_as streams side (Ok t) = outgoing_on t (chosen_stream (choice_of streams side (header t)))
+abbrev pub outgoing_as_read : List StreamPlan → Side → Result Tlp TlpFault → Outgoing
+outgoing_as_read streams side (Err fault) = NoTlp fault
+outgoing_as_read streams side (Ok t) = outgoing_if_chosen t (chosen_stream (choice_of streams side (header t)))
 
 -- the stream that it takes, if it takes one
 abbrev pub stream_taken : Outgoing → Option ℕ
@@ -30,4 +30,4 @@ stream_taken (OnStream t stream) = Some stream
 
 -- first the bytes are read, then the TLP's stream is chosen
 unfoldable pub outgoing_of : List StreamPlan → Side → List ℕ → Outgoing
-outgoing_of streams side bytes = outgoing_as streams side (read_of bytes)
+outgoing_of streams side bytes = outgoing_as_read streams side (read_of bytes)

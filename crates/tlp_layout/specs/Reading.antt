@@ -5,7 +5,7 @@ use Rattle.byteorder.specs.Endian.{big_number}
 use Rattle.ide_types.specs.Walks.{whole_reading}
 use Rattle.tlp_layout.specs.Terms.{Layout, Lead, HeadView, Fields, Memory, Config, Message, Completion, Tlp, TlpFault}
 use Rattle.tlp_layout.specs.Terms.layouts
-use Rattle.tlp_layout.specs.Causes.{is_wide, has_data, head_size, layout_at, is_allowed_byte, fault_at}
+use Rattle.tlp_layout.specs.Causes.{is_wide, has_data, head_size, layout_of_byte, is_allowed_byte, fault_at}
 use Rattle.tlp_layout.specs.Numbers.{routing_from, completion_status}
 use Rattle.tlp_layout.specs.Tlp.{body_size, with_payload}
 
@@ -73,7 +73,7 @@ head_of layout s =
 
 -- the header that the bytes begin with, of the layout that byte 0 names
 abbrev pub head_read : List ℕ → HeadView
-head_read s = head_of (unwrap_or (layout_at (slice_index s 0)) layouts.Memory) s
+head_read s = head_of (unwrap_or (layout_of_byte (slice_index s 0)) layouts.Memory) s
 
 -- and with it what stands after that header
 abbrev pub tlp_read : List ℕ → Tlp
@@ -88,10 +88,10 @@ layout_allows (Some layout) size place b = is_allowed_byte layout size place b
 -- the byte may stand at this place, after a prefix of that length: byte 0 names a layout, the header's others are those
 -- of that layout, and a payload has any
 abbrev pub stands_at : ℕ → List ℕ → ℕ → Bool
-stands_at zero front b = is_some (layout_at b)
+stands_at zero front b = is_some (layout_of_byte b)
 stands_at (suc n) front b =
     if nat_lt (suc n) (head_size (slice_index front 0))
-    then layout_allows (layout_at (slice_index front 0)) (head_size (slice_index front 0)) (suc n) b
+    then layout_allows (layout_of_byte (slice_index front 0)) (head_size (slice_index front 0)) (suc n) b
     else true
 
 -- the byte may follow the prefix

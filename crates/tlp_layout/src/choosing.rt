@@ -4,7 +4,8 @@ ghost use Rattle.std.specs.Prelude.{◌≡◌, ◌==◌, Some, IfSome};
 ghost use Rattle.std.specs.List.{list_any};
 ghost use Rattle.std.specs.Option.{option_map};
 ghost use Rattle.tlp_layout.specs.Choice.{address_of, id_of, holds, holds_address, holds_id, takes_by_range};
-ghost use Rattle.tlp_layout.specs.Choice.{takes_the_rest, takes_class, least_of, choice_of, choice_in, plan_place};
+ghost use Rattle.tlp_layout.specs.Choice.{takes_the_rest, takes_class, least_of, choice_of, choice_of_stream};
+ghost use Rattle.tlp_layout.specs.Choice.{plan_place};
 ghost use Rattle.tlp_layout.specs.Ways.{test_of, one_before};
 
 use crate::{ChosenStream, Fields, HeadView, Routing, Way};
@@ -175,7 +176,7 @@ fn least_by(way: Way, streams: &[StreamPlan], side: Side, tlp: &HeadView) -> Opt
 /// profile's order). It is never refused.
 #[tactic(auto, unfolding(crate::specs::Choice::choice_of))]
 pub fn choose(table: &Table, side: Side, tlp: &HeadView) -> Option<ChosenStream>
-    ensures choice { choice_in result ≡ choice_of table.now side tlp.now }
+    ensures choice { choice_of_stream result ≡ choice_of table.now side tlp.now }
     ensures place { IfSome result (λ c. plan_place table.now c.id ≡ Some c.place) }
 {
     let streams = table.as_slice();

@@ -2,10 +2,9 @@
 //! (PCI Express Base 6.0 section 2.2).
 
 ghost use Rattle.std.specs.Prelude.{◌≡◌, ◌<◌};
-ghost use Rattle.tlp_layout.specs.Causes.{layout_at as layout_named, head_size as size_named};
-ghost use Rattle.tlp_layout.specs.Causes.{reserved_bits as reserved_at};
-ghost use Rattle.tlp_layout.specs.Causes.{is_allowed_byte, cause_at};
-ghost use Rattle.tlp_layout.specs.Class.{kind_with, kind_of_byte as kind_named};
+ghost use Rattle.tlp_layout.specs.Causes.{layout_of_byte as layout_named, head_size as size_named};
+ghost use Rattle.tlp_layout.specs.Causes.{reserved_bits as reserved_at, is_allowed_byte, cause_at};
+ghost use Rattle.tlp_layout.specs.Class.{kind_of_layout, kind_of_byte as kind_named};
 
 use crate::fault::TlpFault;
 use crate::head::TlpKind;
@@ -22,7 +21,7 @@ pub enum Layout {
 impl Layout {
     /// The kind of a TLP of this layout, with or without a payload.
     pub(crate) fn kind(self, has_payload: bool) -> TlpKind
-        ensures { result ≡ kind_with self has_payload }
+        ensures { result ≡ kind_of_layout self has_payload }
     {
         match (self, has_payload) {
             (Layout::Memory, false) => TlpKind::MemRead,
@@ -36,7 +35,7 @@ impl Layout {
 }
 
 /// The layout that byte 0 names by Fmt and Type; `None` if this profile has no such TLP.
-pub(crate) fn layout_at(first: u8) -> Option<Layout>
+pub(crate) fn layout_of_byte(first: u8) -> Option<Layout>
     ensures { result ≡ layout_named first }
 {
     let number = first & 0x1f;
@@ -60,7 +59,7 @@ pub(crate) fn layout_at(first: u8) -> Option<Layout>
 pub fn kind_at(first: u8) -> Option<TlpKind>
     ensures { result ≡ kind_named first }
 {
-    match layout_at(first) {
+    match layout_of_byte(first) {
         Some(layout) => Some(layout.kind((first >> 6) & 1 == 1)),
         None => None,
     }

@@ -4,11 +4,11 @@ ghost use Rattle.std.specs.Prelude.{◌≡◌, ◌<◌, ◌≤◌, ◌+◌, Some
 ghost use Rattle.std.specs.Prelude.{if◌then◌else◌};
 ghost use Rattle.tlp_layout.specs.Head.{SpellsHead};
 ghost use Rattle.tlp_layout.specs.Tlp.{SpellsTlp, viewed_tlp, viewed_result};
-ghost use Rattle.tlp_layout.specs.Causes.{layout_at as layout_named, head_size as size_named};
+ghost use Rattle.tlp_layout.specs.Causes.{layout_of_byte as layout_named, head_size as size_named};
 ghost use Rattle.tlp_layout.specs.Faults.{IsFault, IsHeadFault};
 ghost use Rattle.tlp_layout.specs.Reading.{read_of, read_head_of, head_of, lead_of, fields_of, address_read};
 ghost use Rattle.tlp_layout.specs.Reading.{number_at as number_named, tag_at as tag_named};
-ghost use Rattle.tlp_layout.specs.Inside.{Agrees, Stops};
+ghost use Rattle.tlp_layout.specs.Inside.{Agrees, GoesOff};
 ghost use Rattle.tlp_layout.specs.declared.tlp.Tlp.{Tlp};
 ghost use Rattle.tlp_layout.specs.declared.head.Fields.TheVariants.{Memory, Config, Message, Completion};
 ghost use Rattle.tlp_layout.specs.declared.layout.Layout.TheVariants as layouts;
@@ -18,7 +18,7 @@ use crate::head::{
     CompletionFields, CompletionStatus, ConfigFields, Fields, HeadView, Lead, MemoryFields,
     MessageFields, Routing,
 };
-use crate::layout::{Layout, allows, cause, head_size, layout_at};
+use crate::layout::{Layout, allows, cause, head_size, layout_of_byte};
 use crate::tlp::TlpView;
 use byteorder::{BigEndian, ByteOrder};
 
@@ -28,13 +28,13 @@ fn head_at(bytes: &[u8]) -> Result<(Layout, usize), TlpFault>
     ensures size { IfOk result (λ x.
         (x.1 ≡ size_named (slice_index bytes.now 0)) × (x.1 ≤ length bytes.now)) }
     ensures agrees { IfOk result (λ x. Agrees x.0 bytes.now x.1) }
-    ensures stops { IfErr result (Stops bytes.now) }
+    ensures goes_off { IfErr result (GoesOff bytes.now) }
 {
     if bytes.is_empty() {
         return Err(TlpFault::Short(0));
     }
     let first = bytes[0];
-    let Some(layout) = layout_at(first) else {
+    let Some(layout) = layout_of_byte(first) else {
         return Err(TlpFault::Kind(0));
     };
     let size = head_size(first);

@@ -4,7 +4,7 @@ ghost use Rattle.std.specs.Prelude.{◌≡◌, ◌+◌, ◌<◌, ◌≤◌, ◌+
 ghost use Rattle.arrayvec.specs.ArrayVec.{array_vec_len};
 ghost use Rattle.byteorder.specs.Endian.{big_bytes};
 ghost use Rattle.tlp_layout.specs.Head.{head_bytes, head_length, lead_bytes as lead_bytes_of, field_bytes};
-ghost use Rattle.tlp_layout.specs.Head.{first_byte as first_byte_of, tag_in, FitsLead, FitsFields, FitsHead};
+ghost use Rattle.tlp_layout.specs.Head.{first_byte as first_byte_of, tag_of_fields, FitsLead, FitsFields, FitsHead};
 ghost use Rattle.tlp_layout.specs.declared.head.Fields.TheVariants as variants;
 
 use crate::head::{
@@ -35,7 +35,7 @@ fn put_number(out: &mut Header, number: u16)
 }
 
 fn tag_of(fields: &Fields) -> u16
-    ensures { result ≡ tag_in fields.now }
+    ensures { result ≡ tag_of_fields fields.now }
 {
     match fields {
         Fields::Memory(fields) => fields.tag,

@@ -4,8 +4,7 @@ ghost use Rattle.std.specs.Prelude.{◌≡◌, ◌<◌, ◌++◌, ◌∷◌, [],
 ghost use Rattle.std.specs.List.{list_any};
 ghost use Rattle.std.specs.Str.{chars};
 ghost use Rattle.toml_walk.specs.Shown.{is_bare_byte, is_quoted_byte, is_bare, upper_digit, four_digits};
-ghost use Rattle.toml_walk.specs.Shown.{numbered_escape};
-ghost use Rattle.toml_walk.specs.Shown.{shown_char, quoted_text, spelled_key};
+ghost use Rattle.toml_walk.specs.Shown.{numbered_escape, shown_char, quoted_text, spelled_key};
 
 use ide_types::Bytes;
 use std::alloc::{AllocError, Global};

@@ -41,7 +41,7 @@ use Rattle.ide_types.specs.declared.stream.StreamPlan.{StreamPlan}
 use Rattle.topology.specs.declared.draft.InterfaceDraft.{InterfaceDraft}
 use Rattle.topology.specs.declared.draft.LinkDraft.{LinkDraft}
 use Rattle.topology.specs.declared.draft.PlanDraft.{PlanDraft}
-use Rattle.topology.specs.Meaning.{plan_from, plan_in}
+use Rattle.topology.specs.Meaning.{drafted_plan, table_plan}
 use Rattle.ide_types.specs.declared.plan.Plan.{Plan}
 use Rattle.topology.proofs.Versions.{none_refused}
 use Rattle.topology.proofs.MigratedPlan.{equal_texts}
@@ -626,7 +626,7 @@ top_deep t ms x s two e =
 
 -- a table that means a plan in version 2
 pub plan_deep : (ms : Members) (p : Plan) → members_are_sorted ms ≡ true
-    → required_value [] ms (codes "version") (number (within 1 2)) ≡ Ok 2 → plan_in ms ≡ Ok p → members_depth ms ≤ 6
+    → required_value [] ms (codes "version") (number (within 1 2)) ≡ Ok 2 → table_plan ms ≡ Ok p → members_depth ms ≤ 6
 plan_deep ms p s two e =
-    let d = first (top_keys [] ms) (λ d. rules d >>= λ _. Ok (plan_from d)) p e in
+    let d = first (top_keys [] ms) (λ d. rules d >>= λ _. Ok (drafted_plan d)) p e in
     top_deep [] ms d.0 s two d.1

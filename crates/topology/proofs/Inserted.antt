@@ -18,7 +18,7 @@ use Rattle.ide_types.specs.declared.plan.Plan.{Plan}
 use Rattle.toml_walk.specs.Bounds.{within}
 use Rattle.toml_walk.specs.Values.{number}
 use Rattle.toml_walk.specs.Walk.{Text, required_value}
-use Rattle.topology.specs.Meaning.{document, plan_in}
+use Rattle.topology.specs.Meaning.{document, table_plan}
 use Rattle.topology.specs.Migration.{IsMigrated, MigText, with_member, migrated_members}
 use Rattle.topology.proofs.Migrated.{own_value}
 use Rattle.topology.proofs.MigratedPlan.{plan_is}
@@ -42,7 +42,8 @@ version_read : (ms : Members) → required_value [] (migrated_members ms) (codes
 version_read ms = rw (own_value (codes "version") (integer (pos 2)) ms refl) refl
 
 -- a topology in version 2 is not deep
-pub migrated_deep : (ms : Members) → members_are_sorted (migrated_members ms) ≡ true → (p : Plan) × (plan_in ms ≡ Ok p)
+pub migrated_deep : (ms : Members) → members_are_sorted (migrated_members ms) ≡ true → (p : Plan)
+    × (table_plan ms ≡ Ok p)
     → members_depth (migrated_members ms) ≤ 80
 migrated_deep ms sorted means =
     let there = (plan_is ms).given means.0 means.1 in
@@ -58,7 +59,7 @@ set_is k es new is name =
 
 -- what was written, and that it is the text of a topology in version 2
 pub migrated_of : {E : Type 0} (bytes : Text) (ms : Members) (p : Plan) (r : Result Bytes E) → document bytes ≡ Some ms
-    → plan_in ms ≡ Ok p → IfOk r (MigText ms) → IfOk r (IsMigrated bytes)
+    → table_plan ms ≡ Ok p → IfOk r (MigText ms) → IfOk r (IsMigrated bytes)
 migrated_of bytes ms p (Ok text) is means reads = record
     { table = ms; read = is; plan = p; means = means; migrates = reads }
 migrated_of bytes ms p (Err e) is means reads = tt

@@ -20,7 +20,7 @@ use Rattle.toml_walk.specs.Walk.{count_between}
 use Rattle.topology.specs.declared.draft.PlanDraft.{PlanDraft}
 use Rattle.topology.specs.Tables.{is_newer, top_names, link_keys, region_keys, peer_keys, top_keys}
 use Rattle.topology.specs.Rules.{in_sixes, no_clash, each_link, at_most, interface_count, rules}
-use Rattle.topology.specs.Meaning.{plan_from, plan_in}
+use Rattle.topology.specs.Meaning.{drafted_plan, table_plan}
 use Rattle.topology.specs.Migration.{migrated_members, in_version_2}
 use Rattle.topology.proofs.Carries.{Carries, Same, Extends, gives, next, then, itself}
 use Rattle.topology.proofs.Versions.{more_known, links_extend}
@@ -147,9 +147,9 @@ rules_are d =
 abbrev pub PlanInVersion2 : Plan → Plan → Type 0
 PlanInVersion2 p q = q ≡ in_version_2 p
 
-pub plan_is : (ms : Members) → Carries PlanInVersion2 (plan_in ms) (plan_in (migrated_members ms))
+pub plan_is : (ms : Members) → Carries PlanInVersion2 (table_plan ms) (table_plan (migrated_members ms))
 plan_is ms =
     next InVersion2 PlanInVersion2 (top_keys [] ms) (top_keys [] (migrated_members ms)) _ _ (top_is ms) (λ d e same.
-    rw same (next Same PlanInVersion2 (rules d) (rules (record d { version = 2 })) (λ _. Ok (plan_from d))
-    (λ _. Ok (plan_from (record d { version = 2 }))) (rules_are d) (λ _ _ _.
-    gives PlanInVersion2 (plan_from d) (plan_from (record d { version = 2 })) refl)))
+    rw same (next Same PlanInVersion2 (rules d) (rules (record d { version = 2 })) (λ _. Ok (drafted_plan d))
+    (λ _. Ok (drafted_plan (record d { version = 2 }))) (rules_are d) (λ _ _ _.
+    gives PlanInVersion2 (drafted_plan d) (drafted_plan (record d { version = 2 })) refl)))

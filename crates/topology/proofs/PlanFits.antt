@@ -26,7 +26,7 @@ use Rattle.topology.specs.declared.draft.LinkDraft.{LinkDraft}
 use Rattle.topology.specs.declared.draft.PlanDraft.{PlanDraft}
 use Rattle.topology.specs.Tables.{top_keys}
 use Rattle.topology.specs.Rules.{same_requester, interface_count, rules}
-use Rattle.topology.specs.Meaning.{link_of, plan_from, plan_in}
+use Rattle.topology.specs.Meaning.{link_of, drafted_plan, table_plan}
 use Rattle.topology.proofs.DraftFits.{DraftFits, LinkHolds, TopHolds, top_holds}
 use Rattle.topology.proofs.RuleFits.{LinkRuled, Ruled, ruled, clash_free, clash_free_map, PeerRuled, peers_ruled}
 use Rattle.topology.proofs.RuleFits.{HopIsRuled, hops_ruled}
@@ -67,7 +67,7 @@ counts (l ∷ ls) =
     (sym (sum_by-cons (λ (d : LinkDraft). length d.interfaces) l ls))
 
 -- the bounds of each key come from its reading, the rest from the rule that names it
-plan_fits : (d : PlanDraft) → TopHolds d → Ruled d → FitsPlan (plan_from d)
+plan_fits : (d : PlanDraft) → TopHolds d → Ruled d → FitsPlan (drafted_plan d)
 plan_fits d h r =
     let links : length (map link_of d.links) ≡ length d.links = length-map d.links link_of in
     let hops : (i : ℕ) (l : LinkDraft) → slice_get d.links i ≡ Some l
@@ -105,14 +105,14 @@ plan_fits d h r =
       peer_ids_differ = ids_differ d.links d.peers peers;
     }
 
-meaning_fits : (ms : Members) → Holds FitsPlan (plan_in ms)
+meaning_fits : (ms : Members) → Holds FitsPlan (table_plan ms)
 meaning_fits ms =
-    next TopHolds FitsPlan (top_keys [] ms) (λ d. rules d >>= λ _. Ok (plan_from d)) (top_holds [] ms) (λ d h.
-    next (λ _. rules d ≡ Ok tt) FitsPlan (rules d) (λ _. Ok (plan_from d)) (record { given = λ u e. e }) (λ _ e.
-    gives FitsPlan (plan_from d) (plan_fits d h (ruled d e))))
+    next TopHolds FitsPlan (top_keys [] ms) (λ d. rules d >>= λ _. Ok (drafted_plan d)) (top_holds [] ms) (λ d h.
+    next (λ _. rules d ≡ Ok tt) FitsPlan (rules d) (λ _. Ok (drafted_plan d)) (record { given = λ u e. e }) (λ _ e.
+    gives FitsPlan (drafted_plan d) (plan_fits d h (ruled d e))))
 
 -- a plan that is given
-pub given_fits : (ms : Members) (result : Result Plan PlanError) → Gives (λ p. p) result (plan_in ms)
+pub given_fits : (ms : Members) (result : Result Plan PlanError) → Gives (λ p. p) result (table_plan ms)
     → IfOk result FitsPlan
 given_fits ms (Ok p) g = (meaning_fits ms).given p g
 given_fits ms (Err e) g = tt

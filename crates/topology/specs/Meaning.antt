@@ -28,8 +28,8 @@ link_of l = record {
   hop = hop_of l.hop l.hop_classes;
 }
 
-abbrev pub plan_from : PlanDraft → Plan
-plan_from d = record {
+abbrev pub drafted_plan : PlanDraft → Plan
+drafted_plan d = record {
   version = d.version;
   portion = d.portion;
   units_per_key = d.units_per_key;
@@ -40,11 +40,11 @@ plan_from d = record {
 }
 
 -- the plan of a table: first each key, and then the rules over several values
-abbrev pub plan_in : Members → Result Plan PlanFault
-plan_in ms = do
+abbrev pub table_plan : Members → Result Plan PlanFault
+table_plan ms = do
   d ← top_keys [] ms
   _ ← rules d
-  Ok (plan_from d)
+  Ok (drafted_plan d)
 
 -- the table that TOML reads from the bytes, which have to be UTF-8
 abbrev pub document : List ℕ → Option Members
@@ -52,7 +52,7 @@ document bytes = if is_utf8 bytes then parse_document bytes else None
 
 abbrev pub plan_of_document : Option Members → Result Plan PlanFault
 plan_of_document None = Err NotToml
-plan_of_document (Some ms) = plan_in ms
+plan_of_document (Some ms) = table_plan ms
 
 abbrev pub plan_of : List ℕ → Result Plan PlanFault
 plan_of bytes = plan_of_document (document bytes)

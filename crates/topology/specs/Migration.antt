@@ -5,7 +5,7 @@ use Rattle.std.specs.Cmp.Lexicographic.{slice_cmp}
 use Rattle.toml.specs.Data.{Data, integer, Members, no_members, member}
 use Rattle.ide_types.specs.declared.plan.Plan.{Plan}
 use Rattle.toml_walk.specs.Walk.{Text}
-use Rattle.topology.specs.Meaning.{document, plan_in}
+use Rattle.topology.specs.Meaning.{document, table_plan}
 
 -- the members with this value at a key: in place of another value there, or before the first greater key
 abbrev pub with_member : Text → Data → Members → Members
@@ -30,5 +30,5 @@ pub record IsMigrated (bytes text : Text) : Type 0 where
   pub table : Members
   pub read : document bytes ≡ Some table
   pub plan : Plan
-  pub means : plan_in table ≡ Ok plan
+  pub means : table_plan table ≡ Ok plan
   pub migrates : MigText table text

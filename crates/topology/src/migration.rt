@@ -5,7 +5,7 @@ ghost use Rattle.toml.specs.Data.{integer, is_sorted, items_are_sorted, members_
 ghost use Rattle.toml.specs.View.{view, array_view, table_view};
 ghost use Rattle.ide_types.specs.declared.plan.Plan.{Plan};
 ghost use Rattle.toml_walk.specs.Fault.{Fails};
-ghost use Rattle.topology.specs.Meaning.{document, plan_in, plan_of};
+ghost use Rattle.topology.specs.Meaning.{document, table_plan, plan_of};
 ghost use Rattle.topology.specs.Migration.{IsMigrated, MigText, in_version_2, migrated_members};
 
 use crate::reading::plan_of_table;
@@ -69,7 +69,7 @@ fn text_of(alloc: Global, table: &Table) -> Result<Bytes, PlanError>
 
 // The text of a table that means a plan, in version 2.
 fn text_in_version_2(alloc: Global, mut table: Table) -> Result<Bytes, PlanError>
-    requires { (p : Plan) × (plan_in (table_view table) ≡ Ok p) }
+    requires { (p : Plan) × (table_plan (table_view table) ≡ Ok p) }
     ensures text { IfOk result (MigText (table_view table)) }
     ensures memory { IfErr result (λ e. e ≡ PlanError.Memory) }
 {

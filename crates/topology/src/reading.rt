@@ -4,7 +4,7 @@ ghost use Rattle.std.specs.Prelude.{◌≡◌, IfOk, map};
 ghost use Rattle.toml.specs.View.{table_view};
 ghost use Rattle.ide_types.specs.Fits.{FitsPlan};
 ghost use Rattle.toml_walk.specs.Fault.{Gives};
-ghost use Rattle.topology.specs.Meaning.{hop_of, link_of, plan_from, plan_in, plan_of};
+ghost use Rattle.topology.specs.Meaning.{hop_of, link_of, drafted_plan, table_plan, plan_of};
 
 use crate::draft::{LinkDraft, PlanDraft};
 use crate::links::top_of;
@@ -55,7 +55,7 @@ fn link_from(alloc: Global, draft: LinkDraft) -> Result<LinkPlan, AllocError>
 
 // The plan that the keys say.
 fn plan_of_draft(alloc: Global, draft: PlanDraft) -> Result<Plan, AllocError>
-    ensures { IfOk result (λ p. p ≡ plan_from draft) }
+    ensures { IfOk result (λ p. p ≡ drafted_plan draft) }
 {
     let PlanDraft {
         version,
@@ -83,7 +83,7 @@ fn plan_of_draft(alloc: Global, draft: PlanDraft) -> Result<Plan, AllocError>
 
 /// The plan that a table means.
 pub(crate) fn plan_of_table(alloc: Global, table: &Table) -> Result<Plan, PlanError>
-    ensures { Gives (λ p. p) result (plan_in (table_view table.now)) }
+    ensures { Gives (λ p. p) result (table_plan (table_view table.now)) }
 {
     let path = Bytes::new(Vec::new(alloc));
     let draft = top_of(&Keys { alloc, path, table })?;

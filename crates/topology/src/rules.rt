@@ -8,10 +8,8 @@ ghost use Rattle.toml_walk.specs.declared.fault.PlanFault.TheVariants.{Limit};
 ghost use Rattle.ide_types.specs.Plans.{interface_limit, is_selective, has_stream_id, lists_class};
 ghost use Rattle.topology.specs.Rules.{refused_pair, no_clash, in_sixes, is_id, is_bound, each_bound, link_rules};
 ghost use Rattle.topology.specs.Rules.{each_link, interface_count, allowed_or_range, link_has, is_id_taken, peer_rules};
-ghost use Rattle.topology.specs.Rules.{each_peer};
-ghost use Rattle.topology.specs.Rules.{is_peer_with_id, refused_class, classes_apart, hop_rules_of, hop_rules};
-ghost use Rattle.topology.specs.Rules.{each_hop};
-ghost use Rattle.topology.specs.Rules.{rules};
+ghost use Rattle.topology.specs.Rules.{each_peer, is_peer_with_id, refused_class, classes_apart, hop_rules_of};
+ghost use Rattle.topology.specs.Rules.{hop_rules, each_hop, rules};
 
 use crate::draft::{InterfaceDraft, LinkDraft, PlanDraft};
 use crate::pairs::{

@@ -15,7 +15,7 @@ use Rattle.trusted_memory.specs.Regions.{in_one_region}
 use Rattle.trusted_memory.specs.Causes.{grant_cause, place_cause, block_cause, block_effect, is_applied}
 use Rattle.trusted_memory.specs.Admitted.{is_on_bound, is_placed, admitted_write}
 use Rattle.trusted_memory.specs.Memory.{MemoryContents, byte_at, Leads}
-use Rattle.trusted_memory.proofs.Turns.{byte_after-next}
+use Rattle.trusted_memory.proofs.Turns.{byte_last_written-next}
 
 -- ---- causes
 
@@ -77,7 +77,7 @@ pub leads_applied : (m n : MemoryContents) (o : Option Write) (w : Write) → o 
 leads_applied m n o w is h older left a =
     let same : newest_first (o ∷ []) older ≡ w ∷ older = ap (λ (p : Option Write). newest_first (p ∷ []) older) is in
     rw same (h a ∙ ap (λ (b : ℕ). cond (enables w.span a) (payload_byte w a) b) (left a) ∙ sym
-    (byte_after-next w older a))
+    (byte_last_written-next w older a))
 
 newest_first-append : (os ps : List (Option Write)) (older : List Write) → newest_first (os ++ ps) older
     ≡ newest_first ps (newest_first os older)

@@ -8,7 +8,7 @@ use Rattle.std.proofs.lemmas.List.Elements.{All-head, All-tail}
 use Rattle.ide_types.specs.declared.plan.Region.{Region}
 use Rattle.ide_types.specs.Fits.{FitsRegion}
 use Rattle.trusted_memory.specs.Regions.{is_inside, in_region, holds_all, in_one_region}
-use Rattle.trusted_memory.specs.Memory.{new_memory, byte_in, byte_at, bytes_from}
+use Rattle.trusted_memory.specs.Memory.{new_memory, byte_in_regions, byte_at, bytes_from}
 use Rattle.trusted_memory.specs.Pages.{contents_seen, memory_seen}
 
 pub length-bytes_from : (f : ℕ → ℕ) (at n : ℕ) → length (bytes_from f at n) ≡ n
@@ -52,12 +52,13 @@ inside f r a e =
     let same : r.base + (a - r.base) ≡ a = omega arith in
     get_or-bytes_from f r.base r.size (a - r.base) (omega arith) ∙ ap f same
 
-pub byte_in-seen : (f : ℕ → ℕ) (rs : List Region) (a : ℕ) → byte_in rs (map (λ r. bytes_from f r.base r.size) rs) a
+pub byte_in_regions-seen : (f : ℕ → ℕ) (rs : List Region) (a : ℕ)
+    → byte_in_regions rs (map (λ r. bytes_from f r.base r.size) rs) a
     ≡ cond (in_region rs a) (f a) 0
-byte_in-seen f [] a = refl
-byte_in-seen f (r ∷ rs) a = elim (cases_Bool (is_inside r a)) [
+byte_in_regions-seen f [] a = refl
+byte_in_regions-seen f (r ∷ rs) a = elim (cases_Bool (is_inside r a)) [
   | inl e ↦ rw e (inside f r a e)
-  | inr e ↦ rw e (byte_in-seen f rs a)
+  | inr e ↦ rw e (byte_in_regions-seen f rs a)
 ]
 
 -- ---- bytes of one region
@@ -97,4 +98,4 @@ new_is_seen rs i = record {
 }
 
 pub byte_at-new : (rs : List Region) (a : ℕ) → byte_at (contents_seen rs []) a ≡ 0
-byte_at-new rs a = byte_in-seen (λ _. 0) rs a ∙ cond_same (in_region rs a) 0
+byte_at-new rs a = byte_in_regions-seen (λ _. 0) rs a ∙ cond_same (in_region rs a) 0

@@ -17,7 +17,7 @@ use Rattle.trusted_memory.specs.Writes.{Write, byte_written}
 use Rattle.trusted_memory.specs.Regions.{in_region, in_one_region}
 use Rattle.trusted_memory.specs.Memory.{byte_at, bytes_from, has_page}
 use Rattle.trusted_memory.specs.Pages.{page_bytes, paged_byte, contents_seen, memory_seen, HasWritten}
-use Rattle.trusted_memory.proofs.Seen.{byte_in-seen, each_in_region}
+use Rattle.trusted_memory.proofs.Seen.{byte_in_regions-seen, each_in_region}
 
 -- ---- numbers
 
@@ -140,7 +140,7 @@ paged-written w old new es es' whole was has puts a =
 
 pub byte_at-seen : (rs : List Region) (es : List (ℕ × List ℕ)) (a : ℕ) → in_region rs a ≡ true
     → byte_at (contents_seen rs es) a ≡ paged_byte es a
-byte_at-seen rs es a h = byte_in-seen (paged_byte es) rs a ∙ rw h refl
+byte_at-seen rs es a h = byte_in_regions-seen (paged_byte es) rs a ∙ rw h refl
 
 enables-reaches : (s : Span) (a : ℕ) → enables s a ≡ true → reaches s a ≡ true
 enables-reaches s a e = grind arith
@@ -159,8 +159,8 @@ byte_at-written rs es es' w inside h a = elim (cases_Bool (enables w.span a)) [
       byte_at-seen rs es' a has ∙ h a ∙ rw e refl
   | inr e ↦
       let same : paged_byte es' a ≡ paged_byte es a = h a ∙ rw e refl in
-      byte_in-seen (paged_byte es') rs a ∙ ap (λ (b : ℕ). cond (in_region rs a) b 0) same ∙ sym
-      (byte_in-seen (paged_byte es) rs a) ∙ sym (rw e refl)
+      byte_in_regions-seen (paged_byte es') rs a ∙ ap (λ (b : ℕ). cond (in_region rs a) b 0) same ∙ sym
+      (byte_in_regions-seen (paged_byte es) rs a) ∙ sym (rw e refl)
 ]
 
 -- ---- a page of bytes 0

@@ -5,7 +5,7 @@ use Rattle.std.specs.List.{range_with_len}
 use Rattle.std.specs.Option.{option_map}
 use Rattle.tlp_layout.specs.Reading.{head_read, tlp_read}
 use Rattle.trusted_memory.specs.declared.span.Span.{Span}
-use Rattle.trusted_memory.specs.Writes.{write_in, newest_first, byte_after}
+use Rattle.trusted_memory.specs.Writes.{write_of_tlp, newest_first, byte_last_written}
 use Rattle.trusted_memory.specs.Requests.{memory_read}
 use Rattle.trusted_memory.specs.Completions.{byte_count, lower_address, completion_bytes}
 
@@ -29,7 +29,7 @@ case_completion length count lower payload = 0x4a ∷ 0x00 ∷ 0x00 ∷ length �
 -- these are the completion's bytes of the read that these bytes are, after the write
 abbrev pub IsAnswer : List ℕ → List ℕ → Type 0
 IsAnswer read answer =
-    option_map (completion_bytes (byte_after (newest_first (write_in (tlp_read written_bytes) ∷ []) [])))
+    option_map (completion_bytes (byte_last_written (newest_first (write_of_tlp (tlp_read written_bytes) ∷ []) [])))
     (memory_read (head_read read))
     ≡ Some answer
 

@@ -7,7 +7,7 @@ use Rattle.link_verdicts.specs.declared.verdict.BlockCause.{BlockCause}
 use Rattle.link_verdicts.specs.declared.verdict.Effect.{Effect}
 use Rattle.link_verdicts.specs.declared.verdict.Effect.TheVariants.{Applied}
 use Rattle.trusted_memory.specs.declared.span.Span.{Span}
-use Rattle.trusted_memory.specs.Writes.{Write, byte_written, byte_after, newest_first}
+use Rattle.trusted_memory.specs.Writes.{Write, byte_written, byte_last_written, newest_first}
 use Rattle.trusted_memory.specs.Regions.{is_inside}
 
 -- the regions, and the bytes of each from its base on
@@ -29,13 +29,13 @@ new_contents regions = record { regions = regions; bytes = map (λ r. replicate 
 abbrev pub new_memory : List Region → TrustedMemory
 new_memory regions = record { contents = new_contents regions; pages = []; spare = 0 }
 
-abbrev pub byte_in : List Region → List (List ℕ) → ℕ → ℕ
-byte_in (r ∷ rs) (b ∷ bs) a = if is_inside r a then slice_index b (a - r.base) else byte_in rs bs a
-byte_in _ _ a = 0
+abbrev pub byte_in_regions : List Region → List (List ℕ) → ℕ → ℕ
+byte_in_regions (r ∷ rs) (b ∷ bs) a = if is_inside r a then slice_index b (a - r.base) else byte_in_regions rs bs a
+byte_in_regions _ _ a = 0
 
 -- the byte at an address, 0 if no region has it
 abbrev pub byte_at : MemoryContents → ℕ → ℕ
-byte_at m a = byte_in m.regions m.bytes a
+byte_at m a = byte_in_regions m.regions m.bytes a
 
 -- n bytes from an address on
 abbrev pub bytes_from : (ℕ → ℕ) → ℕ → ℕ → List ℕ
@@ -56,13 +56,13 @@ takes_page m s (Some cause) = false
 -- ---- writes
 
 -- what stands at an address after a write of this effect
-abbrev pub byte_by : Effect → Write → (ℕ → ℕ) → ℕ → ℕ
-byte_by Applied w old a = byte_written w old a
-byte_by _ w old a = old a
+abbrev pub byte_after_effect : Effect → Write → (ℕ → ℕ) → ℕ → ℕ
+byte_after_effect Applied w old a = byte_written w old a
+byte_after_effect _ w old a = old a
 
 -- what is read anywhere is what these writes left, the newest first
 abbrev pub IsLeftBy : MemoryContents → List Write → Type 0
-IsLeftBy m writes = (a : ℕ) → byte_at m a ≡ byte_after writes a
+IsLeftBy m writes = (a : ℕ) → byte_at m a ≡ byte_last_written writes a
 
 -- writes that come one after another lead from the first contents to the second
 abbrev pub Leads : MemoryContents → List (Option Write) → MemoryContents → Type 0

@@ -40,18 +40,18 @@ crosses s = nat_lt 4096 (s.address % 4096 + span_byte_count s)
 abbrev pub double_words : ℕ → ℕ
 double_words length = if length == 0 then 1024 else length
 
-abbrev pub span_with : ℕ → Fields → Option Span
-span_with length (Memory f) = Some (record {
+abbrev pub span_of_fields : ℕ → Fields → Option Span
+span_of_fields length (Memory f) = Some (record {
   address = f.address;
   first_be = f.first_be;
   last_be = f.last_be;
   length = double_words length;
 })
-span_with length fields = None
+span_of_fields length fields = None
 
 -- of a memory read or write request
 abbrev pub span_of : HeadView → Option Span
-span_of head = span_with head.lead.length head.fields
+span_of head = span_of_fields head.lead.length head.fields
 
 -- of a memory write request
 abbrev pub write_span : HeadView → Option Span

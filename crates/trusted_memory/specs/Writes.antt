@@ -33,8 +33,8 @@ written_byte None a = 0
 written_byte (Some w) a = payload_byte w a
 
 -- what is read at an address: the byte of the last write that enables it, else 0
-unfoldable pub byte_after : List Write → ℕ → ℕ
-byte_after writes a = written_byte (last_enabling writes a) a
+unfoldable pub byte_last_written : List Write → ℕ → ℕ
+byte_last_written writes a = written_byte (last_enabling writes a) a
 
 -- each write written over what the older ones left, from 0 everywhere on
 abbrev pub written_in_turn : List Write → ℕ → ℕ
@@ -54,8 +54,8 @@ abbrev pub memory_write : HeadView → List ℕ → Option Write
 memory_write head payload = option_map (λ s. record { span = s; payload = payload }) (write_span head)
 
 -- the memory write that a TLP is
-abbrev pub write_in : Tlp → Option Write
-write_in t = memory_write (header t) (body t)
+abbrev pub write_of_tlp : Tlp → Option Write
+write_of_tlp t = memory_write (header t) (body t)
 
 -- the write that a view shows: lent bytes are the bytes
 abbrev pub write_of : MemWriteView → Write

@@ -4,12 +4,11 @@ ghost use Rattle.std.specs.Prelude.{◌≡◌, ◌+◌, ◌≤◌, ◌<◌, ◌+
 ghost use Rattle.std.specs.Prelude.{slice_index, vec_len, vec_capacity, if◌then◌else◌};
 ghost use Rattle.tlp_layout.specs.Reading.{read_of};
 ghost use Rattle.trusted_memory.specs.Spans.{span_byte_count, is_enabled};
-ghost use Rattle.trusted_memory.specs.Writes.{Write, byte_after};
+ghost use Rattle.trusted_memory.specs.Writes.{Write, byte_last_written};
 ghost use Rattle.trusted_memory.specs.Memory.{byte_at, IsLeftBy};
 ghost use Rattle.trusted_memory.specs.Requests.{FitsRead};
-ghost use Rattle.trusted_memory.specs.Completions.{enabled_places, first_and_last, first_or, byte_count};
-ghost use Rattle.trusted_memory.specs.Completions.{lower_address, read_bytes, completion_head, completion};
-ghost use Rattle.trusted_memory.specs.Completions.{completion_bytes};
+ghost use Rattle.trusted_memory.specs.Completions.{enabled_places, first_and_last, first_or, byte_count, lower_address};
+ghost use Rattle.trusted_memory.specs.Completions.{read_bytes, completion_head, completion, completion_bytes};
 
 use crate::{MemReadView, Span, Trusted};
 use tlp_layout::{CompletionFields, CompletionStatus, Fields, HeadView, Lead, write_head};
@@ -179,7 +178,7 @@ pub fn complete(memory: &Trusted, read: &MemReadView, out: &mut Vec<u8>) -> Head
     ensures bytes { out.new.items ≡ out.old.items ++ completion_bytes (byte_at memory.now.contents) read.now }
     // That is, of each enabled byte, what the last applied write that enables it left, else 0.
     ensures last { (writes : List Write) → IsLeftBy memory.now.contents writes
-        → out.new.items ≡ out.old.items ++ completion_bytes (byte_after writes) read.now }
+        → out.new.items ≡ out.old.items ++ completion_bytes (byte_last_written writes) read.now }
     ensures capacity { vec_capacity out.old ≤ vec_capacity out.new }
     ensures head { result ≡ completion_head read.now }
     // So it is read again.

@@ -3,7 +3,7 @@
 ghost use Rattle.std.specs.Prelude.{◌≡◌, ℕ, Bool, List, [], ◌∷◌, ◌++◌, Option, Some, is_some};
 ghost use Rattle.ide_types.specs.declared.plan.Region.{Region};
 ghost use Rattle.trusted_memory.specs.declared.grant.Grant.{Grant};
-ghost use Rattle.trusted_memory.specs.Writes.{Write, byte_after, byte_written, written_in_turn};
+ghost use Rattle.trusted_memory.specs.Writes.{Write, byte_last_written, byte_written, written_in_turn};
 ghost use Rattle.trusted_memory.specs.Causes.{block_cause, block_effect, is_applied};
 ghost use Rattle.trusted_memory.specs.Admitted.{admitted_write};
 ghost use Rattle.trusted_memory.specs.Memory.{MemoryContents, Leads};
@@ -11,9 +11,9 @@ ghost use Rattle.trusted_memory.specs.Memory.{MemoryContents, Leads};
 /// What the last enabling write left at an address is what is there once each write was written over what the older
 /// ones left.
 pub fn writes_in_turn()
-    ensures in_turn { (writes : List Write) (a : ℕ) → byte_after writes a ≡ written_in_turn writes a }
-    ensures next { (w : Write) (older : List Write) (a : ℕ) → byte_after (w ∷ older) a ≡ byte_written w
-        (byte_after older) a }
+    ensures in_turn { (writes : List Write) (a : ℕ) → byte_last_written writes a ≡ written_in_turn writes a }
+    ensures next { (w : Write) (older : List Write) (a : ℕ) → byte_last_written (w ∷ older) a ≡ byte_written w
+        (byte_last_written older) a }
 {}
 
 /// A write is admitted exactly if no cause blocks it.

@@ -2,8 +2,7 @@
 
 ghost use Rattle.std.specs.Prelude.{◌≡◌, ◌<◌};
 ghost use Rattle.trusted_memory.specs.Spans.{span_byte_count, is_enable_set, is_enabled, crosses, double_words};
-ghost use Rattle.trusted_memory.specs.Spans.{span_of};
-ghost use Rattle.trusted_memory.specs.Spans.{write_span};
+ghost use Rattle.trusted_memory.specs.Spans.{span_of, write_span};
 
 use tlp_layout::{Fields, HeadView};
 

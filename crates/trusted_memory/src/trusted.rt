@@ -6,7 +6,7 @@ ghost use Rattle.std.specs.Bool.{OnTrue, OnFalse};
 ghost use Rattle.ide_types.specs.Fits.{FitsRegion};
 ghost use Rattle.tlp_layout.specs.Tlp.{viewed_tlp};
 ghost use Rattle.trusted_memory.specs.Spans.{span_byte_count, crosses, write_span};
-ghost use Rattle.trusted_memory.specs.Writes.{Write, byte_written, byte_after, write_in, write_of};
+ghost use Rattle.trusted_memory.specs.Writes.{Write, byte_written, byte_last_written, write_of_tlp, write_of};
 
 use crate::blanks::{fill, put};
 use crate::causes::block_cause;
@@ -50,7 +50,7 @@ impl Trusted {
     ghost use Rattle.trusted_memory.specs.Causes.{block_cause, block_effect, is_applied, write_effect};
     ghost use Rattle.trusted_memory.specs.Admitted.{admitted_write};
     ghost use Rattle.trusted_memory.specs.Memory.{MemoryContents, TrustedMemory, new_memory, byte_at, bytes_from};
-    ghost use Rattle.trusted_memory.specs.Memory.{has_page, takes_page, byte_by, IsLeftBy, Leads};
+    ghost use Rattle.trusted_memory.specs.Memory.{has_page, takes_page, byte_after_effect, IsLeftBy, Leads};
 
     /// The regions of a plan, with 0 in every byte, and no page.
     pub fn make(alloc: Global, regions: &[Region]) -> Result<Trusted, OutOfMemory>
@@ -135,7 +135,7 @@ impl Trusted {
         requires { 1 ≤ self.old.spare }
         ensures effect { result ≡ block_effect
             (block_cause self.old.contents.regions write.now.span trusted grant) }
-        ensures bytes { (a : ℕ) → byte_at self.new.contents a ≡ byte_by result (write_of write.now)
+        ensures bytes { (a : ℕ) → byte_at self.new.contents a ≡ byte_after_effect result (write_of write.now)
             (byte_at self.old.contents) a }
         ensures regions { self.new.contents.regions ≡ self.old.contents.regions }
         ensures as_before { is_applied result ≡ false → self.new ≡ self.old }
@@ -167,7 +167,7 @@ impl Trusted {
         ensures effect { result ≡ write_effect self.old.contents.regions trusted grant (write_span tlp.now.head) }
         ensures regions { self.new.contents.regions ≡ self.old.contents.regions }
         ensures leads { Leads self.old.contents
-            (admitted_write self.old.contents.regions trusted grant (write_in (viewed_tlp tlp.now)) ∷ [])
+            (admitted_write self.old.contents.regions trusted grant (write_of_tlp (viewed_tlp tlp.now)) ∷ [])
             self.new.contents }
         ensures as_before { is_applied result ≡ false → self.new ≡ self.old }
         ensures spare { self.old.spare ≤ self.new.spare + 1 }
@@ -245,7 +245,7 @@ impl Trusted {
         ensures bytes { OnTrue result (buf.new ≡ bytes_from (byte_at self.now.contents) at (length buf.old)) }
         // That is, at each address, the byte of the last applied write that enables it, else 0.
         ensures last { (writes : List Write) → IsLeftBy self.now.contents writes
-            → OnTrue result (buf.new ≡ bytes_from (byte_after writes) at (length buf.old)) }
+            → OnTrue result (buf.new ≡ bytes_from (byte_last_written writes) at (length buf.old)) }
         ensures outside { OnFalse result (buf.new ≡ buf.old) }
     {
         if !in_one_region(&self.regions, at, buf.len()) {

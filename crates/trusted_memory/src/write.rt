@@ -3,7 +3,7 @@
 ghost use Rattle.std.specs.Prelude.{◌≡◌, slice_index};
 ghost use Rattle.std.specs.Option.{option_map};
 ghost use Rattle.tlp_layout.specs.Tlp.{viewed_tlp};
-ghost use Rattle.trusted_memory.specs.Writes.{write_in, write_of};
+ghost use Rattle.trusted_memory.specs.Writes.{write_of_tlp, write_of};
 
 use crate::Span;
 use tlp_layout::TlpView;
@@ -20,7 +20,7 @@ pub struct MemWriteView<'a> {
 impl<'a> MemWriteView<'a> {
     /// The memory write that the TLP is; `None` exactly if it is none.
     pub fn of(tlp: &TlpView<'a>) -> Option<MemWriteView<'a>>
-        ensures { option_map write_of result ≡ write_in (viewed_tlp tlp.now) }
+        ensures { option_map write_of result ≡ write_of_tlp (viewed_tlp tlp.now) }
     {
         match Span::of_write(&tlp.head) {
             Some(span) => Some(MemWriteView {

@@ -10,8 +10,8 @@ use Rattle.spec_keys.specs.Operations.{work_of}
 use Rattle.tsm_host.specs.declared.operation.StreamRefusal.{StreamRefusal}
 use Rattle.tsm_host.specs.Streams.{StreamView, new_stream, HostView, is_named, unless, ok_unless, refusal_of}
 use Rattle.tsm_host.specs.Streams.{begun_stream, has_host}
-use Rattle.tsm_host.specs.Managers.{ManagerView, Named, named_stream, named_at, named_in, stream_place, asking_begun}
-use Rattle.tsm_host.specs.Managers.{begun_manager}
+use Rattle.tsm_host.specs.Managers.{ManagerView, Named, named_stream, named_if_there, named_in, stream_place}
+use Rattle.tsm_host.specs.Managers.{asking_begun, begun_manager}
 use Rattle.ide_types.proofs.Places.{get_at}
 
 abbrev pub named_as : ℕ → StreamView → Named
@@ -23,7 +23,7 @@ pub found : (m : ManagerView) (line id place : ℕ) (s : StreamView) → stream_
     → named_stream m line id ≡ Some (named_as place s)
 found m line id place s at is =
     let lt = (position-Some (is_named line id) m.streams place s at).0 in
-    ap (named_in m.streams) at ∙ ap (named_at place) (get_at m.streams place s lt is)
+    ap (named_in m.streams) at ∙ ap (named_if_there place) (get_at m.streams place s lt is)
 
 -- a refusal leaves the streams and what is asked
 pub begun_as : (streams : List StreamView) (asking : Option ℕ) (m : ManagerView) (place : ℕ)
@@ -63,7 +63,7 @@ within [] i lt = absurd (omega arith)
 within (x ∷ xs) zero lt = refl
 within (x ∷ xs) (suc i) lt = within xs i (omega arith)
 
-some_at : (place : ℕ) (s : Option StreamView) → is_some (named_at place s) ≡ is_some s
+some_at : (place : ℕ) (s : Option StreamView) → is_some (named_if_there place s) ≡ is_some s
 some_at place None = refl
 some_at place (Some s) = refl
 

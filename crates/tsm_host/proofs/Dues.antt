@@ -19,8 +19,8 @@ use Rattle.tsm_host.specs.declared.operation.StreamRefusal.{StreamRefusal}
 use Rattle.tsm_host.specs.declared.operation.StreamRefusal.TheVariants.{PoolEmpty, UnitOpen}
 use Rattle.key_slots.specs.Wires.{WireKeys}
 use Rattle.tsm_host.specs.Streams.{StreamView, HostView, asked_of_unfinished, first_of, begun_stream}
-use Rattle.tsm_host.specs.Walk.{answers, Walked, walk, walked_unless, verdict_of, op_by, IsAsked, Reads, WalkIsDue}
-use Rattle.tsm_host.specs.Walk.{WalksAreDue}
+use Rattle.tsm_host.specs.Walk.{answers, Walked, walk, walked_unless, verdict_of, op_if_reached, IsAsked, Reads}
+use Rattle.tsm_host.specs.Walk.{WalkIsDue, WalksAreDue}
 use Rattle.tsm_host.proofs.Walks.{WorkFits, walk_comes}
 
 -- what an event gives, with the verdict that is due
@@ -28,7 +28,7 @@ record Both (o : Operation) (w : Work) (line id : ℕ) (loss : Option Loss) (bef
     (due : Verdict) :
     Type 0 where
   verdict_is : verdict_of o line id loss x.outcome ≡ Some due
-  op_is : x.stream.op ≡ op_by (is_hosted line) before w (reach_of o due)
+  op_is : x.stream.op ≡ op_if_reached (is_hosted line) before w (reach_of o due)
 
 -- an empty pool
 pooled : (o : Operation) (w : Work) (line id : ℕ) (loss : Option Loss) (s : StreamView) (x : Walked) (due : Verdict)

@@ -14,7 +14,7 @@ use Rattle.tsm_host.specs.declared.stage.Stage.{Stage}
 use Rattle.tsm_host.specs.declared.stage.Stage.TheVariants as stage
 use Rattle.key_slots.specs.Wires.{WireKeys}
 use Rattle.tsm_host.specs.Exchanges.{kept_key, exchange_of, end_of, exchange_lane, wire_number}
-use Rattle.tsm_host.specs.Streams.{op_in, stage_keys, asked_of_unfinished, op_advanced, is_last, exchange_asked}
+use Rattle.tsm_host.specs.Streams.{op_of_stage, stage_keys, asked_of_unfinished, op_advanced, is_last, exchange_asked}
 use Rattle.tsm_host.specs.Streams.{wire_asked, KeysLeft}
 use Rattle.tsm_host.specs.Streams.{StageHolds, IsWithin, key_count, first_program, wire_keys_after}
 
@@ -65,7 +65,7 @@ AtNext hosted (Refreshing set draw next) keys =
 AtNext hosted (Stopping next) keys = IsWithin hosted op.Stop next
 AtNext hosted o keys = Unit {0}
 
-holds_by : (hosted : Bool) (s : Stage) → AtNext hosted (op_in s) (stage_keys s) → StageHolds hosted s
+holds_by : (hosted : Bool) (s : Stage) → AtNext hosted (op_of_stage s) (stage_keys s) → StageHolds hosted s
 holds_by hosted stage.Idle at = tt
 holds_by hosted (stage.Establishing draw next keys) at = at
 holds_by hosted (stage.Up set draw) at = tt
@@ -91,7 +91,8 @@ left_next hosted o a next count keys of_o at low left = rw (← of_o, ← at)
     (keys_left hosted a.operation a.set a.exchange count keys (rw at low) (rw (of_o, at) left))
 
 pub advances : (hosted : Bool) (old new : Stage) (a : NextExchange) → StageHolds hosted old
-    → asked_of_unfinished (op_in old) ≡ Some a → is_last hosted a ≡ false → op_in new ≡ op_advanced (op_in old)
+    → asked_of_unfinished (op_of_stage old) ≡ Some a → is_last hosted a ≡ false → op_of_stage new
+    ≡ op_advanced (op_of_stage old)
     → stage_keys new ≡ wire_keys_after (exchange_asked hosted a) (wire_asked hosted a) (stage_keys old)
     → StageHolds hosted new
 advances hosted stage.Idle new a holds asked last ops keys = absurd cc

@@ -24,8 +24,8 @@ use Rattle.tsm_host.specs.declared.operation.StreamOutcome.TheVariants as outcom
 use Rattle.tsm_host.specs.declared.stage.NextExchange.{NextExchange}
 use Rattle.tsm_host.specs.Streams.{StreamView, asked_exchange, asked_of_unfinished, work_asked, outcome_of}
 use Rattle.tsm_host.specs.Streams.{taken_stream, stream_acknowledged, shown_at_end}
-use Rattle.tsm_host.specs.Walk.{answers, exchange_judged, Walked, outcome_at, stream_after, walk_after_outcome, walk}
-use Rattle.tsm_host.specs.Walk.{verdict_of, op_by, NoBadReply}
+use Rattle.tsm_host.specs.Walk.{answers, exchange_judged, Walked, outcome_if_asked, stream_after, walk_after_outcome}
+use Rattle.tsm_host.specs.Walk.{walk, verdict_of, op_if_reached, NoBadReply}
 
 -- an establish is in set 0; a stop has no set and no draw of its own
 unfoldable pub WorkFits : Operation → Bool → ℕ → Type 0
@@ -50,7 +50,7 @@ pub record Comes (o : Operation) (set : Bool) (draw f : ℕ) (b : Bool) (line id
     (before : StreamStage)
     (rest : Option Verdict) (x : Walked) : Type 0 where
   pub verdict_is : verdict_of o line id loss x.outcome ≡ Some (ends_as line id (work o set draw f b) rest)
-  pub op_is : x.stream.op ≡ op_by (is_hosted line) before (work o set draw f b)
+  pub op_is : x.stream.op ≡ op_if_reached (is_hosted line) before (work o set draw f b)
       (reach_of o (ends_as line id (work o set draw f b) rest))
 
 -- how an exchange is cut off
@@ -77,9 +77,10 @@ not_taken false x y e = refl
 stays_there : (line : ℕ) (o : Operation) (set : Bool) (draw f : ℕ) (b : Bool) (verdict : Verdict) (before : StreamStage)
     (n : ℕ)
     → n ≤ last_exchange_of (is_hosted line) o → CutShort o verdict n
-    → op_by (is_hosted line) before (work o set draw f b) (reach_of o verdict) ≡ op_at_exchange (work o set draw f b) n
+    → op_if_reached (is_hosted line) before (work o set draw f b) (reach_of o verdict)
+    ≡ op_at_exchange (work o set draw f b) n
 stays_there line o set draw f b verdict before n le cut =
-    ap (op_by (is_hosted line) before (work o set draw f b)) cut.says
+    ap (op_if_reached (is_hosted line) before (work o set draw f b)) cut.says
     ∙ not_taken (nat_lt (last_exchange_of (is_hosted line) o) n) (op_ended (work o set draw f b))
     (op_at_exchange (work o set draw f b) n)
     (lt-false (last_exchange_of (is_hosted line) o) n le)
@@ -147,10 +148,11 @@ ends o set draw f b line id loss before carried n s same =
     (omega (arith, same)) in
     let end : nat_lt (last_exchange_of (is_hosted line) o) (last_exchange_of (is_hosted line) o + 1)
     ≡ true = lt-true (last_exchange_of (is_hosted line) o) (last_exchange_of (is_hosted line) o + 1) (omega arith) in
-    let by_end : op_by (is_hosted line) before (work o set draw f b)
+    let by_end : op_if_reached (is_hosted line) before (work o set draw f b)
     (reach_of o (finished_verdict line id (work o set draw f b)))
     ≡ op_ended (work o set draw f b) =
-    ap (op_by (is_hosted line) before (work o set draw f b)) (done_says o set draw f b line id) ∙ manager_after_reply
+    ap (op_if_reached (is_hosted line) before (work o set draw f b)) (done_says o set draw f b line id) ∙
+    manager_after_reply
     (nat_lt (last_exchange_of (is_hosted line) o) (last_exchange_of (is_hosted line) o + 1))
     (op_ended (work o set draw f b))
     (op_at_exchange (work o set draw f b) (last_exchange_of (is_hosted line) o + 1)) end in
@@ -208,7 +210,7 @@ walk_is o set draw f b fits line id loss refusal before zero n s count at =
     let same : n ≡ last_exchange_of (is_hosted line) o = omega (arith, count) in
     subst (λ (q : Option NextExchange). Comes o set draw f b line id loss before
     (first_from (λ x. cut_at (lost_message loss x) (refusal x) x) n (suc zero))
-    (walk_after_outcome (outcome_at (is_hosted line) q (answers loss refusal))
+    (walk_after_outcome (outcome_if_asked (is_hosted line) q (answers loss refusal))
     (stream_after (is_hosted line) q (answers loss refusal) s)
     (walk (is_hosted line) zero (answers loss refusal) (stream_after (is_hosted line) q (answers loss refusal) s))))
     (sym (ap asked_of_unfinished at ∙ standing_asked o set draw f b n fits))
@@ -223,7 +225,7 @@ walk_is o set draw f b fits line id loss refusal before (suc more) n s count at 
     in
     subst (λ (q : Option NextExchange). Comes o set draw f b line id loss before
     (first_from (λ x. cut_at (lost_message loss x) (refusal x) x) n (suc (suc more)))
-    (walk_after_outcome (outcome_at (is_hosted line) q (answers loss refusal))
+    (walk_after_outcome (outcome_if_asked (is_hosted line) q (answers loss refusal))
     (stream_after (is_hosted line) q (answers loss refusal) s)
     (walk (is_hosted line) (suc more) (answers loss refusal)
     (stream_after (is_hosted line) q (answers loss refusal) s))))

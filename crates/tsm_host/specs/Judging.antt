@@ -36,13 +36,13 @@ is_expected (SetStop stream selector port) reply = is_acknowledgement stream sel
 is_expected request reply = false
 
 -- a KP_ACK with another status than 0 is a refusal, any other reply is none
-abbrev pub refusal_in : KmView → Judged
-refusal_in (KpAck s status x p) = if status == 0 then Bad else Refused status
-refusal_in reply = Bad
+abbrev pub judged_refusal : KmView → Judged
+judged_refusal (KpAck s status x p) = if status == 0 then Bad else Refused status
+judged_refusal reply = Bad
 
 abbrev pub judged_reply : KmView → Result KmView KmFault → Judged
 judged_reply request (Err fault) = Bad
-judged_reply request (Ok reply) = if is_expected request reply then Expected else refusal_in reply
+judged_reply request (Ok reply) = if is_expected request reply then Expected else judged_refusal reply
 
 -- no reply of the device is a bad one
 abbrev pub judged_exchange : KmView → ExchangeReply → Judged

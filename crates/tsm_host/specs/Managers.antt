@@ -68,13 +68,13 @@ pub record Named : Type 0 where
   pub place : ℕ
   pub stream : StreamView
 
-abbrev pub named_at : ℕ → Option StreamView → Option Named
-named_at place None = None
-named_at place (Some s) = Some (record { place = place; stream = s })
+abbrev pub named_if_there : ℕ → Option StreamView → Option Named
+named_if_there place None = None
+named_if_there place (Some s) = Some (record { place = place; stream = s })
 
 abbrev pub named_in : List StreamView → Option ℕ → Option Named
 named_in streams None = None
-named_in streams (Some place) = named_at place (slice_get streams place)
+named_in streams (Some place) = named_if_there place (slice_get streams place)
 
 abbrev pub named_stream : ManagerView → ℕ → ℕ → Option Named
 named_stream m line id = named_in m.streams (stream_place m line id)
@@ -99,13 +99,13 @@ abbrev pub current_asked : ℕ → StreamView → Option NextExchange → Option
 current_asked place s None = None
 current_asked place s (Some a) = Some (record { place = place; stream = s; asked = a })
 
-abbrev pub current_at : ℕ → Option StreamView → Option Current
-current_at place None = None
-current_at place (Some s) = current_asked place s (asked_of_unfinished s.op)
+abbrev pub current_if_there : ℕ → Option StreamView → Option Current
+current_if_there place None = None
+current_if_there place (Some s) = current_asked place s (asked_of_unfinished s.op)
 
 abbrev pub current_in : List StreamView → Option ℕ → Option Current
 current_in streams None = None
-current_in streams (Some place) = current_at place (slice_get streams place)
+current_in streams (Some place) = current_if_there place (slice_get streams place)
 
 abbrev pub current : ManagerView → Option Current
 current m = current_in m.streams m.asking

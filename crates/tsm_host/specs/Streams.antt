@@ -9,7 +9,7 @@ use Rattle.link_verdicts.specs.declared.verdict.Operation.{Operation}
 use Rattle.link_verdicts.specs.declared.verdict.Operation.TheVariants as op
 use Rattle.key_slots.specs.{KeySet, is_one, key_set, Pool, draws_in, six_keys, pool_after}
 use Rattle.spec_keys.specs.Operations.{StreamStage, Idle, Establishing, Up, Refreshing, Stopping, Work, work, work_of}
-use Rattle.spec_keys.specs.Operations.{last_exchange_of, makes_draw, reach, op_after, op_cut, op_at_exchange}
+use Rattle.spec_keys.specs.Operations.{last_exchange_of, makes_draw, reach, op_after_reach, op_cut, op_at_exchange}
 use Rattle.key_messages.specs.declared.object.KmView.{KmView}
 use Rattle.key_messages.specs.{PlaceCall}
 use Rattle.tsm_host.specs.declared.exchange.Exchange.{Exchange}
@@ -62,12 +62,12 @@ has_host s = is_hosted s.line
 
 -- ---- as it is kept
 
-abbrev pub op_in : Stage → StreamStage
-op_in stage.Idle = Idle
-op_in (stage.Establishing draw next keys) = Establishing draw next
-op_in (stage.Up set draw) = Up (is_one set) draw
-op_in (stage.Refreshing set draw next keys) = Refreshing (is_one set) draw next
-op_in (stage.Stopping next) = Stopping next
+abbrev pub op_of_stage : Stage → StreamStage
+op_of_stage stage.Idle = Idle
+op_of_stage (stage.Establishing draw next keys) = Establishing draw next
+op_of_stage (stage.Up set draw) = Up (is_one set) draw
+op_of_stage (stage.Refreshing set draw next keys) = Refreshing (is_one set) draw next
+op_of_stage (stage.Stopping next) = Stopping next
 
 abbrev pub stage_keys : Stage → WireKeys
 stage_keys (stage.Establishing draw next keys) = keys
@@ -281,7 +281,7 @@ wire_keys_after e i keys = keys
 -- the exchange is acknowledged
 abbrev pub stream_acknowledged : (hosted : Bool) → NextExchange → StreamView → StreamView
 stream_acknowledged hosted a s = record s {
-  op = op_after hosted (work_asked a) (reach (a.exchange + 1) (a.exchange + 1));
+  op = op_after_reach hosted (work_asked a) (reach (a.exchange + 1) (a.exchange + 1));
   keys = if is_last hosted a then [] else wire_keys_after (exchange_asked hosted a) (wire_asked hosted a) s.keys;
 }
 

@@ -12,7 +12,7 @@ use Rattle.link_verdicts.specs.declared.verdict.Verdict.{Verdict}
 use Rattle.link_verdicts.specs.declared.verdict.Verdict.TheVariants as v
 use Rattle.key_slots.specs.{Pool, draws_in}
 use Rattle.spec_keys.specs.Places.{KeyPlan}
-use Rattle.spec_keys.specs.Operations.{StreamStage, Work, Reach, work_of, last_exchange_of, reach_of, op_after}
+use Rattle.spec_keys.specs.Operations.{StreamStage, Work, Reach, work_of, last_exchange_of, reach_of, op_after_reach}
 use Rattle.spec_keys.specs.Due.{PortView, refusal_at, lost_message, lost_at, establish_on, refresh_on, stop_on}
 use Rattle.spec_keys.specs.Due.{is_live_sender}
 use Rattle.tsm_host.specs.declared.judge.Judged.{Judged}
@@ -45,9 +45,9 @@ pub record Walked : Type 0 where
   pub outcome : StreamOutcome
   pub stream : StreamView
 
-abbrev pub outcome_at : (hosted : Bool) → Option NextExchange → (ℕ → Judged) → StreamOutcome
-outcome_at hosted None carried = outcome.Next
-outcome_at hosted (Some a) carried = outcome_of hosted a (carried a.exchange)
+abbrev pub outcome_if_asked : (hosted : Bool) → Option NextExchange → (ℕ → Judged) → StreamOutcome
+outcome_if_asked hosted None carried = outcome.Next
+outcome_if_asked hosted (Some a) carried = outcome_of hosted a (carried a.exchange)
 
 abbrev pub stream_after : (hosted : Bool) → Option NextExchange → (ℕ → Judged) → StreamView → StreamView
 stream_after hosted None carried s = s
@@ -61,7 +61,7 @@ walk_after_outcome o s rest = record { outcome = o; stream = s }
 abbrev pub walk : (hosted : Bool) (more : ℕ) → (ℕ → Judged) → StreamView → Walked
 walk hosted zero carried s = record { outcome = outcome.Next; stream = s }
 walk hosted (suc more) carried s =
-    walk_after_outcome (outcome_at hosted (asked_of_unfinished s.op) carried)
+    walk_after_outcome (outcome_if_asked hosted (asked_of_unfinished s.op) carried)
     (stream_after hosted (asked_of_unfinished s.op) carried s)
     (walk hosted more carried (stream_after hosted (asked_of_unfinished s.op) carried s))
 
@@ -128,9 +128,9 @@ due_on op.Refresh plan o next ports status line stream loss = refresh_on plan o 
 due_on op.Stop plan o next ports status line stream loss = stop_on o next ports line stream loss
 
 -- the operations of the stream after its verdict
-abbrev pub op_by : (hosted : Bool) → StreamStage → Work → Option Reach → StreamStage
-op_by hosted o w None = o
-op_by hosted o w (Some reached) = op_after hosted w reached
+abbrev pub op_if_reached : (hosted : Bool) → StreamStage → Work → Option Reach → StreamStage
+op_if_reached hosted o w None = o
+op_if_reached hosted o w (Some reached) = op_after_reach hosted w reached
 
 -- If each exchange is lost or refused as the definitions say, an event gives the verdict that is due, and leaves the
 -- operations as the verdict says.
@@ -142,7 +142,7 @@ pub record WalkIsDue (hosted : Bool) (operation : Operation) (plan : KeyPlan) (p
       ≡ Some (due_on operation plan s.op pool.draws ports status s.line s.id loss)
   pub op_is : (walk_result hosted operation host pool
       (answers loss (refusal_at ports operation (work_of operation s.op pool.draws).set s.line s.id)) s).stream.op
-      ≡ op_by hosted s.op (work_of operation s.op pool.draws)
+      ≡ op_if_reached hosted s.op (work_of operation s.op pool.draws)
       (reach_of operation (due_on operation plan s.op pool.draws ports status s.line s.id loss))
 
 abbrev pub WalksAreDue : Type 0

@@ -2,7 +2,7 @@
 
 ghost use Rattle.std.specs.Prelude.{◌≡◌};
 ghost use Rattle.tsm_host.specs.Judging.{is_description, is_key_acknowledgement, is_acknowledgement, is_expected};
-ghost use Rattle.tsm_host.specs.Judging.{refusal_in, judged_reply, judged_exchange};
+ghost use Rattle.tsm_host.specs.Judging.{judged_refusal, judged_reply, judged_exchange};
 ghost use Rattle.key_messages.specs.{object_reading};
 
 use crate::operation::ExchangeReply;
@@ -81,7 +81,7 @@ fn is_expected(request: KmView, reply: KmView) -> bool
 }
 
 fn refusal(reply: KmView) -> Judged
-    ensures { result ≡ refusal_in reply }
+    ensures { result ≡ judged_refusal reply }
 {
     match reply {
         KmView::KpAck { status, .. } => {

@@ -114,9 +114,8 @@ fn add_peers(streams: &mut Vec<StreamKeys>, peers: &[PeerPlan]) -> Result<(), Ou
 
 impl Manager {
     ghost use Rattle.tsm_host.specs.Managers.{new_manager, stream_place, named_stream, status_named, current};
-    ghost use Rattle.tsm_host.specs.Managers.{begin_refusal};
-    ghost use Rattle.tsm_host.specs.Managers.{begun_manager, pool_begun, calls_begun, outcome_now, manager_after_reply};
-    ghost use Rattle.tsm_host.specs.Managers.{calls_taken, reset_manager, asked_now};
+    ghost use Rattle.tsm_host.specs.Managers.{begin_refusal, begun_manager, pool_begun, calls_begun, outcome_now};
+    ghost use Rattle.tsm_host.specs.Managers.{manager_after_reply, calls_taken, reset_manager, asked_now};
 
     /// A manager of all lines of a topology; no stream has keys. Returns `OutOfMemory` for want of memory.
     pub fn make(alloc: Global, plan: &ValidPlan) -> Result<Manager, OutOfMemory>

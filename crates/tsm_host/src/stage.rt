@@ -2,15 +2,13 @@
 
 ghost use Rattle.std.specs.Prelude.{◌≡◌, ◌+◌, ◌<◌, ◌≤◌, IsSome, IsTrue, true, not, if◌then◌else◌, [], slice_index_or};
 ghost use Rattle.ide_types.specs.{is_one};
-ghost use Rattle.spec_keys.specs.Operations.{work_of, last_exchange_of, op_after, reach};
+ghost use Rattle.spec_keys.specs.Operations.{work_of, last_exchange_of, op_after_reach, reach};
 ghost use Rattle.tsm_host.specs.Exchanges.{exchange_of, exchange_lane, kept_key, key_or_none};
 ghost use Rattle.tsm_host.specs.Facts.{op_seen};
-ghost use Rattle.tsm_host.specs.Streams.{op_in, stage_keys, StageHolds, asked_of_unfinished, exchange_asked};
-ghost use Rattle.tsm_host.specs.Streams.{work_asked};
-ghost use Rattle.tsm_host.specs.Streams.{host_view, operation_refusal, open_unit_refusal, status_or_idle};
-ghost use Rattle.tsm_host.specs.Streams.{unless_secure, is_set};
-ghost use Rattle.tsm_host.specs.Streams.{wire_keys_after, establish_refusal, refresh_refusal, current_set, next_in};
-ghost use Rattle.tsm_host.specs.Streams.{op_advanced};
+ghost use Rattle.tsm_host.specs.Streams.{op_of_stage, stage_keys, StageHolds, asked_of_unfinished, exchange_asked};
+ghost use Rattle.tsm_host.specs.Streams.{work_asked, host_view, operation_refusal, open_unit_refusal, status_or_idle};
+ghost use Rattle.tsm_host.specs.Streams.{unless_secure, is_set, wire_keys_after, establish_refusal, refresh_refusal};
+ghost use Rattle.tsm_host.specs.Streams.{current_set, next_in, op_advanced};
 
 use crate::exchange::{Exchange, end_at, exchange_at, last, wire_number};
 use crate::facts::StageFacts;
@@ -156,7 +154,7 @@ impl Stage {
         stream: u8,
         operation: Operation,
     ) -> Option<StreamRefusal>
-        ensures { result ≡ operation_refusal operation (op_in self.now)
+        ensures { result ≡ operation_refusal operation (op_of_stage self.now)
             (host_view P.status_of P.live_of port.now stream) }
     {
         match operation {
@@ -167,7 +165,7 @@ impl Stage {
     }
 
     fn establish_refusal(&self) -> Option<StreamRefusal>
-        ensures { result ≡ establish_refusal (op_in self.now) }
+        ensures { result ≡ establish_refusal (op_of_stage self.now) }
     {
         match self {
             Stage::Idle | Stage::Establishing { .. } => None,
@@ -178,7 +176,7 @@ impl Stage {
     }
 
     fn refresh_refusal<P: HostPort>(&self, port: &P, stream: u8) -> Option<StreamRefusal>
-        ensures { result ≡ refresh_refusal (op_in self.now) (host_view P.status_of P.live_of port.now stream) }
+        ensures { result ≡ refresh_refusal (op_of_stage self.now) (host_view P.status_of P.live_of port.now stream) }
     {
         match self {
             Stage::Idle => Some(StreamRefusal::NotSecure(status(port, stream))),
@@ -191,7 +189,7 @@ impl Stage {
 
     /// Whether the operation begins, and does not go on.
     pub fn begins(&self, operation: Operation) -> bool
-        ensures { result ≡ (work_of operation (op_in self.now) 0).begins }
+        ensures { result ≡ (work_of operation (op_of_stage self.now) 0).begins }
     {
         match (operation, self) {
             (Operation::Establish, Stage::Establishing { .. }) => false,
@@ -203,8 +201,8 @@ impl Stage {
 
     /// The key set that a refresh of a keyed stream gives keys in; set 0 for an establish.
     pub fn next_set(&self, operation: Operation) -> KeySet
-        requires { (work_of operation (op_in self.now) 0).begins ≡ true }
-        ensures { is_one result ≡ (work_of operation (op_in self.now) 0).set }
+        requires { (work_of operation (op_of_stage self.now) 0).begins ≡ true }
+        ensures { is_one result ≡ (work_of operation (op_of_stage self.now) 0).set }
     {
         match operation {
             Operation::Refresh => self.current_set().other(),
@@ -213,7 +211,7 @@ impl Stage {
     }
 
     fn current_set(&self) -> KeySet
-        ensures { is_one result ≡ current_set (op_in self.now) }
+        ensures { is_one result ≡ current_set (op_of_stage self.now) }
     {
         match self {
             Stage::Up { set, .. } => *set,
@@ -224,7 +222,7 @@ impl Stage {
     /// The exchange that is next, if an operation is unfinished.
     #[tactic(auto, using(ide_types::proofs::KeySets::set_of_one))]
     pub fn asked(&self) -> Option<NextExchange>
-        ensures { result ≡ asked_of_unfinished (op_in self.now) }
+        ensures { result ≡ asked_of_unfinished (op_of_stage self.now) }
     {
         match self {
             Stage::Establishing { draw, next, .. } => Some(NextExchange {
@@ -273,7 +271,7 @@ impl Stage {
     /// The state after the exchange that is next was acknowledged, which is not the last.
     pub fn advanced(self, exchange: Exchange, wire: u8) -> Stage
         requires { next_in self < 24 }
-        ensures op { op_in result ≡ op_advanced (op_in self) }
+        ensures op { op_of_stage result ≡ op_advanced (op_of_stage self) }
         ensures keys { stage_keys result ≡ wire_keys_after exchange wire (stage_keys self) }
     {
         match self {
@@ -304,7 +302,7 @@ impl Stage {
 impl Stage {
     /// Its state without its keys.
     pub fn facts(&self) -> StageFacts
-        ensures { op_seen result ≡ op_in self.now }
+        ensures { op_seen result ≡ op_of_stage self.now }
     {
         match self {
             Stage::Idle => StageFacts::Idle,

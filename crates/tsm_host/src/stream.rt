@@ -9,7 +9,7 @@ ghost use Rattle.ide_types.specs.Lines.{is_hosted};
 ghost use Rattle.tsm_host.specs.Exchanges.{wire_keys};
 ghost use Rattle.tsm_host.specs.Facts.{op_seen};
 ghost use Rattle.tsm_host.specs.Local.{CallsMove, programs, stream_stop_calls};
-ghost use Rattle.tsm_host.specs.Streams.{key_status, op_in, stage_keys, work_asked, StageHolds, keyed_stage};
+ghost use Rattle.tsm_host.specs.Streams.{key_status, op_of_stage, stage_keys, work_asked, StageHolds, keyed_stage};
 ghost use Rattle.tsm_host.specs.Streams.{taken_calls};
 
 use crate::exchange::{Exchange, selector};
@@ -36,11 +36,11 @@ pub struct StreamKeys {
 
 impl Model for StreamKeys {
     ghost use Rattle.ide_types.specs.Lines.{is_hosted};
-    ghost use Rattle.tsm_host.specs.Streams.{StreamView, op_in, stage_keys, StageHolds};
+    ghost use Rattle.tsm_host.specs.Streams.{StreamView, op_of_stage, stage_keys, StageHolds};
 
     ghost Value = { StreamView };
 
-    ghost view = { λ s. record { line = s.line; id = s.id; op = op_in s.stage; keys = stage_keys s.stage } };
+    ghost view = { λ s. record { line = s.line; id = s.id; op = op_of_stage s.stage; keys = stage_keys s.stage } };
 
     ghost invariant = { λ s. StageHolds (is_hosted s.line) s.stage };
 }
@@ -275,7 +275,7 @@ impl StreamKeys {
 
 /// What a state says of a stream's keys.
 fn key_status(stage: &Stage) -> StreamStatus
-    ensures { result ≡ key_status (op_in stage.now) }
+    ensures { result ≡ key_status (op_of_stage stage.now) }
 {
     match stage {
         Stage::Idle => StreamStatus::Idle,
@@ -295,7 +295,7 @@ fn is_cut(ends: &[PortName], line: u8) -> bool
 
 /// The state of a stream of a line that a reset cut.
 fn cut(line: u8) -> Stage
-    ensures op { op_in result ≡ (if is_between_devices line then Stopping 1 else Idle) }
+    ensures op { op_of_stage result ≡ (if is_between_devices line then Stopping 1 else Idle) }
     ensures keys { stage_keys result ≡ [] }
     ensures holds { StageHolds (is_hosted line) result }
 {
@@ -371,7 +371,7 @@ fn keyed(operation: Operation, set: KeySet, draw: u32, keys: Wires) -> Stage
 
 /// The state at the end of an operation.
 fn ended(hosted: bool, asked: NextExchange) -> Stage
-    ensures op { op_in result ≡ op_ended (work_asked asked) }
+    ensures op { op_of_stage result ≡ op_ended (work_asked asked) }
     ensures keys { stage_keys result ≡ [] }
     ensures holds { StageHolds hosted result }
 {

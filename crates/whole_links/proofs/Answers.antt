@@ -6,7 +6,7 @@ use Rattle.std.proofs.lemmas.Bool.Decides.{nat_tests}
 use Rattle.std.specs.Prelude.{Option, Some, None, Result, Ok, Err, unwrap_or, slice_get, nat_lt, if◌then◌else◌, ◌||◌}
 use Rattle.std.specs.Option.{option_map, option_map_or, option_and_then}
 use Rattle.std.proofs.lemmas.Option.{none-some, slice_get_within}
-use Rattle.spec_keys.specs.Keys.{is_below}
+use Rattle.spec_keys.specs.Keys.{is_some_below}
 use Rattle.ide_types.specs.declared.memory.OutOfMemory.{OutOfMemory}
 use Rattle.ide_types.specs.declared.port.Side.TheVariants.{Host}
 use Rattle.ide_types.specs.declared.sub.SubKind.{SubKind}
@@ -97,11 +97,11 @@ answer_only {verdict} {w} {old} {new} plan link due says is same bounded =
 -- ---- a refusal for an older draw
 
 below_is : (o : Option ℕ) (floor draw : ℕ) → draw_below o floor ≡ Some draw
-    → (is_below o floor ≡ true) × (unwrap_or o 0 ≡ draw)
+    → (is_some_below o floor ≡ true) × (unwrap_or o 0 ≡ draw)
 below_is None floor draw is = absurd (none-some draw is)
 below_is (Some d) floor draw is = grind arith
 
-not_below : (o : Option ℕ) (floor : ℕ) → draw_below o floor ≡ None → is_below o floor ≡ false
+not_below : (o : Option ℕ) (floor : ℕ) → draw_below o floor ≡ None → is_some_below o floor ≡ false
 not_below None floor is = refl
 not_below (Some d) floor is = grind arith
 
@@ -118,7 +118,7 @@ module _ (plan : Plan) (b : BesidePorts) (st : LinkState) (link : ℕ) (r : Boun
 
   newer : draw_below o r.bound.floor ≡ None → stepped_completion plan b st (port_at Host link) r o ≡ sends
   newer below =
-      let none : is_below o r.bound.floor ≡ false = not_below o r.bound.floor below in
+      let none : is_some_below o r.bound.floor ≡ false = not_below o r.bound.floor below in
       (λ i. if none i then (v.Interface (iv.RefusedRefreshFirst (unwrap_or o 0) r.bound.floor), st) else sends)
 
 pub answer_older : {verdict : Verdict} {old new : WholeLinks} (plan : Plan) (link : ℕ) (r : BoundCompletion)

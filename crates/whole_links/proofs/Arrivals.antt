@@ -22,7 +22,7 @@ use Rattle.link_stores.specs.declared.link.LinkAccesses.{LinkAccesses}
 use Rattle.all_links.specs.{AreLinks, EndsView, IsQuiet, Lands, arrival_of, arrival_on, carried_next, grants_in}
 use Rattle.all_links.specs.{state_of, unit_in, unit_tlps, waiting_reads_after, writes_by}
 use Rattle.all_links.specs.Accesses.{AccessesTurn, policy_in, same_floors}
-use Rattle.all_links.specs.Sides.{SidesArriveAt}
+use Rattle.all_links.specs.BesideAfter.{BesideBytes}
 use Rattle.all_links.specs.States.{links_state}
 use Rattle.all_links.specs.declared.links.Links.{Links}
 use Rattle.all_links.proofs.{sealed_there}
@@ -164,7 +164,7 @@ module _ (plan : Plan) (old : WholeLinks) (e : Event) (end : PortName) (bytes : 
           };
     }
 
-    pub arrived_beside : SidesArriveAt plan e verdict old.links after.links
+    pub arrived_beside : BesideBytes plan e verdict old.links after.links
     arrived_beside = record {
       keeper = refl;
       peer_draws = refl;
@@ -187,7 +187,7 @@ module _ (plan : Plan) (old : WholeLinks) (e : Event) (end : PortName) (bytes : 
           (brought.has h links stands) in
           subst (λ (a : Option Arrival). let ps = unit_in plan (links_state plan old.links) a in
           AccessesTurn (waiting_reads_after plan ps e verdict) same_floors
-          (λ link. happens_by plan (policy_in old.links.keeper.interfaces old.links.ends old.accesses).standings ps e
+          (λ link. happens_by plan (policy_in old.links.keeper.interfaces old.links.ends old.accesses).statuses ps e
           verdict link)
           (carried_next (unit_tlps plan ps verdict) e verdict) old.accesses ys)
           (sym brought.arrival) (on.turn e brought.quiet);

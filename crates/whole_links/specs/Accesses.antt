@@ -28,7 +28,7 @@ use Rattle.interface_state.specs.Machine.{Tdi}
 use Rattle.all_links.specs.Accesses.{runs_in, device_draw, same_reads, same_floors, nothing_happens, same_carried}
 use Rattle.all_links.specs.Accesses.{AccessesTurn, policy_in}
 use Rattle.all_links.specs.Interfaces.{interface_named, tdi_named}
-use Rattle.all_links.specs.Sides.{arrival_in_state}
+use Rattle.all_links.specs.BesideAfter.{arrival_in_state}
 use Rattle.all_links.specs.States.{links_state}
 use Rattle.all_links.specs.declared.links.Links.{Links}
 use Rattle.whole_links.specs.declared.whole.WholeLinks.{WholeLinks}
@@ -109,7 +109,7 @@ pub record AccessesArrive (plan : Plan) (arrival : LinkState → Option Arrival)
   pub turn : (h : History) → AreLinks plan old.ends old.keeper.keys → PortsStandFor plan (links_state plan old) h
       → let ps = unit_in plan (links_state plan old) (arrival (links_state plan old)) in
       AccessesTurn (waiting_reads_after plan ps e verdict) same_floors
-      (λ link. happens_by plan (policy_in old.keeper.interfaces old.ends xs).standings ps e verdict link)
+      (λ link. happens_by plan (policy_in old.keeper.interfaces old.ends xs).statuses ps e verdict link)
       (carried_next (unit_tlps plan ps verdict) e verdict) xs ys
 
 abbrev pub AccessesArriveAt : Plan → Event → Verdict → WholeLinks → WholeLinks → Type 0

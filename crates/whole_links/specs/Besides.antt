@@ -25,7 +25,7 @@ use Rattle.machine_ports.specs.Forwards.{forward_of}
 use Rattle.machine_ports.specs.Replies.{BoundCompletion}
 pub use Rattle.machine_ports.specs.Replies.{completion_with_bytes}
 use Rattle.std.specs.Option.{option_map_or, option_and_then}
-use Rattle.spec_keys.specs.Keys.{is_below}
+use Rattle.spec_keys.specs.Keys.{is_some_below}
 use Rattle.all_links.specs.Accesses.{reads_at, sizes_at, mmio_at, carried_on_link, policy_in}
 use Rattle.all_links.specs.Besides.{beside_in}
 use Rattle.all_links.specs.Interfaces.{interface_named}
@@ -70,7 +70,7 @@ link_reply s link =
 
 -- the draw, if it is less than a floor
 abbrev pub draw_below : Option ℕ → ℕ → Option ℕ
-draw_below draw floor = if is_below draw floor then draw else None
+draw_below draw floor = if is_some_below draw floor then draw else None
 
 -- ---- the memory of devices
 

@@ -2,7 +2,7 @@
 
 ghost use Rattle.std.specs.Prelude.{◌≡◌, ◌<◌, ◌^◌, IfOk, option_map};
 ghost use Rattle.std.specs.Cow.{cow_slice_items};
-ghost use Rattle.all_links.specs.Sides.{SidesArriveAt};
+ghost use Rattle.all_links.specs.BesideAfter.{BesideBytes};
 ghost use Rattle.whole_links.specs.Packets.{bytes_left, packet_event};
 
 use crate::whole::WholeLinks;
@@ -69,7 +69,7 @@ impl WholeLinks {
         requires bounded { IsBoundedWhole self.old }
         ensures ends { WholeEndsOr plan.now result self.old self.new (Event.Arrive port bytes.now) }
         ensures sides { IfOk result (λ v.
-            SidesArriveAt plan.now (Event.Arrive port bytes.now) v self.old.links self.new.links) }
+            BesideBytes plan.now (Event.Arrive port bytes.now) v self.old.links self.new.links) }
         ensures accesses { IfOk result (λ v.
             AccessesArriveAt plan.now (Event.Arrive port bytes.now) v self.old self.new) }
     {
@@ -107,7 +107,7 @@ impl WholeLinks {
         requires bounded { IsBoundedWhole self.old }
         ensures ends { WholeEndsOr plan.now result self.old self.new (packet_event packet passage) }
         ensures sides { IfOk result (λ v.
-            SidesArriveAt plan.now (packet_event packet passage) v self.old.links self.new.links) }
+            BesideBytes plan.now (packet_event packet passage) v self.old.links self.new.links) }
         ensures accesses { IfOk result (λ v.
             AccessesArriveAt plan.now (packet_event packet passage) v self.old self.new) }
     {

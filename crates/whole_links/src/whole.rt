@@ -15,7 +15,7 @@ ghost use Rattle.all_links.specs.Events.{operation_event};
 ghost use Rattle.whole_links.specs.Besides.{draw_below};
 ghost use Rattle.all_links.specs.Accesses.{is_sending, reads_at, runs_in, same_reads, same_floors, nothing_happens};
 ghost use Rattle.all_links.specs.Accesses.{AccessesTurn, carried_on_link, same_carried};
-ghost use Rattle.all_links.specs.Sides.{SidesKeep, SidesOperate, SidesReset, SidesInterface, Sides};
+ghost use Rattle.all_links.specs.BesideAfter.{BesideStays, BesideOperation, BesideReset, BesideInterface, BesideAfter};
 ghost use Rattle.spec_links.specs.Hops.{has_hop as has_hop_in};
 
 use crate::packets::Passage;
@@ -45,8 +45,7 @@ pub struct WholeLinks {
 
 impl WholeLinks {
     ghost use Rattle.ide_types.specs.declared.plan.Plan.{Plan as PlanView};
-    ghost use Rattle.whole_links.specs.Besides.{completion_with_bytes, reply_numbered, link_reply};
-    ghost use Rattle.whole_links.specs.Besides.{reader_of};
+    ghost use Rattle.whole_links.specs.Besides.{completion_with_bytes, reply_numbered, link_reply, reader_of};
     ghost use Rattle.whole_links.specs.Besides.{has_shown, bytes_shown};
     ghost use Rattle.whole_links.specs.Whole.{IsFirstWhole, HasAllAccesses, IsBoundedWhole, WholeEnds, WholeEndsAs};
     ghost use Rattle.whole_links.specs.Whole.{WholeEndsOr, WholeEndsAsOr};
@@ -158,7 +157,7 @@ impl WholeLinks {
         requires here { link < length self.old.links.ends.links }
         requires due { link_reply self.old link ≡ completion_with_bytes (Ok bound) bytes.now }
         ensures ends { WholeEndsOr plan.now result self.old self.new (Event.Access (AccessEvent.Answer link)) }
-        ensures sides { IfOk result (λ v. SidesKeep self.old.links self.new.links) }
+        ensures sides { IfOk result (λ v. BesideStays self.old.links self.new.links) }
         ensures accesses { self.new.accesses ≡ self.old.accesses }
         ensures kind { IfOk result (λ v. is_sending v ≡ true) }
     {
@@ -187,7 +186,7 @@ impl WholeLinks {
         requires bounded { IsBoundedWhole self.old }
         requires here { link < length self.old.links.ends.links }
         ensures ends { WholeEndsOr plan.now result self.old self.new (Event.Access (AccessEvent.Answer link)) }
-        ensures sides { IfOk result (λ v. SidesKeep self.old.links self.new.links) }
+        ensures sides { IfOk result (λ v. BesideStays self.old.links self.new.links) }
         ensures accesses { self.new.accesses ≡ self.old.accesses }
         ensures kind { IfOk result (λ v. is_sending v ≡ true) }
         ensures waits { IfOk result (λ v. takes_read v ≡ true → 1 ≤ length (reads_at self.old.accesses link)) }
@@ -209,7 +208,7 @@ impl WholeLinks {
         requires steps { self.old.links.steps < 2 ^ 28 }
         requires bounded { IsBoundedWhole self.old }
         ensures ends { WholeEndsOr plan.now result self.old self.new (Event.Access (AccessEvent.Answer link)) }
-        ensures sides { IfOk result (λ v. SidesKeep self.old.links self.new.links) }
+        ensures sides { IfOk result (λ v. BesideStays self.old.links self.new.links) }
         ensures accesses { IfOk result (λ v. AccessesAfter plan.now (Event.Access (AccessEvent.Answer link)) v self.old
             self.new) }
     {
@@ -255,7 +254,7 @@ impl WholeLinks {
         requires bounded { IsBoundedWhole self.old }
         ensures ends { (plan : PlanView) → WholeEndsOr plan result self.old self.new
             (Event.Access (AccessEvent.Mmio interface bar offset length)) }
-        ensures sides { IfOk result (λ v. SidesKeep self.old.links self.new.links) }
+        ensures sides { IfOk result (λ v. BesideStays self.old.links self.new.links) }
         ensures accesses { IfOk result (λ v. self.new.accesses ≡ self.old.accesses) }
     {
         let mut bytes = vec![in alloc; 0; length as usize]?;
@@ -299,7 +298,7 @@ impl WholeLinks {
         requires bounded { IsBoundedWhole self.old }
         ensures ends { (plan : PlanView) → WholeEndsAs plan result self.old self.new
             (Event.Interface (InterfaceEvent.Start interface loss)) }
-        ensures sides { IfSome result (λ v. SidesInterface (InterfaceEvent.Start interface loss) self.old.links
+        ensures sides { IfSome result (λ v. BesideInterface (InterfaceEvent.Start interface loss) self.old.links
             self.new.links) }
         ensures accesses { IfSome result (λ v. AccessesInterface (InterfaceEvent.Start interface loss)
             v self.old self.new) }
@@ -341,7 +340,7 @@ impl WholeLinks {
         requires bounded { IsBoundedWhole self.old }
         ensures ends { (plan : PlanView) → WholeEndsAs plan result self.old self.new
             (Event.Interface (InterfaceEvent.Halt interface loss)) }
-        ensures sides { IfSome result (λ v. SidesInterface (InterfaceEvent.Halt interface loss) self.old.links
+        ensures sides { IfSome result (λ v. BesideInterface (InterfaceEvent.Halt interface loss) self.old.links
             self.new.links) }
         ensures accesses { IfSome result (λ v. AccessesInterface (InterfaceEvent.Halt interface loss)
             v self.old self.new) }
@@ -376,7 +375,7 @@ impl WholeLinks {
         requires bounded { IsBoundedWhole self.old }
         ensures ends { (plan : PlanView) → WholeEnds plan result self.old self.new
             (Event.Interface (InterfaceEvent.Flr interface)) }
-        ensures sides { SidesInterface (InterfaceEvent.Flr interface) self.old.links self.new.links }
+        ensures sides { BesideInterface (InterfaceEvent.Flr interface) self.old.links self.new.links }
         ensures accesses { AccessesInterface (InterfaceEvent.Flr interface) result self.old self.new }
     {
         let at = self.links.interface(interface);
@@ -391,7 +390,7 @@ impl WholeLinks {
         requires bounded { IsBoundedWhole self.old }
         requires allowed { IsAllowedInterface event.now }
         ensures ends { (plan : PlanView) → WholeEndsAsOr plan result self.old self.new (Event.Interface event.now) }
-        ensures sides { IfOk result (λ o. IfSome o (λ v. SidesInterface event.now self.old.links self.new.links)) }
+        ensures sides { IfOk result (λ o. IfSome o (λ v. BesideInterface event.now self.old.links self.new.links)) }
         ensures accesses { IfOk result (λ o. IfSome o (λ v. AccessesInterface event.now v self.old self.new)) }
     {
         match event {
@@ -409,7 +408,7 @@ impl WholeLinks {
         requires steps { self.old.links.steps < 2 ^ 28 }
         requires bounded { IsBoundedWhole self.old }
         ensures ends { (plan : PlanView) → WholeEnds plan result self.old self.new (Event.Reset link ends.now) }
-        ensures sides { SidesReset link self.old.links self.new.links }
+        ensures sides { BesideReset link self.old.links self.new.links }
         ensures accesses { (plan : PlanView) → AccessesAfter plan (Event.Reset link ends.now) result self.old self.new }
     {
         let verdict = self.links.reset(link, ends);
@@ -435,7 +434,7 @@ impl WholeLinks {
         requires here { link < length self.old.links.ends.links }
         requires hop { has_hop_in plan.now link ≡ true }
         ensures ends { WholeEndsOr plan.now result self.old self.new (Event.Forward link direction) }
-        ensures sides { IfOk result (λ v. SidesKeep self.old.links self.new.links) }
+        ensures sides { IfOk result (λ v. BesideStays self.old.links self.new.links) }
         ensures accesses { self.new.accesses ≡ self.old.accesses }
         ensures kind { IfOk result (λ v. is_sending v ≡ true) }
         ensures waits { IfOk result (λ v. is_sealed v ≡ true
@@ -461,7 +460,7 @@ impl WholeLinks {
         requires steps { self.old.links.steps < 2 ^ 28 }
         requires bounded { IsBoundedWhole self.old }
         ensures ends { WholeEndsOr plan.now result self.old self.new (Event.Forward link direction) }
-        ensures sides { IfOk result (λ v. SidesKeep self.old.links self.new.links) }
+        ensures sides { IfOk result (λ v. BesideStays self.old.links self.new.links) }
         ensures accesses { IfOk result (λ v. AccessesForward (Event.Forward link direction) v self.old self.new) }
     {
         if !has_hop(plan, link) {
@@ -491,7 +490,7 @@ impl WholeLinks {
         requires bounded { IsBoundedWhole self.old }
         requires allowed { IsAllowedAccess event.now }
         ensures ends { WholeEndsOr plan.now result self.old self.new (Event.Access event.now) }
-        ensures sides { IfOk result (λ v. SidesKeep self.old.links self.new.links) }
+        ensures sides { IfOk result (λ v. BesideStays self.old.links self.new.links) }
         ensures accesses { IfOk result (λ v. AccessesAfter plan.now (Event.Access event.now) v self.old self.new) }
     {
         match event {
@@ -516,7 +515,7 @@ impl WholeLinks {
         requires bounded { IsBoundedWhole self.old }
         ensures ends { (plan : PlanView) → WholeEndsAs plan result self.old self.new
             (operation_event operation line stream loss) }
-        ensures sides { IfSome result (λ v. SidesOperate operation line stream v self.old.links self.new.links) }
+        ensures sides { IfSome result (λ v. BesideOperation operation line stream v self.old.links self.new.links) }
         ensures accesses { self.new.accesses ≡ self.old.accesses }
     {
         self.links.operate(operation, line, stream, loss)
@@ -537,7 +536,8 @@ impl WholeLinks {
         requires bounded { IsBoundedWhole self.old }
         requires allowed { IsAllowed event.now }
         ensures ends { WholeEndsAsOr plan.now result self.old self.new event.now }
-        ensures sides { IfOk result (λ o. IfSome o (λ v. Sides plan.now event.now v self.old.links self.new.links)) }
+        ensures sides { IfOk result (λ o. IfSome o (λ v.
+            BesideAfter plan.now event.now v self.old.links self.new.links)) }
         ensures accesses { IfOk result (λ o. IfSome o (λ v. AccessesAfter plan.now event.now v self.old self.new)) }
     {
         match event {

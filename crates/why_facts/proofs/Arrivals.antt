@@ -26,11 +26,12 @@ use Rattle.machine_operations.specs.{LinkState, PortsStand, altered_to, cut_shor
 use Rattle.machine_operations.proofs.{of_numbered}
 use Rattle.machine_operations.proofs.Terms.{at_each}
 use Rattle.machine_whole.specs.Machine.{Whole, arrival_of}
-use Rattle.machine_whole.specs.Stands.{StandsFor}
+use Rattle.machine_whole.specs.Stands.{WholeStandsFor}
 use Rattle.why_facts.specs.declared.fact.Fact.{Fact}
 use Rattle.why_facts.specs.Forms.{arrives_fact, packets_fact, state_fact, unit_facts}
 use Rattle.why_facts.specs.Due.{arrival_facts_due, asks_due, asks_under, held_due, packet_due, received_due, sealed_due}
-use Rattle.why_facts.specs.Kept.{arrival_facts_in, asks_in, asks_live, packet_facts, received_by, packet_count_facts}
+use Rattle.why_facts.specs.Kept.{arrival_facts_in, asks_by_state, asks_live, packet_facts, received_by}
+use Rattle.why_facts.specs.Kept.{packet_count_facts}
 use Rattle.why_facts.proofs.Sites.{readings_are}
 use Rattle.why_facts.proofs.Streams.{of_stream, receiver_is}
 
@@ -51,14 +52,15 @@ arrival_is plan st h stands (event.Cut n len) =
 arrival_is plan st h stands (event.Arrive port bytes) = refl
 arrival_is plan st h stands e = refl
 
-pub sealed_is : (plan : Plan) (w : Whole) (h : History) → StandsFor plan w h → packet_count_facts w ≡ sealed_due plan h
+pub sealed_is : (plan : Plan) (w : Whole) (h : History) → WholeStandsFor plan w h → packet_count_facts w
+    ≡ sealed_due plan h
 sealed_is plan w h stands = ap packets_fact
     (ap length stands.links.ports_stand.packets
     ∙ length-map (sealed_packets plan h) (λ (x : SealedPacket × Packet). kept_packet x.0.port x.1))
 
 -- ---- what a packet asks of memory
 
-asks_keyed : (plan : Plan) (w : Whole) (h : History) → StandsFor plan w h → (port : PortName) (s : SubStream)
+asks_keyed : (plan : Plan) (w : Whole) (h : History) → WholeStandsFor plan w h → (port : PortName) (s : SubStream)
     (p : Packet) (a : Keyed)
     → asks_live plan w port p (live_in (rx_slot plan h port s a)) ≡ asks_under plan h port s p (on_in a)
 asks_keyed plan w h stands port s p Off = refl
@@ -67,7 +69,7 @@ asks_keyed plan w h stands port s p (On j) =
     ap (λ r. unit_facts plan r (port_of plan port) p.prefix.sub (held_due plan h port s j) p)
     (readings_are plan w h stands)
 
-asks_is : (plan : Plan) (w : Whole) (h : History) → StandsFor plan w h → (port : PortName) (s : SubStream)
+asks_is : (plan : Plan) (w : Whole) (h : History) → WholeStandsFor plan w h → (port : PortName) (s : SubStream)
     (p : Packet) (k : Bool)
     → asks_live plan w port p (live_in (slot_in_set (rx_slots plan h port s (port_keys h port s)) k))
     ≡ asks_under plan h port s p (on_draw h port s k)
@@ -78,8 +80,8 @@ unless_failed : {A : Type 0} (b : Bool) (x y z : A) → y ≡ z → (if b then x
 unless_failed true x y z same = refl
 unless_failed false x y z same = same
 
-asks_there : (plan : Plan) (w : Whole) (h : History) → StandsFor plan w h → (port : PortName) (p : Packet)
-    → asks_in plan w port (stream_state_due plan h port p.prefix.stream) p
+asks_there : (plan : Plan) (w : Whole) (h : History) → WholeStandsFor plan w h → (port : PortName) (p : Packet)
+    → asks_by_state plan w port (stream_state_due plan h port p.prefix.stream) p
     ≡ asks_due plan h port (lane_in port p.prefix.stream p.prefix.sub) p
 unfolding stream_state_due
 asks_there plan w h stands port p = unless_failed (has_failed h port p.prefix.stream) _ _ _
@@ -95,7 +97,7 @@ asks_there plan w h stands port p = unless_failed (has_failed h port p.prefix.st
 
 -- ---- arrivals
 
-packet_is : (plan : Plan) (w : Whole) (h : History) → StandsFor plan w h → (port : PortName)
+packet_is : (plan : Plan) (w : Whole) (h : History) → WholeStandsFor plan w h → (port : PortName)
     (r : Result CutValue PacketFault) → packet_facts plan w port r ≡ packet_due plan h port r
 packet_is plan w h stands port (Err f) = refl
 packet_is plan w h stands port (Ok PlainTlp) = refl
@@ -111,14 +113,14 @@ packet_is plan w h stands port (Ok (IdePacket p)) =
     there same = λ i. state_fact (same i)
         ∷ (receiver_is plan h port p.prefix.stream p.prefix.sub i ++ asks_there plan w h stands port p i)
 
-arrival_facts_are : (plan : Plan) (w : Whole) (h : History) → StandsFor plan w h → (unnamed : List Fact)
+arrival_facts_are : (plan : Plan) (w : Whole) (h : History) → WholeStandsFor plan w h → (unnamed : List Fact)
     (o : Option Arrival) → arrival_facts_in plan w unnamed o ≡ arrival_facts_due plan h unnamed o
 arrival_facts_are plan w h stands unnamed None = refl
 arrival_facts_are plan w h stands unnamed (Some a) =
     unless_failed (goes_through plan a.port a.bytes) _ _ _ (packet_is plan w h stands a.port (cut_of a.bytes))
 
 -- of an event that brings bytes, with what is said if it brings none
-pub arriving_is : (plan : Plan) (w : Whole) (h : History) → StandsFor plan w h → (e : Event)
+pub arriving_is : (plan : Plan) (w : Whole) (h : History) → WholeStandsFor plan w h → (e : Event)
     (mine due : List Fact) → mine ≡ due
     → arrival_facts_in plan w mine (arrival_of plan w.links e)
     ≡ arrival_facts_due plan h due (arrival_of_event plan h e)

@@ -13,7 +13,7 @@ use Rattle.machine_whole.specs.Interfaces.{Face, Streams, asked_state_of_face, f
 use Rattle.machine_whole.specs.InterfacesStand.{face_at, streams_at}
 use Rattle.spec_links.specs.Plan.{stream_plan}
 use Rattle.machine_whole.specs.Machine.{Whole, whole_streams}
-use Rattle.machine_whole.specs.Stands.{StandsFor}
+use Rattle.machine_whole.specs.Stands.{WholeStandsFor}
 use Rattle.machine_whole.proofs.Streams.{peer_planned, seen_at, streams_are}
 use Rattle.why_facts.specs.declared.fact.Fact.{Fact}
 use Rattle.why_facts.specs.Forms.{asked_besides, asked_facts, bind_facts, face_facts, reported_facts}
@@ -63,7 +63,7 @@ site_is plan h used e None same = refl
 site_is plan h used e (Some x) same =
     ap (λ (n : ℕ → ℕ). facts_said plan (streams_at h) n e (Some (with_face plan h x))) same
 
-pub asked_is : (plan : Plan) (w : Whole) (h : History) → StandsFor plan w h → (e : InterfaceEvent) (o : Option ℕ)
+pub asked_is : (plan : Plan) (w : Whole) (h : History) → WholeStandsFor plan w h → (e : InterfaceEvent) (o : Option ℕ)
     → asked_facts_in plan w e o ≡ asked_facts_due plan h e o
 asked_is plan w h stands e None = refl
 asked_is plan w h stands e (Some i) =

@@ -10,7 +10,7 @@ use Rattle.spec_interfaces.specs.Sites.{Site, sites, site_at}
 use Rattle.machine_whole.specs.Interfaces.{Face, find_face}
 use Rattle.machine_whole.specs.InterfacesStand.{face_at}
 use Rattle.machine_whole.specs.Machine.{Whole}
-use Rattle.machine_whole.specs.Stands.{StandsFor}
+use Rattle.machine_whole.specs.Stands.{WholeStandsFor}
 use Rattle.machine_whole.proofs.Streams.{status_all}
 use Rattle.why_facts.specs.Forms.{clears_fact}
 use Rattle.why_facts.specs.Due.{cleared_due, reset_facts_due, bar_facts_due}
@@ -20,14 +20,14 @@ use Rattle.why_facts.proofs.Sites.{found_is, with_face}
 
 -- ---- resets
 
-cleared_is : (plan : Plan) (w : Whole) (h : History) → StandsFor plan w h → (end : PortName) (ss : List StreamPlan)
+cleared_is : (plan : Plan) (w : Whole) (h : History) → WholeStandsFor plan w h → (end : PortName) (ss : List StreamPlan)
     → cleared_in plan w end ss ≡ cleared_due plan h end ss
 cleared_is plan w h stands end [] = refl
 cleared_is plan w h stands end (s ∷ ss) = λ i.
     clears_fact plan end s.id (status_all plan w.links h stands.links.ports_stand end.side end.line s.id i)
     ∷ (status_is plan w h stands end.line s.id i ++ cleared_is plan w h stands end ss i)
 
-pub reset_is : (plan : Plan) (w : Whole) (h : History) → StandsFor plan w h → (es : List PortName)
+pub reset_is : (plan : Plan) (w : Whole) (h : History) → WholeStandsFor plan w h → (es : List PortName)
     → reset_facts_in plan w es ≡ reset_facts_due plan h es
 reset_is plan w h stands [] = refl
 reset_is plan w h stands (e ∷ es) = λ i.
@@ -40,7 +40,7 @@ shown_by : (plan : Plan) (h : History) (bar : ℕ) (o : Option Site)
 shown_by plan h bar None = refl
 shown_by plan h bar (Some x) = refl
 
-pub shown_is : (plan : Plan) (w : Whole) (h : History) → StandsFor plan w h → (interface bar : ℕ)
+pub shown_is : (plan : Plan) (w : Whole) (h : History) → WholeStandsFor plan w h → (interface bar : ℕ)
     → shown_in bar (find_face (λ x. x.number == interface) (sites plan) w.faces.list)
     ≡ bar_facts_due plan h bar (site_at plan interface)
 shown_is plan w h stands interface bar =

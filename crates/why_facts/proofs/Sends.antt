@@ -14,7 +14,7 @@ use Rattle.tlp_layout.specs.Tlp.{header}
 use Rattle.tlp_layout.specs.Outgoing.{Outgoing, NoTlp, OnNone, OnStream}
 use Rattle.spec_keys.specs.History.{History, history_status}
 use Rattle.spec_stream.specs.Slots.{stream_status}
-use Rattle.spec_interfaces.specs.Sites.{Site, site_with}
+use Rattle.spec_interfaces.specs.Sites.{Site, site_of_requester}
 use Rattle.spec_interfaces.specs.Views.{managed_view}
 use Rattle.spec_interfaces.specs.Devices.{interface_at}
 use Rattle.spec_interfaces.specs.Cause.{owners_link}
@@ -24,14 +24,14 @@ use Rattle.spec_links.specs.Plan.{has_link, lane_out}
 use Rattle.spec_links.specs.Ports.{outgoing_at}
 use Rattle.machine_operations.specs.{find, stream_state_due}
 use Rattle.machine_whole.specs.Machine.{Whole}
-use Rattle.machine_whole.specs.Stands.{StandsFor}
+use Rattle.machine_whole.specs.Stands.{WholeStandsFor}
 use Rattle.why_facts.specs.declared.fact.Fact.{Fact}
 use Rattle.why_facts.specs.Forms.{each_looked_at, face_facts, read_fact, sends_fact, state_fact, waiting_fact}
 use Rattle.why_facts.specs.Due.{answer_facts_due, completion_due, first_due, forward_facts_due, oldest_due}
 use Rattle.why_facts.specs.Due.{owner_due, reader_due, send_facts_due, sender_due, senders_due, sets_own_t, site_due}
 use Rattle.why_facts.specs.Kept.{answer_facts_in, completion_facts, first_tlp_facts, forward_facts_in}
 use Rattle.why_facts.specs.Kept.{oldest_read_facts}
-use Rattle.why_facts.specs.Kept.{known_of, owner_in, reader_in, send_facts_in, senders_in, sent_stream_facts}
+use Rattle.why_facts.specs.Kept.{known_facts, owner_in, reader_in, send_facts_in, senders_in, sent_stream_facts}
 use Rattle.why_facts.proofs.Sites.{known_is, of_owner, requester_is, with_face}
 use Rattle.why_facts.proofs.Streams.{of_stream, sender_is}
 
@@ -41,10 +41,10 @@ if_same false x y z same = refl
 
 -- ---- sends
 
-owner_is : (plan : Plan) (w : Whole) (h : History) → StandsFor plan w h → (end : PortName) (head : HeadView)
+owner_is : (plan : Plan) (w : Whole) (h : History) → WholeStandsFor plan w h → (end : PortName) (head : HeadView)
     → owner_in plan w end head ≡ owner_due plan h end head
 owner_is plan w h stands end head = if_same (sets_own_t plan end) _ _ _
-    (of_owner plan h w.faces stands.faces (owners_link plan end) head known_of (site_due plan h) (known_is plan h))
+    (of_owner plan h w.faces stands.faces (owners_link plan end) head known_facts (site_due plan h) (known_is plan h))
 
 senders_are : (plan : Plan) (h : History) (port : PortName) (stream : ℕ) (class : SubKind)
     → stream_status (stream_state_due plan h port stream) ≡ history_status h port.side port.line stream
@@ -52,7 +52,7 @@ senders_are : (plan : Plan) (h : History) (port : PortName) (stream : ℕ) (clas
 senders_are plan h port stream class same = λ i. state_fact (same i)
     ∷ each_looked_at (λ u. sender_is plan h port stream u i) class
 
-pub send_is : (plan : Plan) (w : Whole) (h : History) → StandsFor plan w h → (end : PortName) (out : Outgoing)
+pub send_is : (plan : Plan) (w : Whole) (h : History) → WholeStandsFor plan w h → (end : PortName) (out : Outgoing)
     → send_facts_in plan w end out ≡ send_facts_due plan h end out
 send_is plan w h stands end (NoTlp f) = refl
 send_is plan w h stands end OnNone = refl
@@ -71,28 +71,28 @@ send_is plan w h stands end (OnStream t stream) =
 
 -- ---- answers to reads
 
-completion_is : (plan : Plan) (w : Whole) (h : History) → StandsFor plan w h → (port : PortName) (stream : ℕ)
+completion_is : (plan : Plan) (w : Whole) (h : History) → WholeStandsFor plan w h → (port : PortName) (stream : ℕ)
     → completion_facts plan port stream (find plan w.links port stream) ≡ completion_due plan h port stream
 completion_is plan w h stands port stream =
     of_stream plan w.links h stands.links.ports_stand port stream (completion_facts plan port stream) []
     (state_fact (history_status h port.side port.line stream) ∷ sender_due plan h port (lane_out port stream Cpl)) refl
     (λ same i. state_fact (same i) ∷ sender_is plan h port stream Cpl i)
 
-reader_is : (plan : Plan) (w : Whole) (h : History) → StandsFor plan w h → (o : Option Site)
+reader_is : (plan : Plan) (w : Whole) (h : History) → WholeStandsFor plan w h → (o : Option Site)
     → reader_in plan w (option_map (with_face plan h) o) ≡ reader_due plan h o
 reader_is plan w h stands None = refl
 reader_is plan w h stands (Some x) = ap
     (λ (xs : List Fact). face_facts x (interface_at plan h x) (managed_view h x) ++ xs)
     (completion_is plan w h stands (host_port x.link) x.plan.stream)
 
-oldest_is : (plan : Plan) (w : Whole) (h : History) → StandsFor plan w h → (link : ℕ) (rs : List WaitingRead)
+oldest_is : (plan : Plan) (w : Whole) (h : History) → WholeStandsFor plan w h → (link : ℕ) (rs : List WaitingRead)
     → oldest_read_facts plan w link rs ≡ oldest_due plan h link rs
 oldest_is plan w h stands link [] = refl
 oldest_is plan w h stands link (r ∷ rs) = ap (λ (xs : List Fact). read_fact r.draw ∷ xs)
     (ap (reader_in plan w) (requester_is plan h w.faces stands.faces link r.read.requester)
-    ∙ reader_is plan w h stands (site_with plan link r.read.requester))
+    ∙ reader_is plan w h stands (site_of_requester plan link r.read.requester))
 
-pub answer_is : (plan : Plan) (w : Whole) (h : History) → StandsFor plan w h → (link : ℕ)
+pub answer_is : (plan : Plan) (w : Whole) (h : History) → WholeStandsFor plan w h → (link : ℕ)
     → answer_facts_in plan w link ≡ answer_facts_due plan h link
 answer_is plan w h stands link = if_same (has_link plan link) _ _ _
     (ap (λ (rs : List WaitingRead). waiting_fact (length rs) ∷ oldest_read_facts plan w link rs)
@@ -102,12 +102,12 @@ answer_is plan w h stands link = if_same (has_link plan link) _ _ _
 
 -- ---- forwards
 
-first_is : (plan : Plan) (w : Whole) (h : History) → StandsFor plan w h → (end : PortName) (xs : List HopTlp)
+first_is : (plan : Plan) (w : Whole) (h : History) → WholeStandsFor plan w h → (end : PortName) (xs : List HopTlp)
     → first_tlp_facts plan w end xs ≡ first_due plan h end xs
 first_is plan w h stands end [] = refl
 first_is plan w h stands end (x ∷ xs) = send_is plan w h stands end (outgoing_at plan end x.bytes)
 
-pub forward_is : (plan : Plan) (w : Whole) (h : History) → StandsFor plan w h → (link : ℕ) (d : Direction)
+pub forward_is : (plan : Plan) (w : Whole) (h : History) → WholeStandsFor plan w h → (link : ℕ) (d : Direction)
     → forward_facts_in plan w link d ≡ forward_facts_due plan h link d
 forward_is plan w h stands link d = if_same (has_hop plan link) _ _ _
     (ap (λ (xs : List HopTlp). waiting_fact (length xs) ∷ first_tlp_facts plan w (leaving_end link d) xs)

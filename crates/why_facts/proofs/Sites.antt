@@ -6,15 +6,15 @@ use Rattle.std.specs.Option.{option_and_then, option_map}
 use Rattle.ide_types.specs.declared.plan.Plan.{Plan}
 use Rattle.tlp_layout.specs.declared.head.HeadView.{HeadView}
 use Rattle.spec_keys.specs.History.{History}
-use Rattle.spec_interfaces.specs.Sites.{Site, sites, site_with}
+use Rattle.spec_interfaces.specs.Sites.{Site, sites, site_of_requester}
 use Rattle.spec_interfaces.specs.Cause.{owner_id, owner_site}
 use Rattle.machine_whole.specs.Interfaces.{Face, Faces, find_face, with_requester}
 use Rattle.machine_whole.specs.InterfacesStand.{FacesStandFor, face_at}
 use Rattle.machine_whole.specs.Machine.{Whole}
-use Rattle.machine_whole.specs.Stands.{StandsFor}
-use Rattle.machine_whole.proofs.Accesses.{standings_are}
+use Rattle.machine_whole.specs.Stands.{WholeStandsFor}
+use Rattle.machine_whole.proofs.Accesses.{statuses_are}
 use Rattle.why_facts.specs.Due.{site_due, readings_at}
-use Rattle.why_facts.specs.Kept.{known_of, owner_found, readings_in}
+use Rattle.why_facts.specs.Kept.{known_facts, owner_found, readings_of_whole}
 
 abbrev pub with_face : Plan → History → Site → Site × Face
 with_face plan h x = (x, face_at plan h x)
@@ -32,7 +32,7 @@ found_is test f (x ∷ xs) = by (test x) (found_is test f xs)
     by false rest = rest
 
 pub requester_is : (plan : Plan) (h : History) (fs : Faces) → FacesStandFor plan fs h → (link requester : ℕ)
-    → with_requester plan fs link requester ≡ option_map (with_face plan h) (site_with plan link requester)
+    → with_requester plan fs link requester ≡ option_map (with_face plan h) (site_of_requester plan link requester)
 requester_is plan h fs stands link requester =
     ap (find_face (λ x. (x.link == link) && (x.plan.requester == requester)) (sites plan)) stands.faces
     ∙ found_is (λ x. (x.link == link) && (x.plan.requester == requester)) (face_at plan h) (sites plan)
@@ -45,25 +45,27 @@ pub of_owner : {A : Type 0} (plan : Plan) (h : History) (fs : Faces) → FacesSt
 of_owner plan h fs stands link head f g same = by (owner_id head)
   where
     by : (o : Option ℕ) → f (option_and_then (with_requester plan fs link) o)
-        ≡ g (option_and_then (site_with plan link) o)
+        ≡ g (option_and_then (site_of_requester plan link) o)
     by None = same None
-    by (Some requester) = ap f (requester_is plan h fs stands link requester) ∙ same (site_with plan link requester)
+    by (Some requester) = ap f (requester_is plan h fs stands link requester) ∙ same
+        (site_of_requester plan link requester)
 
-pub known_is : (plan : Plan) (h : History) (o : Option Site) → known_of (option_map (with_face plan h) o)
+pub known_is : (plan : Plan) (h : History) (o : Option Site) → known_facts (option_map (with_face plan h) o)
     ≡ site_due plan h o
 known_is plan h None = refl
 known_is plan h (Some x) = refl
 
-pub readings_are : (plan : Plan) (w : Whole) (h : History) → StandsFor plan w h
-    → readings_in plan w ≡ readings_at plan h
+pub readings_are : (plan : Plan) (w : Whole) (h : History) → WholeStandsFor plan w h
+    → readings_of_whole plan w ≡ readings_at plan h
 readings_are plan w h stands = λ i. record {
   known = λ link requester. known_there link requester i;
   waiting = λ link. length (stands.accesses.waiting link i);
-  standings = λ link. standings_are plan h w.faces.list w.accesses.floors stands.faces.faces stands.accesses.floors
+  statuses = λ link. statuses_are plan h w.faces.list w.accesses.floors stands.faces.faces stands.accesses.floors
       link i;
 }
   where
     known_there : (link requester : ℕ)
-        → known_of (with_requester plan w.faces link requester) ≡ site_due plan h (site_with plan link requester)
-    known_there link requester = ap known_of (requester_is plan h w.faces stands.faces link requester)
-        ∙ known_is plan h (site_with plan link requester)
+        → known_facts (with_requester plan w.faces link requester)
+        ≡ site_due plan h (site_of_requester plan link requester)
+    known_there link requester = ap known_facts (requester_is plan h w.faces stands.faces link requester)
+        ∙ known_is plan h (site_of_requester plan link requester)

@@ -26,7 +26,7 @@ use Rattle.link_events.specs.declared.event.AccessEvent.TheVariants as ae
 use Rattle.spec_keys.specs.Keys.{Keyed, Off, Loaded, On}
 use Rattle.spec_keys.specs.History.{History, base, op_of, draws, history_status}
 use Rattle.spec_keys.specs.Due.{ports_at}
-use Rattle.spec_interfaces.specs.Sites.{Site, site_at, site_with}
+use Rattle.spec_interfaces.specs.Sites.{Site, site_at, site_of_requester}
 use Rattle.spec_interfaces.specs.Views.{managed_view, number_in}
 use Rattle.spec_interfaces.specs.Devices.{interface_at}
 use Rattle.spec_interfaces.specs.Due.{asked_state}
@@ -57,9 +57,9 @@ site_due plan h (Some x) = face_facts x (interface_at plan h x) (managed_view h 
 
 abbrev pub readings_at : Plan → History → Readings
 readings_at plan h = record {
-  known = λ link requester. site_due plan h (site_with plan link requester);
+  known = λ link requester. site_due plan h (site_of_requester plan link requester);
   waiting = λ link. length (waiting_reads plan h link);
-  standings = history_statuses plan h;
+  statuses = history_statuses plan h;
 }
 
 -- ---- arrivals
@@ -203,7 +203,7 @@ reader_due plan h (Some x) =
 -- the oldest read
 abbrev pub oldest_due : Plan → History → ℕ → List WaitingRead → List Fact
 oldest_due plan h link [] = []
-oldest_due plan h link (r ∷ rs) = read_fact r.draw ∷ reader_due plan h (site_with plan link r.read.requester)
+oldest_due plan h link (r ∷ rs) = read_fact r.draw ∷ reader_due plan h (site_of_requester plan link r.read.requester)
 
 abbrev pub answer_facts_due : Plan → History → ℕ → List Fact
 answer_facts_due plan h link =

@@ -38,13 +38,13 @@ use Rattle.trusted_memory.specs.declared.span.Span.{Span}
 use Rattle.trusted_memory.specs.Requests.{memory_read}
 use Rattle.guarded_memory.specs.{claim_of, is_open_range}
 use Rattle.guarded_memory.specs.declared.claims.Claim.{Claim}
-use Rattle.guarded_memory.specs.declared.standing.InterfaceStatus.{InterfaceStatus}
+use Rattle.guarded_memory.specs.declared.status.InterfaceStatus.{InterfaceStatus}
 use Rattle.spec_interfaces.specs.Cause.{owner_id}
 use Rattle.spec_interfaces.specs.Peers.{has_peer}
 use Rattle.spec_interfaces.specs.Sites.{Site}
 use Rattle.spec_interfaces.specs.Terms.{View, Locked}
 use Rattle.spec_interfaces.specs.Views.{Managed, bound_if}
-use Rattle.spec_interfaces.specs.Due.{AskedState as Asked}
+use Rattle.spec_interfaces.specs.Due.{AskedState}
 use Rattle.spec_links.specs.Ports.{port_of, at_switch}
 use Rattle.why_facts.specs.declared.fact.Fact.{Fact}
 use Rattle.why_facts.specs.declared.fact.SetState.{SetState}
@@ -227,12 +227,12 @@ live_facts (Some draw) = fact.Interface (face.Live draw) ∷ []
 abbrev pub peer_facts : StreamStage → ℕ → Option ℕ → List Fact
 peer_facts q draw live = manager_fact q ∷ draw_fact draw ∷ live_facts live
 
-abbrev pub bind_facts : Asked → ℕ → ℕ → List Fact
+abbrev pub bind_facts : AskedState → ℕ → ℕ → List Fact
 bind_facts s line stream =
     peer_facts (s.peer_op line stream) (s.peer_draw line stream) (s.around.live stream) ++ takes_facts s.tdi.bindings
 
 -- what an event on it looks at besides
-abbrev pub asked_besides : Plan → Site → Asked → InterfaceEvent → List Fact
+abbrev pub asked_besides : Plan → Site → AskedState → InterfaceEvent → List Fact
 asked_besides plan x s (ie.Lock i loss) = state_fact s.host ∷ []
 asked_besides plan x s (ie.Start i loss) = state_fact s.host ∷ draw_fact s.draw ∷ []
 asked_besides plan x s (ie.Halt i loss) =
@@ -243,7 +243,7 @@ asked_besides plan x s (ie.Unbind i line stream loss) =
     if has_peer plan.peers x.link line stream then takes_facts s.tdi.bindings else []
 asked_besides plan x s e = []
 
-abbrev pub asked_facts : Plan → Site → Asked → InterfaceEvent → List Fact
+abbrev pub asked_facts : Plan → Site → AskedState → InterfaceEvent → List Fact
 asked_facts plan x s e =
     face_facts x s.tdi s.managed ++ reported_facts s.managed.view s.managed.reported ++ asked_besides plan x s e
 
@@ -285,7 +285,7 @@ memory_facts plan e = []
 pub record Readings : Type 0 where
   pub known : ℕ → ℕ → List Fact
   pub waiting : ℕ → ℕ
-  pub standings : ℕ → List InterfaceStatus
+  pub statuses : ℕ → List InterfaceStatus
 
 abbrev pub known_to : Readings → ℕ → Option ℕ → List Fact
 known_to r link None = []
@@ -324,14 +324,14 @@ requester_at plan link place = option_map (λ (x : InterfacePlan). x.requester)
 abbrev pub claim_facts : Plan → Readings → ℕ → Option Claim → List Fact
 claim_facts plan r link None = []
 claim_facts plan r link (Some c) =
-    known_to r link (requester_at plan link c.interface) ++ bar_fact c.bar c.range ∷ takes_facts c.standing.bound
+    known_to r link (requester_at plan link c.interface) ++ bar_fact c.bar c.range ∷ takes_facts c.status.bound
 
 -- of a write over these bytes
 abbrev pub write_facts : Plan → Readings → ℕ → ℕ → Bool → Option Span → List Fact
 write_facts plan r link place t None = []
 write_facts plan r link place t (Some s) =
     packet_fact place t ∷ bytes_fact s.address (span_byte_count s)
-    ∷ claim_facts plan r link (claim_of (r.standings link) s)
+    ∷ claim_facts plan r link (claim_of (r.statuses link) s)
 
 abbrev pub device_facts : Plan → Readings → ℕ → ℕ → Bool → Result HeadView TlpFault → List Fact
 device_facts plan r link place t (Err f) = []

@@ -49,18 +49,18 @@ use Rattle.why_facts.specs.Due.{sets_own_t}
 
 -- ---- what is known of interfaces
 
-abbrev pub known_of : Option (Site × Face) → List Fact
-known_of None = []
-known_of (Some y) = face_facts y.0 y.1.tdi y.1.managed
+abbrev pub known_facts : Option (Site × Face) → List Fact
+known_facts None = []
+known_facts (Some y) = face_facts y.0 y.1.tdi y.1.managed
 
 abbrev pub owner_found : Plan → Faces → ℕ → HeadView → Option (Site × Face)
 owner_found plan fs link head = option_and_then (with_requester plan fs link) (owner_id head)
 
-abbrev pub readings_in : Plan → Whole → Readings
-readings_in plan w = record {
-  known = λ link requester. known_of (with_requester plan w.faces link requester);
+abbrev pub readings_of_whole : Plan → Whole → Readings
+readings_of_whole plan w = record {
+  known = λ link requester. known_facts (with_requester plan w.faces link requester);
   waiting = λ link. length (w.accesses.waiting link);
-  standings = λ link. face_statuses link (sites plan) w.faces.list w.accesses.floors;
+  statuses = λ link. face_statuses link (sites plan) w.faces.list w.accesses.floors;
 }
 
 -- ---- a stream at a port
@@ -92,10 +92,10 @@ sender_facts_of closed x u =
 abbrev pub asks_live : Plan → Whole → PortName → Packet → Option LiveKey → List Fact
 asks_live plan w port p None = []
 asks_live plan w port p (Some x) =
-    unit_facts plan (readings_in plan w) (port_of plan port) p.prefix.sub x.packets p
+    unit_facts plan (readings_of_whole plan w) (port_of plan port) p.prefix.sub x.packets p
 
-abbrev pub asks_in : Plan → Whole → PortName → StreamState → Packet → List Fact
-asks_in plan w port x p =
+abbrev pub asks_by_state : Plan → Whole → PortName → StreamState → Packet → List Fact
+asks_by_state plan w port x p =
     if x.failed then []
     else asks_live plan w port p (live_in (slot_in_set (at_sub x.rx p.prefix.sub).slots p.prefix.k))
 
@@ -103,7 +103,7 @@ abbrev pub received_by : Plan → Whole → PortName → Packet → Option Strea
 received_by plan w port p None = []
 received_by plan w port p (Some x) =
     state_fact (stream_status x)
-    ∷ (receiver_fact_list (is_closed plan port.line p.prefix.stream) x p.prefix.sub ++ asks_in plan w port x p)
+    ∷ (receiver_fact_list (is_closed plan port.line p.prefix.stream) x p.prefix.sub ++ asks_by_state plan w port x p)
 
 abbrev pub packet_facts : Plan → Whole → PortName → Result CutValue PacketFault → List Fact
 packet_facts plan w port (Err f) = at_port plan port ∷ []
@@ -123,7 +123,7 @@ packet_count_facts w = packets_fact (length w.links.packets)
 
 abbrev pub owner_in : Plan → Whole → PortName → HeadView → List Fact
 owner_in plan w end head =
-    if sets_own_t plan end then known_of (owner_found plan w.faces (owners_link plan end) head) else []
+    if sets_own_t plan end then known_facts (owner_found plan w.faces (owners_link plan end) head) else []
 
 abbrev pub senders_in : Plan → PortName → ℕ → SubKind → StreamState → List Fact
 senders_in plan port stream class x =

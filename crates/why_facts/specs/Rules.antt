@@ -146,21 +146,21 @@ class_of_fact (fact.Stream (sf.Sends port stream sub)) = Some sub
 class_of_fact x = None
 
 -- of the first of these facts
-abbrev pub class_in : List Fact → Option SubKind
-class_in [] = None
-class_in (x ∷ xs) = class_of_fact x
+abbrev pub class_of_first : List Fact → Option SubKind
+class_of_first [] = None
+class_of_first (x ∷ xs) = class_of_fact x
 
 -- of the first fact behind that of how many TLPs wait
 abbrev pub class_behind : List Fact → Option SubKind
 class_behind [] = None
-class_behind (x ∷ xs) = class_in xs
+class_behind (x ∷ xs) = class_of_first xs
 
 -- of a send by the first of its facts, which says the TLP's sub-stream; of a forward by the second
 abbrev pub rule_of : Event → Verdict → List Fact → Text
 rule_of (event.Establish line stream loss) w xs = operation_rule line (codes "operations.establish") w
 rule_of (event.Refresh line stream loss) w xs = operation_rule line (codes "operations.refresh") w
 rule_of (event.Stop line stream loss) w xs = operation_rule line (codes "operations.begin") w
-rule_of (event.Send port bytes more trusted) w xs = sending_rule (class_in xs) w rule_of_none
+rule_of (event.Send port bytes more trusted) w xs = sending_rule (class_of_first xs) w rule_of_none
 rule_of (event.Forward link d) w xs = sending_rule (class_behind xs) w (codes "hops.forward")
 rule_of (event.Pass n) w xs = arriving_rule w
 rule_of (event.Alter n at mask) w xs = arriving_rule w

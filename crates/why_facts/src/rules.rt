@@ -1,12 +1,11 @@
 //! The rule that answers an event, by the names of docs/RULES.md.
 
 ghost use Rattle.std.specs.Prelude.{◌≡◌, ◌<◌, ◌^◌};
-ghost use Rattle.why_facts.specs.Rules.{access_rule, answer_rule, arriving_rule, asked_rule, cause_rule, class_in};
-ghost use Rattle.why_facts.specs.Rules.{class_behind, class_of_fact};
-ghost use Rattle.why_facts.specs.Rules.{dropped_rule, effect_rule_of, fail_rule, host_cause_rule, interface_rule};
-ghost use Rattle.why_facts.specs.Rules.{is_host_end, key_rule, line_rule, mmio_cause_rule, operation_rule};
-ghost use Rattle.why_facts.specs.Rules.{read_cause_rule, rule_of, rule_of_none, sending_rule, unless_none};
-ghost use Rattle.why_facts.specs.Rules.{unnamed_rule, write_cause_rule};
+ghost use Rattle.why_facts.specs.Rules.{access_rule, answer_rule, arriving_rule, asked_rule, cause_rule};
+ghost use Rattle.why_facts.specs.Rules.{class_of_first, class_behind, class_of_fact, dropped_rule, effect_rule_of};
+ghost use Rattle.why_facts.specs.Rules.{fail_rule, host_cause_rule, interface_rule, is_host_end, key_rule, line_rule};
+ghost use Rattle.why_facts.specs.Rules.{mmio_cause_rule, operation_rule, read_cause_rule, rule_of, rule_of_none};
+ghost use Rattle.why_facts.specs.Rules.{sending_rule, unless_none, unnamed_rule, write_cause_rule};
 
 use crate::fact::{Fact, StreamFact};
 use ide_types::{FailCause, InterfaceVerdict, PortName, Side, SubKind};
@@ -193,8 +192,8 @@ fn class_of(fact: &Fact) -> Option<SubKind>
 }
 
 // Of the first of these facts.
-fn class_in(facts: &[Fact]) -> Option<SubKind>
-    ensures { result ≡ class_in facts.now }
+fn class_of_first(facts: &[Fact]) -> Option<SubKind>
+    ensures { result ≡ class_of_first facts.now }
 {
     match facts {
         [] => None,
@@ -208,7 +207,7 @@ fn class_behind(facts: &[Fact]) -> Option<SubKind>
 {
     match facts {
         [] => None,
-        [_, rest @ ..] => class_in(rest),
+        [_, rest @ ..] => class_of_first(rest),
     }
 }
 
@@ -221,7 +220,7 @@ pub fn rule(event: &Event, verdict: &Verdict, facts: &[Fact]) -> &'static str
         Event::Establish { line, .. } => operation_rule(*line, "operations.establish", verdict),
         Event::Refresh { line, .. } => operation_rule(*line, "operations.refresh", verdict),
         Event::Stop { line, .. } => operation_rule(*line, "operations.begin", verdict),
-        Event::Send { .. } => sending_rule(class_in(facts), verdict, "lines.none"),
+        Event::Send { .. } => sending_rule(class_of_first(facts), verdict, "lines.none"),
         Event::Forward { .. } => sending_rule(class_behind(facts), verdict, "hops.forward"),
         Event::Pass { .. } | Event::Alter { .. } | Event::Cut { .. } | Event::Arrive { .. } => {
             arriving_rule(verdict)

@@ -14,7 +14,7 @@ use Rattle.machine_ports.specs.Machine.{LinkState}
 use Rattle.machine_ports.specs.Stands.{PortsStandFor}
 use Rattle.machine_whole.specs.Machine.{Whole, whole_streams, arrival_of, written_after, whole_after}
 use Rattle.join_accesses.specs.{AllFollow, arrival_in_state, grants_in, InterfacesView, LinkEnds, Links, links_state}
-use Rattle.join_accesses.specs.{SidesArrive, writes_by, IsBeside}
+use Rattle.join_accesses.specs.{BesideArrival, writes_by, IsBeside}
 use Rattle.join_accesses.proofs.{is_of_ports, is_of_packets, of_ports, next_of_ports, none_of_ports, managed_of_packets}
 use Rattle.join_accesses.proofs.{draw_of_packets, IsLed, OnlyLeaves, all_led, beside_led, AreBoth, managed_kept}
 use Rattle.join_accesses.proofs.{written_is}
@@ -41,7 +41,7 @@ each_led plan old new w both follows link l l' at at' =
 left_by : (plan : Plan) (old new : Links) (w : Whole) (h : History) (e : Event) (verdict : Verdict)
     → AreBoth plan old new w → PortsStandFor plan (links_state plan old) h
     → grants_in old.keeper.interfaces ≡ grant_of plan w.faces
-    → SidesArrive plan (arrival_in_state plan e) verdict old new
+    → BesideArrival plan (arrival_in_state plan e) verdict old new
     → IsLeftBy new.trusted.contents (written_after plan w e verdict)
 left_by plan old new w h e verdict both stands grants sides =
     let led = sides.contents h both.links stands both.whole.beside.regions w.written both.whole.beside.written in
@@ -58,7 +58,7 @@ pub arrives_beside : (plan : Plan) (old new : Links) (w : Whole) (h : History) (
     → is_of_packets e verdict ≡ true → AreBoth plan old new w → PortsStandFor plan (links_state plan old) h
     → grants_in old.keeper.interfaces ≡ grant_of plan w.faces
     → new.trusted.contents.regions ≡ old.trusted.contents.regions
-    → SidesArrive plan (arrival_in_state plan e) verdict old new
+    → BesideArrival plan (arrival_in_state plan e) verdict old new
     → IsBeside plan new.ends.links new.keeper.interfaces new.trusted.contents
     (whole_after plan w e verdict (links_state plan new))
 arrives_beside plan old new w h e verdict is both stands grants regions sides =

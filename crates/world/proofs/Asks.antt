@@ -17,7 +17,7 @@ use Rattle.spec_interfaces.specs.Peers.{has_peer}
 use Rattle.spec_interfaces.specs.Sites.{Site, sites}
 use Rattle.spec_interfaces.specs.Views.{number_in}
 use Rattle.spec_interfaces.specs.Devices.{accepts_lock, one_if}
-use Rattle.machine_whole.specs.Interfaces.{around_of, face_after}
+use Rattle.machine_whole.specs.Interfaces.{around_of, next_face}
 use Rattle.interface_host.specs.declared.operation.InterfaceOperation.{InterfaceOperation}
 use Rattle.interface_host.specs.declared.operation.InterfaceOperation.TheVariants as op
 use Rattle.interface_ends.specs.Replies.{DeviceTdis}
@@ -25,8 +25,8 @@ use Rattle.machine_ports.specs.Machine.{Stepped, step_of}
 use Rattle.join_interfaces.specs.Faces.{IsFace}
 use Rattle.join_interfaces.specs.Joined.{InterfaceOperationsJoin}
 use Rattle.join_interfaces.specs.Verdicts.{op_event}
-use Rattle.join_accesses.specs.{EndsView, has_peer_at, has_peer_in, InterfacesView, Links, links_state}
-use Rattle.join_accesses.specs.{managed_peer_stream, SidesAsk, SidesPeer, IsPlaced, IsBeside}
+use Rattle.join_accesses.specs.{EndsView, has_peer_if_there, has_peer_in, InterfacesView, Links, links_state}
+use Rattle.join_accesses.specs.{managed_peer_stream, BesideAsking, BesideBinding, IsPlaced, IsBeside}
 use Rattle.machine_whole.specs.Machine.{Whole, ends_in, whole_streams, beside_of, whole_after}
 use Rattle.join_accesses.proofs.{PeerFits, joined_is, peer_fits, get_there, interface_there, interface_absent, AreBoth}
 use Rattle.join_accesses.proofs.{interface_step, unasked_beside, is_of_peer}
@@ -54,7 +54,7 @@ module _ (plan : Plan) (old new : Links) (w : Whole) (verdict : Verdict) (both :
       → IsBeside plan new.ends.links new.keeper.interfaces new.trusted.contents
       (whole_after plan w (event.Interface e) verdict (links_state plan new))
 
-  asked_there : (i : ℕ) (x : Site) (o : InterfaceOperation) (loss : Option Loss) → SidesAsk i o loss old new
+  asked_there : (i : ℕ) (x : Site) (o : InterfaceOperation) (loss : Option Loss) → BesideAsking i o loss old new
       → slice_get (sites plan) i ≡ Some x → Fits x o → verdict ≡ (beside_of plan w).answer (op_event o i loss)
       → (p : IsPlaced plan old.ends.links old.keeper.interfaces w i x)
       → IsOne plan old.ends.links old.keeper.interfaces w i x p (op_event o i loss) verdict new.ends.links
@@ -84,12 +84,12 @@ module _ (plan : Plan) (old new : Links) (w : Whole) (verdict : Verdict) (both :
                   (event.Interface (op_event o i loss)) (same n) p.face.tdi);
             }));
         keeps = subst (λ (u : Verdict). IsFace (w.draw x.link x.plan.stream) x j.interface j.tdi
-            (face_after plan (whole_streams plan w) (ends_in plan w.links) w.faces.used
+            (next_face plan (whole_streams plan w) (ends_in plan w.links) w.faces.used
             (event.Interface (op_event o i loss)) u x p.face)) same j.face;
       }
 
   -- the operation on an interface that is there
-  there_asked : (i : ℕ) (x : Site) (o : InterfaceOperation) (loss : Option Loss) → SidesAsk i o loss old new
+  there_asked : (i : ℕ) (x : Site) (o : InterfaceOperation) (loss : Option Loss) → BesideAsking i o loss old new
       → slice_get (sites plan) i ≡ Some x → Fits x o → IsAsked (op_event o i loss)
   there_asked i x o loss sides at fits is =
       let before = both.whole.beside in
@@ -97,7 +97,7 @@ module _ (plan : Plan) (old new : Links) (w : Whole) (verdict : Verdict) (both :
       (asked_there i x o loss sides at fits
       (interface_step plan w (links_state plan new) (op_event o i loss) verdict is).0 (before.placed i x at)) is
 
-  pub asked_beside : (i : ℕ) (o : InterfaceOperation) (loss : Option Loss) → SidesAsk i o loss old new
+  pub asked_beside : (i : ℕ) (o : InterfaceOperation) (loss : Option Loss) → BesideAsking i o loss old new
       → ((x : Site) → slice_get (sites plan) i ≡ Some x → Fits x o) → IsAsked (op_event o i loss)
   asked_beside i o loss sides fits is =
       let before = both.whole.beside in
@@ -115,7 +115,7 @@ module _ (plan : Plan) (old new : Links) (w : Whole) (verdict : Verdict) (both :
       → has_peer_in old.keeper old.ends i line stream ≡ has_peer plan.peers x.link line stream
   has_there i line stream x at =
       let p = both.whole.beside.placed i x at in
-      ap (has_peer_at old.ends line stream)
+      ap (has_peer_if_there old.ends line stream)
       (interface_there plan old.ends.links old.keeper.interfaces old.trusted.contents w i x p both.whole.beside
       both.links.fits at)
       ∙ ap (λ (ps : List PeerPlan). has_peer ps x.link line stream) both.links.peers_are
@@ -123,7 +123,7 @@ module _ (plan : Plan) (old new : Links) (w : Whole) (verdict : Verdict) (both :
   has_nowhere : (i line stream : ℕ) → length (sites plan) ≤ i
       → has_peer_in old.keeper old.ends i line stream ≡ false
   has_nowhere i line stream past =
-      ap (has_peer_at old.ends line stream)
+      ap (has_peer_if_there old.ends line stream)
       (interface_absent plan old.ends.links old.keeper.interfaces old.trusted.contents w i both.whole.beside past)
 
   -- an operation on a stream of this line
@@ -136,7 +136,7 @@ module _ (plan : Plan) (old new : Links) (w : Whole) (verdict : Verdict) (both :
         → (beside_of plan w).answer (op_event o i loss) ≡ v.Nothing
 
   peer_beside : (i line stream : ℕ) (loss : Option Loss) (o : InterfaceOperation)
-      → IsPeerOp i line stream loss o → SidesPeer i line stream o loss old new → IsAsked (op_event o i loss)
+      → IsPeerOp i line stream loss o → BesideBinding i line stream o loss old new → IsAsked (op_event o i loss)
   peer_beside i line stream loss o c sides = ⊎_elim
       (λ lt.
       let x = get_there (sites plan) i lt in
@@ -162,7 +162,7 @@ module _ (plan : Plan) (old new : Links) (w : Whole) (verdict : Verdict) (both :
       both.whole.beside both.whole.drawn both.whole.links
 
   pub bind_beside : (i line stream : ℕ) (loss : Option Loss)
-      → SidesPeer i line stream (op.Bind (managed_peer_stream old.keeper line stream)) loss old new
+      → BesideBinding i line stream (op.Bind (managed_peer_stream old.keeper line stream)) loss old new
       → IsAsked (ie.Bind i line stream loss)
   bind_beside i line stream loss =
       peer_beside i line stream loss (op.Bind (managed_peer_stream old.keeper line stream))
@@ -178,7 +178,7 @@ module _ (plan : Plan) (old new : Links) (w : Whole) (verdict : Verdict) (both :
       })
 
   pub unbind_beside : (i line stream : ℕ) (loss : Option Loss)
-      → SidesPeer i line stream (op.Unbind (managed_peer_stream old.keeper line stream)) loss old new
+      → BesideBinding i line stream (op.Unbind (managed_peer_stream old.keeper line stream)) loss old new
       → IsAsked (ie.Unbind i line stream loss)
   unbind_beside i line stream loss =
       peer_beside i line stream loss (op.Unbind (managed_peer_stream old.keeper line stream))

@@ -30,14 +30,14 @@ use Rattle.spec_interfaces.specs.Sites.{Site, sites}
 use Rattle.spec_interfaces.specs.Views.{Managed, is_number, number_in, on_operation}
 use Rattle.spec_interfaces.specs.Devices.{Around, interface_if_called, interface_asked, accepts_lock, one_if}
 use Rattle.spec_interfaces.specs.Due.{AskedState, asked_due}
-use Rattle.machine_whole.specs.Interfaces.{EndsRead, Face, Streams, around_of, face_after, gives_nonce, left_by}
+use Rattle.machine_whole.specs.Interfaces.{EndsRead, Face, Streams, around_of, next_face, gives_nonce, left_by}
 use Rattle.machine_whole.specs.Interfaces.{with_each, is_true, asked_state_of_face, asked_due_of, answer_to}
 use Rattle.machine_ports.specs.Machine.{LinkState, Stepped}
 unfoldable use Rattle.machine_ports.specs.Machine.{step_of}
 use Rattle.machine_whole.specs.Machine.{Whole, ends_in, whole_streams, beside_of, whole_after, memory_shown}
 use Rattle.join_interfaces.specs.Faces.{IsFace, IsManaged}
-use Rattle.join_accesses.specs.{Keeps, says_in, EndsView, InterfacesView, LinkEnds, Links, links_state, place_on_links}
-use Rattle.join_accesses.specs.{SidesCall, SidesKeep, IsPlaced, IsDevice, IsBeside}
+use Rattle.join_accesses.specs.{Keeps, says_by_ports, EndsView, InterfacesView, LinkEnds, Links, links_state}
+use Rattle.join_accesses.specs.{place_on_links, BesideCall, BesideStays, IsPlaced, IsDevice, IsBeside}
 use Rattle.join_accesses.proofs.{StaysBound, asked_keeps, set_read, get_there, site_numbered, face_found, located_apart}
 use Rattle.join_accesses.proofs.{located_set, interface_there, interface_absent, each_at, each_many, none_of}
 use Rattle.join_accesses.proofs.{placed_keeps, AreBoth, elsewhere_beside, written_kept, interface_step}
@@ -142,7 +142,7 @@ called_plan false c tdi same = refl
 
 other_face : (plan : Plan) (s : Streams) (after : EndsRead) (used : ℕ → ℕ) (e : InterfaceEvent) (verdict : Verdict)
     (x : Site) (f : Face) → is_number (number_in e) x.number ≡ false
-    → face_after plan s after used (event.Interface e) verdict x f ≡ f
+    → next_face plan s after used (event.Interface e) verdict x f ≡ f
 other_face plan s after used e verdict x f other = rw other refl
 
 other_lock : (a : Around) (x : Site) (e : InterfaceEvent) (verdict : Verdict) (tdi : Tdi)
@@ -203,7 +203,7 @@ pub record IsOne (plan : Plan) (ends : List LinkEnds) (m : InterfacesView) (w : 
       (accepts_lock (around_of plan (whole_streams plan w) w.faces.used x p.face) x (event.Interface e) verdict
       p.face.tdi))
   pub keeps : IsFace (w.draw x.link x.plan.stream) x interface tdi
-      (face_after plan (whole_streams plan w) (ends_in plan w.links) w.faces.used (event.Interface e) verdict x
+      (next_face plan (whole_streams plan w) (ends_in plan w.links) w.faces.used (event.Interface e) verdict x
       p.face)
 
 module _ (plan : Plan) (ends : List LinkEnds) (m : InterfacesView) (memory : MemoryContents) (w : Whole)
@@ -226,7 +226,7 @@ module _ (plan : Plan) (ends : List LinkEnds) (m : InterfacesView) (memory : Mem
   ends_now = slice_set ends x.link link_now
 
   abbrev face_of : Site → Face → Face
-  face_of y f = face_after plan streams_now (ends_in plan w.links) w.faces.used (event.Interface e) verdict y f
+  face_of y f = next_face plan streams_now (ends_in plan w.links) w.faces.used (event.Interface e) verdict y f
 
   is_other : (j : ℕ) (y : Site) → slice_get (sites plan) j ≡ Some y → (i == j) ≡ false
       → is_number (number_in e) y.number ≡ false
@@ -278,9 +278,9 @@ module _ (plan : Plan) (ends : List LinkEnds) (m : InterfacesView) (memory : Mem
   -- ---- places
 
   -- all that it is bound to after the event is Secure
-  stays : StaysBound (says_in plan w.links x.link) one.tdi
+  stays : StaysBound (says_by_ports plan w.links x.link) one.tdi
   stays =
-      let says = says_in plan w.links x.link in
+      let says = says_by_ports plan w.links x.link in
       subst (StaysBound says) (sym one.keeps.tdi_is)
       (asked_keeps says (around_of plan streams_now w.faces.used x p.face)
       (left_by plan streams_now (ends_in plan w.links) x p.face.tdi) x e verdict p.face.tdi refl refl
@@ -393,7 +393,7 @@ answer_there plan w e i x f number at there =
 
 -- an event on a number that no interface has
 pub nowhere_beside : (plan : Plan) (old new : Links) (w : Whole) (e : InterfaceEvent) (verdict : Verdict) (i : ℕ)
-    → AreBoth plan old new w → SidesKeep old new → number_in e ≡ Some i → length (sites plan) ≤ i
+    → AreBoth plan old new w → BesideStays old new → number_in e ≡ Some i → length (sites plan) ≤ i
     → ◌≡◌ {A = Stepped} (verdict, links_state plan new) (step_of plan (beside_of plan w) w.links (event.Interface e))
     → IsBeside plan new.ends.links new.keeper.interfaces new.trusted.contents
     (whole_after plan w (event.Interface e) verdict (links_state plan new))
@@ -480,7 +480,7 @@ if_taken b new old is = rw is refl
 module _ (plan : Plan) (old new : Links) (w : Whole) (verdict : Verdict) (both : AreBoth plan old new w) where
   -- the interface of this number is called
   called_there : (number : ℕ) (test : Tdi → Bool) (call : Call) (e : InterfaceEvent) (x : Site)
-      → IsCall number test call e → SidesCall number test call old new → slice_get (sites plan) number ≡ Some x
+      → IsCall number test call e → BesideCall number test call old new → slice_get (sites plan) number ≡ Some x
       → verdict ≡ (beside_of plan w).answer e
       → (p : IsPlaced plan old.ends.links old.keeper.interfaces w number x)
       → IsOne plan old.ends.links old.keeper.interfaces w number x p e verdict new.ends.links new.keeper.interfaces
@@ -521,7 +521,7 @@ module _ (plan : Plan) (old new : Links) (w : Whole) (verdict : Verdict) (both :
       }
 
   called_beside : (number : ℕ) (test : Tdi → Bool) (call : Call) (e : InterfaceEvent) → IsCall number test call e
-      → SidesCall number test call old new
+      → BesideCall number test call old new
       → ◌≡◌ {A = Stepped} (verdict, links_state plan new) (step_of plan (beside_of plan w) w.links (event.Interface e))
       → IsBeside plan new.ends.links new.keeper.interfaces new.trusted.contents
       (whole_after plan w (event.Interface e) verdict (links_state plan new))
@@ -542,7 +542,7 @@ module _ (plan : Plan) (old new : Links) (w : Whole) (verdict : Verdict) (both :
   -- ---- each of them
 
   pub write_beside : (i : ℕ) (register : Register) (value : ℕ)
-      → SidesCall i (λ tdi. has_register tdi.plan register) (WriteRegister register value) old new
+      → BesideCall i (λ tdi. has_register tdi.plan register) (WriteRegister register value) old new
       → ◌≡◌ {A = Stepped} (verdict, links_state plan new)
       (step_of plan (beside_of plan w) w.links (event.Interface (ie.Write i register value)))
       → IsBeside plan new.ends.links new.keeper.interfaces new.trusted.contents
@@ -560,7 +560,7 @@ module _ (plan : Plan) (old new : Links) (w : Whole) (verdict : Verdict) (both :
             (changes_listed (lock_flags tdi.state) tdi.registers register value) tdi.state is;
       }) sides is
 
-  pub flr_beside : (i : ℕ) → SidesCall i (λ tdi. true) LevelReset old new
+  pub flr_beside : (i : ℕ) → BesideCall i (λ tdi. true) LevelReset old new
       → ◌≡◌ {A = Stepped} (verdict, links_state plan new)
       (step_of plan (beside_of plan w) w.links (event.Interface (ie.Flr i)))
       → IsBeside plan new.ends.links new.keeper.interfaces new.trusted.contents
@@ -575,7 +575,7 @@ module _ (plan : Plan) (old new : Links) (w : Whole) (verdict : Verdict) (both :
     binds = λ planned tdi is. failure_binds (λ s. s ≡ planned) tdi.state;
   }) sides is
 
-  pub firmware_beside : (i : ℕ) → SidesCall i (λ tdi. true) FirmwareUpdate old new
+  pub firmware_beside : (i : ℕ) → BesideCall i (λ tdi. true) FirmwareUpdate old new
       → ◌≡◌ {A = Stepped} (verdict, links_state plan new)
       (step_of plan (beside_of plan w) w.links (event.Interface (ie.Firmware i)))
       → IsBeside plan new.ends.links new.keeper.interfaces new.trusted.contents

@@ -32,7 +32,7 @@ use Rattle.interface_host.specs.Managers.{new_interface_manager as new_host}
 use Rattle.join_interfaces.specs.Faces.{IsFace}
 use Rattle.trusted_memory.specs.{IsLeftBy, new_contents, byte_at, TrustedMemory}
 use Rattle.trusted_memory.proofs.Seen.{new_is_seen, byte_at-new}
-use Rattle.trusted_memory.proofs.Turns.{byte_after-none}
+use Rattle.trusted_memory.proofs.Turns.{byte_last_written-none}
 use Rattle.machine_ports.specs.Machine.{first_state}
 use Rattle.join_accesses.specs.{AreLinks, EndsView, floors_at, InterfacesView, IsBounded, KeeperView, LinkEnds}
 use Rattle.join_accesses.specs.{links_state, mmio_at, new_all_ends, reads_at, carried_on_link, sizes_at, state_of}
@@ -111,7 +111,7 @@ device_first plan link l is =
 memory_first : (rs : List Region) → IsLeftBy (new_contents rs) []
 memory_first rs a =
     ap (λ (m : TrustedMemory). byte_at m.contents a) (sym (new_is_seen rs)) ∙ (byte_at-new rs a ∙ sym
-    (byte_after-none a))
+    (byte_last_written-none a))
 
 beside_first : (plan : Plan)
     → IsBeside plan (first_links plan) (new_host plan.links plan.portion) (new_contents plan.memory) (new_whole plan)
@@ -190,7 +190,7 @@ accesses_first : (plan : Plan) → AreAccesses plan (link_seen (new_accesses pla
 accesses_first plan = record {
   floored = length-map (sites plan) first_floor;
   reads = λ link. none_read plan.links link;
-  bytes = λ link i b offset. none_written plan.links link i b offset ∙ sym (byte_after-none offset);
+  bytes = λ link i b offset. none_written plan.links link i b offset ∙ sym (byte_last_written-none offset);
   sizes = λ link p is. sizes_of plan.links link p is;
   floors = λ link. zeros_at plan.links link
       ∙ sym (zeros_on link (sites plan)

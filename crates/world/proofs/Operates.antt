@@ -34,7 +34,7 @@ use Rattle.machine_ports.specs.Machine.{LinkState, Stepped, find_op, ports_of, s
 use Rattle.machine_whole.specs.Machine.{Whole, whole_streams, op_or_idle, draw_after, written_after, beside_of}
 use Rattle.machine_whole.specs.Machine.{whole_after, arrival_of}
 use Rattle.join_accesses.specs.{EndsView, InterfacesView, keyed_if, Links, links_state, peers_drawn, port_on}
-use Rattle.join_accesses.specs.{SidesOperate, stopped_if, told_on_line, told_by_link, told_by_peer, stream_named}
+use Rattle.join_accesses.specs.{BesideOperation, stopped_if, told_on_line, told_by_link, told_by_peer, stream_named}
 use Rattle.join_accesses.specs.{AreDrawn, IsBeside}
 use Rattle.join_accesses.proofs.{op_is, unnamed, is_of_ports, beside_led, link_few, AreBoth, written_kept}
 use Rattle.world.proofs.Arrives.{each_led, only_leaves}
@@ -98,7 +98,7 @@ name_cases m ends line stream =
 -- ---- what it makes of what stands beside the ports
 
 module _ (plan : Plan) (old new : Links) (w : Whole) (verdict : Verdict) (both : AreBoth plan old new w)
-    (o : Operation) (line stream : ℕ) (sides : SidesOperate o line stream verdict old new) where
+    (o : Operation) (line stream : ℕ) (sides : BesideOperation o line stream verdict old new) where
   -- the machine's operation on the stream
   found_here : (n : IsNamed old.keeper.keys.manager old.ends line stream)
       → find_op plan w.links line stream ≡ Some n.it.stream.op
@@ -234,7 +234,7 @@ module _ (plan : Plan) (old new : Links) (w : Whole) (verdict : Verdict) (both :
   no_set true m n = refl
   no_set false m n = refl
 
-  establish_told : SidesOperate op.Establish line stream verdict old new → Steps (event.Establish line stream loss)
+  establish_told : BesideOperation op.Establish line stream verdict old new → Steps (event.Establish line stream loss)
       → IsEstablished
   establish_told sides is = ⊎_elim
       (λ none.
@@ -272,7 +272,7 @@ module _ (plan : Plan) (old new : Links) (w : Whole) (verdict : Verdict) (both :
           (ap (λ (n : ℕ). find_op plan w.links n stream) (sym (same_number line (peer_line p) here)) ∙ found)
 
   establish_of_link : (e : IsEstablished) → is_link_line line ≡ true
-      → SidesOperate op.Establish line stream verdict old new → IsAfter (event.Establish line stream loss)
+      → BesideOperation op.Establish line stream verdict old new → IsAfter (event.Establish line stream loss)
   establish_of_link e here sides =
       operated_beside plan old new w verdict both op.Establish line stream sides (event.Establish line stream loss)
       (λ h. if e.began then keyed_by line stream w.links.draws h else h) refl refl
@@ -292,7 +292,7 @@ module _ (plan : Plan) (old new : Links) (w : Whole) (verdict : Verdict) (both :
       (keyed_managed e.began (line == x.link) (stream == x.plan.stream) w.links.draws (w.draw x.link x.plan.stream) x h
       g is)))
 
-  pub establish_beside : SidesOperate op.Establish line stream verdict old new
+  pub establish_beside : BesideOperation op.Establish line stream verdict old new
       → Steps (event.Establish line stream loss) → IsAfter (event.Establish line stream loss)
   establish_beside sides is =
       let e = establish_told sides is in
@@ -306,7 +306,7 @@ module _ (plan : Plan) (old new : Links) (w : Whole) (verdict : Verdict) (both :
       (cases_Bool (is_link_line line))
 
   -- a stream between devices that began has the draw
-  pub establish_drawn : SidesOperate op.Establish line stream verdict old new
+  pub establish_drawn : BesideOperation op.Establish line stream verdict old new
       → Steps (event.Establish line stream loss)
       → AreDrawn plan new.keeper.peer_draws (draw_after (whole_streams plan w).op w.links.draws
       (event.Establish line stream loss) verdict w.draw)
@@ -335,7 +335,7 @@ module _ (plan : Plan) (old new : Links) (w : Whole) (verdict : Verdict) (both :
 
   -- the stream of a link has the draw of the refresh that ended
   refresh_told : (q : StreamStage) (before after : ℕ) (u : Verdict) → verdict ≡ u
-      → SidesOperate op.Refresh line stream verdict old new
+      → BesideOperation op.Refresh line stream verdict old new
       → new.keeper.interfaces ≡ told_by_link op.Refresh line stream q before after u old.keeper.interfaces
       → IsAfter (event.Refresh line stream loss)
   refresh_told q before after (v.Refreshed a b j) same sides told =
@@ -359,7 +359,7 @@ module _ (plan : Plan) (old new : Links) (w : Whole) (verdict : Verdict) (both :
       (λ x g few. refl)
 
   -- on another line than that of a link it tells nothing
-  refresh_far : SidesOperate op.Refresh line stream verdict old new → is_link_line line ≡ false
+  refresh_far : BesideOperation op.Refresh line stream verdict old new → is_link_line line ≡ false
       → new.keeper.interfaces ≡ old.keeper.interfaces
   refresh_far sides far = ⊎_elim (λ none. (sides.unnamed none).0)
       (λ n. told_here plan old new w verdict both op.Refresh line stream sides n
@@ -367,7 +367,7 @@ module _ (plan : Plan) (old new : Links) (w : Whole) (verdict : Verdict) (both :
       ∙ peer_or_none (nat_le 24 line))
       (name_cases old.keeper.keys.manager old.ends line stream)
 
-  refresh_of_link : SidesOperate op.Refresh line stream verdict old new → is_link_line line ≡ true
+  refresh_of_link : BesideOperation op.Refresh line stream verdict old new → is_link_line line ≡ true
       → Steps (event.Refresh line stream loss) → IsAfter (event.Refresh line stream loss)
   refresh_of_link sides here is = ⊎_elim
       (λ none.
@@ -379,7 +379,7 @@ module _ (plan : Plan) (old new : Links) (w : Whole) (verdict : Verdict) (both :
       ∙ told_link op.Refresh n.it.stream.op w.links.draws (links_state plan new).draws here))
       (name_cases old.keeper.keys.manager old.ends line stream)
 
-  pub refresh_beside : SidesOperate op.Refresh line stream verdict old new → Steps (event.Refresh line stream loss)
+  pub refresh_beside : BesideOperation op.Refresh line stream verdict old new → Steps (event.Refresh line stream loss)
       → IsAfter (event.Refresh line stream loss)
   refresh_beside sides is = ⊎_elim (λ here. refresh_of_link sides here is)
       (λ far. refresh_told Idle 0 0 v.Nothing
@@ -407,7 +407,7 @@ module _ (plan : Plan) (old new : Links) (w : Whole) (verdict : Verdict) (both :
       (none_refreshed plan (beside_of plan w) w.links (links_state plan new) line stream loss verdict far is))
       (cases_Bool (is_link_line line))
 
-  pub refresh_drawn : SidesOperate op.Refresh line stream verdict old new → Steps (event.Refresh line stream loss)
+  pub refresh_drawn : BesideOperation op.Refresh line stream verdict old new → Steps (event.Refresh line stream loss)
       → AreDrawn plan new.keeper.peer_draws (draw_after (whole_streams plan w).op w.links.draws
       (event.Refresh line stream loss) verdict w.draw)
   refresh_drawn sides is =
@@ -423,7 +423,7 @@ module _ (plan : Plan) (old new : Links) (w : Whole) (verdict : Verdict) (both :
 
   -- ---- stop
 
-  stop_of_link : (b : Bool) → SidesOperate op.Stop line stream verdict old new
+  stop_of_link : (b : Bool) → BesideOperation op.Stop line stream verdict old new
       → new.keeper.interfaces ≡ stopped_if b line stream old.keeper.interfaces
       → stop_begins ((whole_streams plan w).op line stream) w.links.draws verdict ≡ b → nat_le 24 line ≡ false
       → IsAfter (event.Stop line stream loss)
@@ -449,7 +449,7 @@ module _ (plan : Plan) (old new : Links) (w : Whole) (verdict : Verdict) (both :
       (stopped_managed b (line == x.link) (stream == x.plan.stream) (w.draw x.link x.plan.stream) x h g is))))
 
   -- of a stream between devices
-  stop_of_peer : SidesOperate op.Stop line stream verdict old new → is_link_line line ≡ false → nat_le 24 line ≡ true
+  stop_of_peer : BesideOperation op.Stop line stream verdict old new → is_link_line line ≡ false → nat_le 24 line ≡ true
       → is_some (reach_of op.Stop verdict) ≡ true
       → new.keeper.interfaces ≡ peer_stop (peer_of line) old.keeper.interfaces → IsAfter (event.Stop line stream loss)
   stop_of_peer sides far late reaches told =
@@ -473,7 +473,7 @@ module _ (plan : Plan) (old new : Links) (w : Whole) (verdict : Verdict) (both :
   if_early b early = rw early refl
 
   -- of a stream that is not there
-  stop_nowhere : SidesOperate op.Stop line stream verdict old new
+  stop_nowhere : BesideOperation op.Stop line stream verdict old new
       → stream_named old.keeper.keys.manager old.ends line stream ≡ None → Steps (event.Stop line stream loss)
       → IsAfter (event.Stop line stream loss)
   stop_nowhere sides none is =
@@ -484,7 +484,7 @@ module _ (plan : Plan) (old new : Links) (w : Whole) (verdict : Verdict) (both :
       (λ x g few. none_breaks (whole_streams plan w).op w.links.draws x line stream loss verdict g
       (ap (λ (u : Verdict). is_some (reach_of op.Stop u)) nothing))
 
-  stop_here : SidesOperate op.Stop line stream verdict old new → IsNamed old.keeper.keys.manager old.ends line stream
+  stop_here : BesideOperation op.Stop line stream verdict old new → IsNamed old.keeper.keys.manager old.ends line stream
       → Steps (event.Stop line stream loss) → IsAfter (event.Stop line stream loss)
   stop_here sides n is =
       let found = found_here plan old new w verdict both op.Stop line stream sides n in
@@ -512,12 +512,12 @@ module _ (plan : Plan) (old new : Links) (w : Whole) (verdict : Verdict) (both :
       (cases_Bool (nat_le 24 line)))
       (cases_Bool (is_link_line line))
 
-  pub stop_beside : SidesOperate op.Stop line stream verdict old new → Steps (event.Stop line stream loss)
+  pub stop_beside : BesideOperation op.Stop line stream verdict old new → Steps (event.Stop line stream loss)
       → IsAfter (event.Stop line stream loss)
   stop_beside sides is = ⊎_elim (λ none. stop_nowhere sides none is) (λ n. stop_here sides n is)
       (name_cases old.keeper.keys.manager old.ends line stream)
 
-  pub stop_drawn : SidesOperate op.Stop line stream verdict old new
+  pub stop_drawn : BesideOperation op.Stop line stream verdict old new
       → AreDrawn plan new.keeper.peer_draws w.draw
   stop_drawn sides = subst (λ (ns : List ℕ). AreDrawn plan ns w.draw)
       (sym (⊎_elim (λ none. (sides.unnamed none).1)

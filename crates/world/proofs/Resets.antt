@@ -19,13 +19,13 @@ use Rattle.interface_ends.specs.Replies.{DeviceTdis, reset_tdis, settled_interfa
 use Rattle.spec_interfaces.specs.Sites.{Site, sites}
 use Rattle.spec_interfaces.specs.Views.{view_broken}
 use Rattle.spec_interfaces.specs.Devices.{reset_call, interface_if_called}
-use Rattle.machine_whole.specs.Interfaces.{Face, face_after, left_by}
+use Rattle.machine_whole.specs.Interfaces.{Face, next_face, left_by}
 use Rattle.interface_host.specs.Views.{HostTdi, broken_view, left_by_reset}
 use Rattle.trusted_memory.specs.{MemoryContents, IsLeftBy}
 use Rattle.join_interfaces.specs.Faces.{IsManaged}
-use Rattle.link_ends.specs.DeviceEnds.{secure_with}
-use Rattle.join_accesses.specs.{says_in, reset_if, InterfacesView, LinkEnds, Links, links_state, peer_live}
-use Rattle.join_accesses.specs.{place_on_links, SidesReset, IsPlaced, IsDevice, IsBeside}
+use Rattle.link_ends.specs.DeviceEnds.{secure_or_live}
+use Rattle.join_accesses.specs.{says_by_ports, reset_if, InterfacesView, LinkEnds, Links, links_state, peer_live}
+use Rattle.join_accesses.specs.{place_on_links, BesideReset, IsPlaced, IsDevice, IsBeside}
 use Rattle.join_accesses.proofs.{keeps_free, get_there, located_kept, each_at, each_many, used_kept, IsLed}
 use Rattle.join_accesses.proofs.{IsManagedAfter, OnlyLeaves, SameDevice, led_follows, placed_led, shows_state, AreBoth}
 use Rattle.join_accesses.proofs.{absent_beside}
@@ -70,7 +70,7 @@ turned a b = grind (arith, nat_tests)
 -- ---- a link that is there
 
 module _ (plan : Plan) (old new : Links) (w : Whole) (both : AreBoth plan old new w) (link : ℕ) (ends : List PortName)
-    (sides : SidesReset link old new) where
+    (sides : BesideReset link old new) where
   abbrev e : Event
   e = event.Reset link ends
 
@@ -84,7 +84,7 @@ module _ (plan : Plan) (old new : Links) (w : Whole) (both : AreBoth plan old ne
   whole_now = whole_after plan w e done after
 
   abbrev face_of : Site → Face → Face
-  face_of x f = face_after plan (whole_streams plan w) (ends_in plan after) w.faces.used e done x f
+  face_of x f = next_face plan (whole_streams plan w) (ends_in plan after) w.faces.used e done x f
 
   -- what a reset makes of an interface: by whether it is on the link
   abbrev called : Site → Tdi → Bool → Tdi
@@ -95,17 +95,17 @@ module _ (plan : Plan) (old new : Links) (w : Whole) (both : AreBoth plan old ne
     device_is : (k : ℕ) (l l' : LinkEnds) → slice_get old.ends.links k ≡ Some l → slice_get new.ends.links k ≡ Some l'
         → (b : Bool) → (k == link) ≡ b
         → l'.device.interfaces
-        ≡ settled_interfaces (secure_with l'.device.port (peer_live new.ends k)) (reset_if b l.device.interfaces)
+        ≡ settled_interfaces (secure_or_live l'.device.port (peer_live new.ends k)) (reset_if b l.device.interfaces)
     device_is k l l' at at' b own =
         sides.devices there k l l' at at'
-        ∙ ap (λ (c : Bool). settled_interfaces (secure_with l'.device.port (peer_live new.ends k))
+        ∙ ap (λ (c : Bool). settled_interfaces (secure_or_live l'.device.port (peer_live new.ends k))
         (reset_if c l.device.interfaces)) own
 
     same_device : (k : ℕ) (l l' : LinkEnds) → slice_get old.ends.links k ≡ Some l
         → slice_get new.ends.links k ≡ Some l' → SameDevice l.device.interfaces l'.device.interfaces
     same_device k l l' at at' =
         subst (SameDevice l.device.interfaces) (sym (sides.devices there k l l' at at'))
-        (reset_same (k == link) (secure_with l'.device.port (peer_live new.ends k)) l.device.interfaces)
+        (reset_same (k == link) (secure_or_live l'.device.port (peer_live new.ends k)) l.device.interfaces)
 
     -- another device is led by the ends of its streams
     other_led : (k : ℕ) (l l' : LinkEnds) → slice_get old.ends.links k ≡ Some l → slice_get new.ends.links k ≡ Some l'
@@ -169,13 +169,13 @@ module _ (plan : Plan) (old new : Links) (w : Whole) (both : AreBoth plan old ne
         → IsPlaced plan new.ends.links new.keeper.interfaces whole_now i x
     own_placed i x p l' at at' here =
         let managed = managed_now i x p in
-        let free = keeps_free (says_in plan after x.link) x.plan (tdi_after p.tdi LinkReset)
+        let free = keeps_free (says_by_ports plan after x.link) x.plan (tdi_after p.tdi LinkReset)
         (record { layout = p.keeps.layout; none = refl; bindings = refl }) in
         let device : l'.device.interfaces.interfaces
         ≡ map (λ (t : Tdi). tdi_after t LinkReset) p.link_ends.device.interfaces.interfaces =
         ap (λ (d : DeviceTdis). d.interfaces)
         (device_is x.link p.link_ends l' p.ends_are at' true (turned x.link link ∙ here))
-        ∙ none_settled (secure_with l'.device.port (peer_live new.ends x.link))
+        ∙ none_settled (secure_or_live l'.device.port (peer_live new.ends x.link))
         p.link_ends.device.interfaces.interfaces in
         record {
           link_ends = l';

@@ -15,8 +15,8 @@ use Rattle.machine_ports.specs.Stands.{PortsStandFor}
 use Rattle.machine_whole.specs.Machine.{Whole, beside_of, draw_after, whole_after, whole_streams}
 use Rattle.join_interfaces.specs.Joined.{InterfaceOperationsJoin}
 use Rattle.interface_host.specs.declared.operation.InterfaceOperation.TheVariants as op
-use Rattle.join_accesses.specs.{grants_in, has_peer_in, Links, links_state, managed_peer_stream, Sides, SidesInterface}
-use Rattle.join_accesses.specs.{SidesPeer, AreDrawn, IsBeside}
+use Rattle.join_accesses.specs.{grants_in, has_peer_in, Links, links_state, managed_peer_stream, BesideAfter}
+use Rattle.join_accesses.specs.{BesideInterface, BesideBinding, AreDrawn, IsBeside}
 use Rattle.interface_host.specs.declared.operation.InterfaceOperation.{InterfaceOperation}
 use Rattle.link_events.specs.declared.event.Loss.{Loss}
 use Rattle.std.specs.Prelude.{Option}
@@ -50,7 +50,7 @@ grants_are plan old new w both = λ i link requester.
     both.links.many link requester i
 
 module _ (plan : Plan) (old new : Links) (w : Whole) (verdict : Verdict) (join : InterfaceOperationsJoin) where
-  interface_after : (e : InterfaceEvent) → Turn plan old new w (event.Interface e) verdict → SidesInterface e old new
+  interface_after : (e : InterfaceEvent) → Turn plan old new w (event.Interface e) verdict → BesideInterface e old new
       → IsAfter plan new w (event.Interface e) verdict
   interface_after (ie.Lock i loss) t sides =
       asked_beside plan old new w verdict t.both join i op.Lock loss sides (λ x at. tt) t.step
@@ -75,7 +75,7 @@ module _ (plan : Plan) (old new : Links) (w : Whole) (verdict : Verdict) (join :
   interface_after (ie.Memory at len) t sides =
       memory_beside plan old new w verdict (beside_of plan w) t.both sides at len t.step
 
-  pub beside_after : (e : Event) → Turn plan old new w e verdict → Sides plan e verdict old new
+  pub beside_after : (e : Event) → Turn plan old new w e verdict → BesideAfter plan e verdict old new
       → IsAfter plan new w e verdict
   beside_after (event.Send port bytes more trusted) t sides =
       send_beside plan old new w verdict (beside_of plan w) t.both sides port bytes more trusted t.step
@@ -121,7 +121,8 @@ module _ (plan : Plan) (old new : Links) (w : Whole) (verdict : Verdict) (join :
       → AreDrawn plan new.keeper.peer_draws w.draw
   same_drawn both same = subst (λ (ns : List ℕ). AreDrawn plan ns w.draw) (sym same) both.whole.drawn
 
-  peer_same : (i line stream : ℕ) (o : InterfaceOperation) (loss : Option Loss) → SidesPeer i line stream o loss old new
+  peer_same : (i line stream : ℕ) (o : InterfaceOperation) (loss : Option Loss)
+      → BesideBinding i line stream o loss old new
       → new.keeper.peer_draws ≡ old.keeper.peer_draws
   peer_same i line stream o loss sides = ⊎_elim
       (λ few.
@@ -129,7 +130,7 @@ module _ (plan : Plan) (old new : Links) (w : Whole) (verdict : Verdict) (join :
       (cases_Bool (has_peer_in old.keeper old.ends i line stream)))
       (λ late. (sides.late late).peer_draws) (cases_lt stream 256)
 
-  interface_drawn : (e : InterfaceEvent) → AreBoth plan old new w → SidesInterface e old new
+  interface_drawn : (e : InterfaceEvent) → AreBoth plan old new w → BesideInterface e old new
       → AreDrawn plan new.keeper.peer_draws w.draw
   interface_drawn (ie.Lock i loss) both sides = same_drawn both sides.peer_draws
   interface_drawn (ie.Report i loss) both sides = same_drawn both sides.peer_draws
@@ -146,7 +147,7 @@ module _ (plan : Plan) (old new : Links) (w : Whole) (verdict : Verdict) (join :
   interface_drawn (ie.Firmware i) both sides = same_drawn both sides.peer_draws
   interface_drawn (ie.Memory at len) both sides = same_drawn both sides.peer_draws
 
-  pub drawn_after : (e : Event) → Turn plan old new w e verdict → Sides plan e verdict old new → AreDrawnAfter e
+  pub drawn_after : (e : Event) → Turn plan old new w e verdict → BesideAfter plan e verdict old new → AreDrawnAfter e
   drawn_after (event.Send port bytes more trusted) t sides = same_drawn t.both sides.peer_draws
   drawn_after (event.Pass n) t sides = same_drawn t.both sides.peer_draws
   drawn_after (event.Alter n at mask) t sides = same_drawn t.both sides.peer_draws

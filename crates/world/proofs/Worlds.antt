@@ -13,9 +13,9 @@ use Rattle.machine_ports.specs.Machine.{LinkPacket, LinkState, Stepped, step_of}
 use Rattle.machine_ports.specs.Stands.{PortsStandFor}
 use Rattle.machine_operations.specs.Points.{PointsStand}
 use Rattle.machine_whole.specs.Machine.{Whole, beside_of, whole_after, whole_step}
-use Rattle.machine_whole.specs.Stands.{StandsFor, WholeSteps}
+use Rattle.machine_whole.specs.Stands.{WholeStandsFor, WholeSteps}
 use Rattle.join_interfaces.specs.Joined.{InterfaceOperationsJoin}
-use Rattle.join_accesses.specs.{AreLinks, Ends, EndsView, HasNoVerdict, HostKeeper, IsBounded, links_state, Sides}
+use Rattle.join_accesses.specs.{AreLinks, Ends, EndsView, HasNoVerdict, HostKeeper, IsBounded, links_state, BesideAfter}
 use Rattle.join_accesses.specs.{StandsForSome, state_of, WholeLinks, AccessesAfter, beside_whole, WholeEnds}
 use Rattle.join_accesses.specs.{WholeEndsAs, WholeStays, HasAllAccesses as EachHasAccesses, AreAccesses, LinkSeen}
 use Rattle.join_accesses.specs.{link_seen, AreDrawn, IsBeside, WorldView, IsAsBefore, WorldStandsFor, HasStood, IsStep}
@@ -42,7 +42,8 @@ pub record Given : Type 0 where
 module _ (plan : Plan) (old new : WholeLinks) (e : Event) (verdict : Verdict) (given : Given)
     (links : AreLinks plan old.links.ends old.links.keeper.keys) (each : EachHasAccesses old)
     (ended : WholeEnds plan verdict old new e)
-    (sides : Sides plan e verdict old.links new.links) (accesses : AccessesAfter plan e verdict old new) (h : History)
+    (sides : BesideAfter plan e verdict old.links new.links) (accesses : AccessesAfter plan e verdict old new)
+    (h : History)
     (s : WorldStandsFor (world_of plan old) h) where
   before : PortsStandFor plan (links_state plan old.links) h
   before = subst (λ (st : LinkState). PortsStandFor plan st h) s.is.links s.stands.links
@@ -82,8 +83,8 @@ module _ (plan : Plan) (old new : WholeLinks) (e : Event) (verdict : Verdict) (g
   machine : (verdict, after) ≡ whole_step plan s.whole e
   machine = ap (λ (r : Stepped). (r.0, whole_after plan s.whole e r.0 r.1)) stepped
 
-  new_stands : StandsFor plan after ((e, verdict) ∷ h)
-  new_stands = subst (λ (r : Verdict × Whole). StandsFor plan r.1 ((e, r.0) ∷ h)) (sym machine)
+  new_stands : WholeStandsFor plan after ((e, verdict) ∷ h)
+  new_stands = subst (λ (r : Verdict × Whole). WholeStandsFor plan r.1 ((e, r.0) ∷ h)) (sym machine)
       (given.steps plan s.whole h e s.stands).1
 
   pub stood_after : HasStood h e verdict (world_of plan old) (world_of plan new)
@@ -107,11 +108,11 @@ module _ (plan : Plan) (old new : WholeLinks) (e : Event) (verdict : Verdict) (g
 
 -- what an event with this verdict makes of what stands beside the ports
 pub record HasSides (plan : Plan) (old new : WholeLinks) (e : Event) (verdict : Verdict) : Type 0 where
-  pub sides : Sides plan e verdict old.links new.links
+  pub sides : BesideAfter plan e verdict old.links new.links
   pub accesses : AccessesAfter plan e verdict old new
 
 pub both_sides : (plan : Plan) (old new : WholeLinks) (e : Event) (o : Option Verdict)
-    → IfSome o (λ v. Sides plan e v old.links new.links) → IfSome o (λ v. AccessesAfter plan e v old new)
+    → IfSome o (λ v. BesideAfter plan e v old.links new.links) → IfSome o (λ v. AccessesAfter plan e v old new)
     → IfSome o (HasSides plan old new e)
 both_sides plan old new e None sides accesses = tt
 both_sides plan old new e (Some verdict) sides accesses = record { sides = sides; accesses = accesses }

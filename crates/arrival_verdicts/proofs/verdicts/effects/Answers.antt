@@ -6,7 +6,7 @@ use Rattle.ide_prefix.specs.Packet.{Packet}
 use Rattle.link_verdicts.specs.declared.verdict.Effect.{Effect}
 use Rattle.sub_stream.specs.{mark_of}
 use Rattle.std.proofs.Math.Seq.{drop-length}
-use Rattle.guarded_memory.specs.declared.standing.InterfaceStatus.{InterfaceStatus}
+use Rattle.guarded_memory.specs.declared.status.InterfaceStatus.{InterfaceStatus}
 use Rattle.link_stores.specs.{device_statuses}
 use Rattle.sub_stream.specs.declared.answer.PacketMark.{PacketMark}
 use Rattle.arrival_verdicts.specs.Verdicts.{grants_in, UnitCame, PacketCame}

@@ -1,5 +1,5 @@
 use Rattle.std.proofs.Common.{refl}
-use Rattle.trusted_memory.specs.Writes.{byte_after}
+use Rattle.trusted_memory.specs.Writes.{byte_last_written}
 use Rattle.guarded_memory.proofs.laws.mmio_cases.Goals as goal
 
 pub returns-clause-shut : goal.returns-clause-shut
@@ -15,9 +15,9 @@ pub returns-clause-crossing : goal.returns-clause-crossing
 returns-clause-crossing c = (refl, refl)
 
 pub returns-clause-stored : goal.returns-clause-stored
-unfolding byte_after
+unfolding byte_last_written
 returns-clause-stored c = (refl, refl, refl, refl, refl, refl, refl)
 
 pub returns-clause-cleared : goal.returns-clause-cleared
-unfolding byte_after
+unfolding byte_last_written
 returns-clause-cleared c = (refl, refl, refl, refl, refl)

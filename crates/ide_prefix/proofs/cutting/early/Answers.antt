@@ -10,8 +10,8 @@ loop-place-preserved c = record {
       c.loop-place.invariant.fits (sym c.if-not-allows_early.ensures);
 }
 
-pub returns-then-place-bytes-clause-stops : goal.returns-then-place-bytes-clause-stops
-returns-then-place-bytes-clause-stops c =
+pub returns-then-place-bytes-clause-goes_off : goal.returns-then-place-bytes-clause-goes_off
+returns-then-place-bytes-clause-goes_off c =
     let past = c.if-place-bytes.true in
     let within = c.loop-place.invariant.within in
     let all : c.loop-place.place ≡ length c.args.bytes.now = omega arith in (

@@ -9,7 +9,7 @@ use Rattle.ide_prefix.proofs.cutting.parts.Goals as goal
 pub returns-in_err-early-clause-err : goal.returns-in_err-early-clause-err
 returns-in_err-early-clause-err c =
     let p = err_from_is_err_and c.from_residual.result c.from_residual.ensures.1 in
-    let h = c.in_err-early.ensures.stops in
+    let h = c.in_err-early.ensures.goes_off in
     rw (p.1, p.2) (early_fault _ _ h.0 (λ i. omega (arith, c.type_inv.bytes i)) h.1)
 
 pub returns-then-bytes-total-clause-err : goal.returns-then-bytes-total-clause-err

@@ -2,7 +2,7 @@ use Rattle.std.proofs.Common.{◌≢◌, ◌<◌, ◌≤◌, ◌≡◌, [], leng
 use Rattle.std.specs.Prelude.{IfOk}
 use Rattle.line_runs.specs.declared.ends.End.TheVariants.{TooLong}
 use Rattle.line_runs.specs.declared.ends.Fault.TheVariants as fault
-use Rattle.line_runs.specs.declared.front.Stop.TheVariants as stop
+use Rattle.line_runs.specs.declared.front.Unread.TheVariants as unread
 use Rattle.line_runs.specs.Gain.{Text}
 use Rattle.ide_runs.specs.Migrating.{WritesMigrated}
 use Rattle.ide_runs.proofs.Furthers.{within_file}
@@ -12,12 +12,12 @@ use Rattle.ide_runs.proofs.topologies.migrate_topology.Goals as goal
 
 pub returns-in-Err-Fault-clause-answers : goal.returns-in-Err-Fault-clause-answers
 returns-in-Err-Fault-clause-answers g c = stopped_migration c.args.topology.now (g.S.Shelf.seen c.args.shelf.now)
-    (g.S.Shelf.seen c.read_front.new.shelf) (g.O.Sink.seen c.args.out.now) stop.Fault
+    (g.S.Shelf.seen c.read_front.new.shelf) (g.O.Sink.seen c.args.out.now) unread.Fault
     (rw c.in-Err-Fault.field-0-is at c.in-Err-Fault.ensures.cause)
 
 pub returns-in-Err-Memory-clause-answers : goal.returns-in-Err-Memory-clause-answers
 returns-in-Err-Memory-clause-answers g c = stopped_migration c.args.topology.now (g.S.Shelf.seen c.args.shelf.now)
-    (g.S.Shelf.seen c.read_front.new.shelf) (g.O.Sink.seen c.args.out.now) stop.Memory
+    (g.S.Shelf.seen c.read_front.new.shelf) (g.O.Sink.seen c.args.out.now) unread.Memory
     (rw c.in-Err-Memory.field-0-is at c.in-Err-Memory.ensures.cause)
 
 pub returns-in-Ok-clause-answers : goal.returns-in-Ok-clause-answers

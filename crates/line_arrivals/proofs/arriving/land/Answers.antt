@@ -1,6 +1,5 @@
 use Rattle.std.proofs.Common.{arith}
-use Rattle.line_arrivals.proofs.Landing.{land_through, land_gone, land_off_way, land_off_port, land_wait}
-use Rattle.line_arrivals.proofs.Landing.{land_take}
+use Rattle.line_arrivals.proofs.Landing.{land_through, land_gone, land_off_way, land_off_port, land_wait, land_take}
 use Rattle.line_arrivals.proofs.arriving.land.Goals as goal
 
 pub returns-then-goes_through-clause-lands : goal.returns-then-goes_through-clause-lands

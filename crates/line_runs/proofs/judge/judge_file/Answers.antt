@@ -2,7 +2,7 @@ use Rattle.std.proofs.Common.{◌≡◌, ◌≢◌, ◌<◌, ◌≤◌, length, 
 use Rattle.std.specs.Prelude.{IfOk}
 use Rattle.line_runs.specs.declared.ends.End.TheVariants.{TooLong}
 use Rattle.line_runs.specs.declared.ends.Fault.TheVariants as fault
-use Rattle.line_runs.specs.declared.front.Stop.TheVariants as stop
+use Rattle.line_runs.specs.declared.front.Unread.TheVariants as unread
 use Rattle.line_runs.specs.Gain.{Text}
 use Rattle.line_runs.specs.Outcome.{Ran}
 use Rattle.line_runs.proofs.Joins.{gained_none}
@@ -15,7 +15,7 @@ pub returns-in-Err-Fault-clause-answers : goal.returns-in-Err-Fault-clause-answe
 returns-in-Err-Fault-clause-answers g c =
     stopped (g.S.Shelf.seen c.args.shelf.now).contents
     (λ contents. option_map (judgement_due c.args.due.now) (contents c.args.name.now)) c.args.name.now _ _ _ _ _
-    stop.Fault
+    unread.Fault
     (λ contents lacks. ap (option_map (judgement_due c.args.due.now)) lacks)
     (rw c.in-Err-Fault.field-0-is at c.in-Err-Fault.ensures.cause)
 
@@ -23,7 +23,7 @@ pub returns-in-Err-Memory-clause-answers : goal.returns-in-Err-Memory-clause-ans
 returns-in-Err-Memory-clause-answers g c =
     stopped (g.S.Shelf.seen c.args.shelf.now).contents
     (λ contents. option_map (judgement_due c.args.due.now) (contents c.args.name.now)) c.args.name.now _ _ _ _ _
-    stop.Memory
+    unread.Memory
     (λ contents lacks. ap (option_map (judgement_due c.args.due.now)) lacks)
     (rw c.in-Err-Memory.field-0-is at c.in-Err-Memory.ensures.cause)
 

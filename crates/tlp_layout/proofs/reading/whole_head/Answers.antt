@@ -6,7 +6,7 @@ use Rattle.tlp_layout.proofs.reading.whole_head.Goals as goal
 pub returns-in_err-layout-clause-err : goal.returns-in_err-layout-clause-err
 returns-in_err-layout-clause-err c =
     let p = err_from_is_err_and c.from_residual.result c.from_residual.ensures.1 in
-    rw (p.1, p.2) (head_fault _ _ (λ i. omega (arith, c.type_inv.bytes i)) c.in_err-layout.ensures.stops)
+    rw (p.1, p.2) (head_fault _ _ (λ i. omega (arith, c.type_inv.bytes i)) c.in_err-layout.ensures.goes_off)
 
 pub returns-then-bytes-size-clause-err : goal.returns-then-bytes-size-clause-err
 returns-then-bytes-size-clause-err c =

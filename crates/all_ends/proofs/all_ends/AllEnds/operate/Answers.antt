@@ -1,5 +1,5 @@
 use Rattle.all_ends.proofs.Terms.{◌∙◌, subst, slice_set, EndsView, LinkEnds, PairEnds, peer_live}
-use Rattle.link_ends.specs.DeviceEnds.{secure_with}
+use Rattle.link_ends.specs.DeviceEnds.{secure_or_live}
 use Rattle.spec_interfaces.specs.Peers.{live_by_id}
 use Rattle.interface_ends.specs.Replies.{settled_interfaces}
 use Rattle.all_ends.specs.Ends.{live_of}
@@ -19,7 +19,7 @@ returns-in-Link-clause-operates c =
     let x : LinkEnds = c.index_mut.result.now in
     let y : LinkEnds = c.operate.new.ends in
     let settles : Settles (peer_live old i) x y = c.operate.ensures.settles
-    ∙ (λ j. settled_interfaces (secure_with y.device.port (λ stream.
+    ∙ (λ j. settled_interfaces (secure_or_live y.device.port (λ stream.
     live_by_id (live_of (c.deref.ensures.value j)) (c.deref-in-Link.ensures.value j) i stream)) x.device.interfaces) in
     subst (λ (v : EndsView). OperatesAt v c.args.line c.args.keeper.now.keys c.args.op c.args.loss c.operate.result
     (record old { links = slice_set old.links i y }) c.operate.new.self.keys) c.self.view_is

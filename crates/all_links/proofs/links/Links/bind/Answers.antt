@@ -3,10 +3,10 @@ use Rattle.link_events.specs.declared.event.InterfaceEvent.TheVariants as ie
 use Rattle.interface_host.specs.declared.operation.InterfaceOperation.TheVariants as op
 use Rattle.interface_host.specs.declared.operation.PeerStream.{PeerStream}
 use Rattle.all_links.specs.Interfaces.{managed_peer_stream}
-use Rattle.all_links.specs.Sides.{SidesAsk}
+use Rattle.all_links.specs.BesideAfter.{BesideAsking}
 use Rattle.all_links.proofs.Finds.{if_some}
 use Rattle.all_links.proofs.Asked.{if_some as some_is, is_peer, no_peer, none_peer, peer_verdict}
-use Rattle.all_links.proofs.Sides.{no_peer_beside, peer_beside}
+use Rattle.all_links.proofs.BesideAfter.{no_peer_beside, peer_beside}
 use Rattle.all_links.proofs.links.Links.bind.Goals as goal
 
 pub operate_interface-requires-clause-short : goal.operate_interface-requires-clause-short
@@ -48,6 +48,7 @@ returns-in-Some-clause-sides c =
     (λ verdict is. peer_beside s c.operate_interface.new.self c.args.number c.args.line c.args.stream
     (op.Bind (managed_peer_stream s.keeper c.args.line c.args.stream)) c.args.loss p.small
     p.has
-    (subst (λ (q : PeerStream). SidesAsk c.args.number (op.Bind q) c.args.loss s c.operate_interface.new.self) p.peer_is
-    (some_is (λ (w : Verdict). SidesAsk c.args.number (op.Bind c.in-Some.peer) c.args.loss s
+    (subst (λ (q : PeerStream). BesideAsking c.args.number (op.Bind q) c.args.loss s c.operate_interface.new.self)
+    p.peer_is
+    (some_is (λ (w : Verdict). BesideAsking c.args.number (op.Bind c.in-Some.peer) c.args.loss s
     c.operate_interface.new.self) c.operate_interface.result verdict is c.operate_interface.ensures.sides)))

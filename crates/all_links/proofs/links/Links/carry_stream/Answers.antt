@@ -1,5 +1,5 @@
 use Rattle.all_links.proofs.Terms.{ℕ, refl, subst, sym, IsSome, Option, Verdict, OperatesAt, named_stream, Named}
-use Rattle.all_links.proofs.Terms.{told_by_line, drawn_at, ◌≡◌, ◌==◌, not, work_of, ◌∙◌, ap}
+use Rattle.all_links.proofs.Terms.{told_by_line, drawn_on_line, ◌≡◌, ◌==◌, not, work_of, ◌∙◌, ap}
 use Rattle.std.specs.Prelude.{IfSome}
 use Rattle.tsm_host.specs.Operations.{op_name}
 use Rattle.tsm_host.proofs.Walks.{no_bad_reply}
@@ -27,7 +27,7 @@ pub returns-clause-peer_draws : goal.returns-clause-peer_draws
 returns-clause-peer_draws c =
     let draw : ℕ = c.args.self.now.keeper.keys.pool.draws in
     c.operate.ensures.peer_draws
-    ∙ ap (λ (line : ℕ). drawn_at line c.args.op (not (c.operate.new.keeper.keys.pool.draws == draw)) draw
+    ∙ ap (λ (line : ℕ). drawn_on_line line c.args.op (not (c.operate.new.keeper.keys.pool.draws == draw)) draw
     c.args.self.now.keeper.peer_draws) c.line.ensures
 
 pub returns-clause-answered : goal.returns-clause-answered

@@ -2,7 +2,7 @@ use Rattle.all_links.proofs.Terms.{Dump, ap, sym, ◌∙◌, List, ℕ, links_st
 use Rattle.link_verdicts.specs.declared.verdict.Verdict.TheVariants as v
 use Rattle.all_links.proofs.Finds.{nothing_changes}
 use Rattle.line_arrivals.proofs.{dumps}
-use Rattle.all_links.proofs.Sides.{keeps_all}
+use Rattle.all_links.proofs.BesideAfter.{keeps_all}
 use Rattle.all_links.proofs.links.Links.dump.Goals as goal
 
 pub returns-in-None-clause-ends : goal.returns-in-None-clause-ends

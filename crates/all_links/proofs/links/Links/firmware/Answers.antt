@@ -6,7 +6,7 @@ use Rattle.ide_types.specs.declared.verdict.InterfaceVerdict.TheVariants as iv
 use Rattle.all_links.specs.Interfaces.{firmware_as, interface_of_ends}
 use Rattle.all_links.proofs.Finds.{only_says}
 use Rattle.all_links.proofs.Asked.{called}
-use Rattle.all_links.proofs.Sides.{nothing_called, called_beside}
+use Rattle.all_links.proofs.BesideAfter.{nothing_called, called_beside}
 use Rattle.all_links.proofs.links.Links.firmware.Goals as goal
 
 pub returns-in-None-clause-ends : goal.returns-in-None-clause-ends

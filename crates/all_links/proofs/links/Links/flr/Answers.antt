@@ -7,7 +7,7 @@ use Rattle.ide_types.specs.declared.verdict.InterfaceVerdict.TheVariants as iv
 use Rattle.all_links.specs.Interfaces.{flr_as, interface_named, interface_of_ends}
 use Rattle.all_links.proofs.Finds.{only_says}
 use Rattle.all_links.proofs.Asked.{is_found, is_there, called, place_kept}
-use Rattle.all_links.proofs.Sides.{nothing_called, called_beside}
+use Rattle.all_links.proofs.BesideAfter.{nothing_called, called_beside}
 use Rattle.all_links.proofs.links.Links.flr.Goals as goal
 
 pub flr-state-requires : goal.flr-state-requires

@@ -6,7 +6,7 @@ use Rattle.ide_types.specs.declared.verdict.InterfaceVerdict.TheVariants as iv
 use Rattle.trusted_memory.specs.{byte_at, bytes_from, in_one_region}
 use Rattle.all_links.specs.Interfaces.{memory_verdict}
 use Rattle.all_links.proofs.Finds.{only_says}
-use Rattle.all_links.proofs.Sides.{keeps_all}
+use Rattle.all_links.proofs.BesideAfter.{keeps_all}
 use Rattle.all_links.proofs.links.Links.memory.Goals as goal
 
 length-bytes : (f : ℕ → ℕ) (at n : ℕ) → length (bytes_from f at n) ≡ n

@@ -6,9 +6,9 @@ use Rattle.tsm_host.specs.Operations.{OpName}
 use Rattle.tsm_host.specs.Walk.{verdict_of}
 use Rattle.all_links.proofs.Finds.{ends_as, if_some, nothing_changes, some_none}
 use Rattle.line_arrivals.proofs.{unnamed, step_none}
-use Rattle.all_links.specs.Sides.{SidesOperate, works_on}
+use Rattle.all_links.specs.BesideAfter.{BesideOperation, works_on}
 use Rattle.all_links.proofs.Operations.{found_is, not_stepped, operates_on}
-use Rattle.all_links.proofs.Sides.{nothing_operates, not_operated, operated_beside}
+use Rattle.all_links.proofs.BesideAfter.{nothing_operates, not_operated, operated_beside}
 use Rattle.all_links.proofs.links.Links.operate.Goals as goal
 
 pub carry_stream-outcome-requires-clause-here : goal.carry_stream-outcome-requires-clause-here
@@ -87,10 +87,10 @@ returns-else-not-works_on-clause-sides c =
     let n = found_is c.args.self.now.keeper.keys.manager c.args.self.now.ends c.args.line c.args.stream
     c.in-Some.line c.in-Some.stream c.in-Some.ensures in
     let after : Links = c.carry_stream-outcome.new.self in
-    subst (λ (p : ℕ × ℕ). IfSome c.operated_verdict.result (λ (w : Verdict). SidesOperate c.args.operation p.0 p.1 w
+    subst (λ (p : ℕ × ℕ). IfSome c.operated_verdict.result (λ (w : Verdict). BesideOperation c.args.operation p.0 p.1 w
     c.args.self.now (record after { steps = after.steps + 1 }))) n.same
     (if_some c.operated_verdict.result _
-    (λ verdict is. subst (λ (s : Links). SidesOperate c.args.operation c.in-Some.line c.in-Some.stream verdict
+    (λ verdict is. subst (λ (s : Links). BesideOperation c.args.operation c.in-Some.line c.in-Some.stream verdict
     c.args.self.now (record s { steps = s.steps + 1 })) (sym c.carry_stream-outcome.ensures.links)
     (operated_beside c.args.self.now after.ends after.keeper c.named_op-op.result
     c.args.operation c.in-Some.line c.in-Some.stream c.args.loss c.carry_stream-outcome.result verdict

@@ -1,9 +1,8 @@
-use Rattle.all_links.proofs.Terms.{ap, refl, sym, subst, ◌∙◌, ◌+◌, List, Links, Interface, Option}
-use Rattle.all_links.proofs.Terms.{IsSome, Verdict, ℕ}
+use Rattle.all_links.proofs.Terms.{ap, refl, sym, subst, ◌∙◌, ◌+◌, List, Links, Interface, Option, IsSome, Verdict, ℕ}
 use Rattle.interface_ends.specs.Keepers.{Ended}
 use Rattle.all_links.proofs.Asked.{asked_nowhere, operated_as}
 use Rattle.all_links.proofs.Finds.{ends_as, if_some, some_none}
-use Rattle.all_links.proofs.Sides.{nothing_asked, asked_beside}
+use Rattle.all_links.proofs.BesideAfter.{nothing_asked, asked_beside}
 use Rattle.all_links.proofs.links.Links.operate_interface.Goals as goal
 
 pub carry_interface-outcome-requires : goal.carry_interface-outcome-requires

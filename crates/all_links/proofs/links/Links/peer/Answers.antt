@@ -2,7 +2,7 @@ use Rattle.all_links.proofs.Terms.{ℕ, ap, sym, ◌∙◌, ◌≡◌, true, fal
 use Rattle.all_links.proofs.Terms.{refl}
 use Rattle.std.proofs.Common.{◌&&◌}
 use Rattle.interface_host.specs.declared.operation.PeerStream.{PeerStream}
-use Rattle.all_links.specs.Interfaces.{has_peer_at, managed_peer_stream}
+use Rattle.all_links.specs.Interfaces.{has_peer_if_there, managed_peer_stream}
 use Rattle.all_links.proofs.links.Links.peer.Goals as goal
 
 none_of : (b : Bool) (peer : PeerStream) → b ≡ false → None ≡ (if b then Some peer else None)
@@ -17,12 +17,12 @@ returns-in-None c =
     let s = c.args.self.now in
     none_of _ (managed_peer_stream s.keeper c.args.line c.args.stream)
     (no_more (nat_lt c.args.stream 256) _
-    (ap (λ (o : Option (ℕ × ℕ)). has_peer_at s.ends c.args.line c.args.stream o) c.in-None.is))
+    (ap (λ (o : Option (ℕ × ℕ)). has_peer_if_there s.ends c.args.line c.args.stream o) c.in-None.is))
 
 pub returns-else-has_peer : goal.returns-else-has_peer
 returns-else-has_peer c =
     let s = c.args.self.now in
     none_of _ (managed_peer_stream s.keeper c.args.line c.args.stream)
     (no_more (nat_lt c.args.stream 256) _
-    (ap (λ (o : Option (ℕ × ℕ)). has_peer_at s.ends c.args.line c.args.stream o) c.in-Some.is
+    (ap (λ (o : Option (ℕ × ℕ)). has_peer_if_there s.ends c.args.line c.args.stream o) c.in-Some.is
     ∙ sym c.has_peer.ensures ∙ c.if-has_peer.false))

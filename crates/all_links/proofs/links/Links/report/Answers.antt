@@ -3,7 +3,7 @@ use Rattle.link_events.specs.declared.event.InterfaceEvent.TheVariants as ie
 use Rattle.interface_host.specs.declared.operation.InterfaceOperation.TheVariants as op
 use Rattle.all_links.proofs.Asked.{asked_nowhere, operated_as}
 use Rattle.all_links.proofs.Finds.{ends_as, if_some, some_none}
-use Rattle.all_links.proofs.Sides.{nothing_asked, asked_beside}
+use Rattle.all_links.proofs.BesideAfter.{nothing_asked, asked_beside}
 use Rattle.all_links.proofs.links.Links.report.Goals as goal
 
 pub returns-in-None-clause-ends : goal.returns-in-None-clause-ends

@@ -2,7 +2,7 @@ use Rattle.all_links.proofs.Terms.{Reset, ap, sym, false}
 use Rattle.line_arrivals.specs.{HostKeeper}
 use Rattle.all_links.proofs.Finds.{nothing_changes}
 use Rattle.all_links.proofs.Resets.{reset_step, resets}
-use Rattle.all_links.proofs.Sides.{nothing_resets, reset_beside}
+use Rattle.all_links.proofs.BesideAfter.{nothing_resets, reset_beside}
 use Rattle.all_links.proofs.links.Links.reset.Goals as goal
 
 pub returns-then-not-has_link-clause-ends : goal.returns-then-not-has_link-clause-ends

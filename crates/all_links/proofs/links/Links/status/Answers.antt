@@ -3,7 +3,7 @@ use Rattle.link_verdicts.specs.declared.verdict.Verdict.TheVariants as v
 use Rattle.all_links.proofs.Finds.{nothing_changes}
 use Rattle.all_links.proofs.Resets.{status_read, status_nowhere, status_here}
 use Rattle.line_arrivals.proofs.{name_is}
-use Rattle.all_links.proofs.Sides.{keeps_all}
+use Rattle.all_links.proofs.BesideAfter.{keeps_all}
 use Rattle.all_links.proofs.links.Links.status.Goals as goal
 
 pub returns-in-None-clause-ends : goal.returns-in-None-clause-ends

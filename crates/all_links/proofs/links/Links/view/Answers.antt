@@ -8,7 +8,7 @@ use Rattle.ide_types.specs.declared.verdict.InterfaceVerdict.TheVariants as iv
 use Rattle.all_links.specs.Interfaces.{viewed_as, interface_seen_at, interface_named}
 use Rattle.all_links.proofs.Finds.{only_says}
 use Rattle.all_links.proofs.Asked.{if_some, is_found}
-use Rattle.all_links.proofs.Sides.{keeps_all}
+use Rattle.all_links.proofs.BesideAfter.{keeps_all}
 use Rattle.all_links.proofs.links.Links.view.Goals as goal
 
 pub returns-in-None-clause-ends : goal.returns-in-None-clause-ends

@@ -11,7 +11,7 @@ use Rattle.all_links.specs.Interfaces.{written_as, interface_of_ends}
 use Rattle.line_arrivals.specs.{code_behind}
 use Rattle.all_links.proofs.Finds.{only_says}
 use Rattle.all_links.proofs.Asked.{if_some, is_found, called}
-use Rattle.all_links.proofs.Sides.{nothing_called, called_beside, not_called}
+use Rattle.all_links.proofs.BesideAfter.{nothing_called, called_beside, not_called}
 use Rattle.all_links.proofs.links.Links.write.Goals as goal
 
 pub returns-in-None-clause-ends : goal.returns-in-None-clause-ends

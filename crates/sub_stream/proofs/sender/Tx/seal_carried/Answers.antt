@@ -6,7 +6,7 @@ use Rattle.spec_stream.specs.Stream.{LiveKey, sealed_slots}
 use Rattle.sub_stream.specs.Gathered.{Gathered, lent_totals}
 use Rattle.sub_stream.specs.Masked.{masked_packet, packet_with_tag}
 use Rattle.sub_stream.specs.Seen.{sender_slots_seen, live_key_seen}
-use Rattle.sub_stream.specs.Senders.{Sender, Content, carried_content, sealing_of, sealing_as, sealing_answer}
+use Rattle.sub_stream.specs.Senders.{Sender, Content, carried_content, sealing_of, sealing_by_key, sealing_answer}
 use Rattle.sub_stream.specs.Senders.{sealing_bytes, sender_after, tagged_packet, sender_ahead}
 use Rattle.sub_stream.proofs.Sealed.{sealing_with, packet-tagged, slots-sealed, ahead-sealed, sender-sealed}
 use Rattle.sub_stream.proofs.sender.Tx.seal_carried.Goals as goal
@@ -49,12 +49,12 @@ unit : goal.After-len → Gathered
 unit c = c.begin_where_empty.new.unit
 
 sealing : (c : goal.After-len) → sealing_of c.args.self.now (total c) (content c) c.args.more
-    ≡ Ok (sealing_as (tx c) (total c) (key c) (content c) c.is_last-m.result)
+    ≡ Ok (sealing_by_key (tx c) (total c) (key c) (content c) c.is_last-m.result)
 unfolding tx key total content
 sealing c =
     ap (λ (s : Sender). sealing_of s (total c) (content c) c.args.more) (sym c.self.view_is)
     ∙ sealing_with (tx c) (total c) (content c) c.args.more (key c) c.in-Ok.ensures
-    ∙ ap (λ m. Ok (sealing_as (tx c) (total c) (key c) (content c) m)) (sym c.is_last-m.ensures)
+    ∙ ap (λ m. Ok (sealing_by_key (tx c) (total c) (key c) (content c) m)) (sym c.is_last-m.ensures)
 
 packet : (c : goal.After-len) → Packet
 packet c = packet_with_tag c.is_last-m.result c.in-Ok.key.1.now c.unit_iv-iv.result (unit c)
@@ -92,7 +92,7 @@ returns-clause-answer c =
       c.append_packet.new.out.ok.0,
       c.args.out.now.ok.0,
     ) in
-    ap (λ (l : ℕ). Ok (record (sealing_as (tx c) (total c) (key c) (content c) c.is_last-m.result).description
+    ap (λ (l : ℕ). Ok (record (sealing_by_key (tx c) (total c) (key c) (content c) c.is_last-m.result).description
     { length = l })) (n ∙ ap (λ p. length (packet_bytes p)) (packet_is c))
     ∙ ap sealing_answer (sym (sealing c))
 

@@ -1,7 +1,7 @@
 use Rattle.std.proofs.Common.{◌≡◌, ◌%◌, ℕ, Bool, true, false, cond, List, [], get_or, Option, unwrap_or, sym, ap, ◌∙◌}
 use Rattle.trusted_memory.specs.Regions.{in_region}
 use Rattle.trusted_memory.specs.Pages.{paged_byte}
-use Rattle.trusted_memory.proofs.Seen.{byte_in-seen}
+use Rattle.trusted_memory.proofs.Seen.{byte_in_regions-seen}
 use Rattle.trusted_memory.proofs.Written.{byte_at-seen}
 use Rattle.trusted_memory.proofs.trusted.Trusted.byte.Goals as goal
 
@@ -11,7 +11,8 @@ returns-then-not-in_region c =
     (sym c.in_region.ensures ∙ c.if-not-in_region.true) in
     let byte = paged_byte c.self.inside.pages.entries in
     rw (← c.self.view_is)
-    (sym (byte_in-seen byte c.self.inside.regions.items c.args.at ∙ ap (λ (t : Bool). cond t (byte c.args.at) 0) out))
+    (sym (byte_in_regions-seen byte c.self.inside.regions.items c.args.at ∙ ap (λ (t : Bool). cond t (byte c.args.at) 0)
+    out))
 
 pub returns-in-Some : goal.returns-in-Some
 returns-in-Some c =

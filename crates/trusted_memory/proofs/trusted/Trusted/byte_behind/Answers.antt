@@ -2,7 +2,7 @@ use Rattle.std.proofs.Common.{◌+◌, ◌^◌, ◌≤◌, Bool, cond, sym, ap, 
 use Rattle.std.proofs.lemmas.Bool.{cases_Bool, ltb-true, ltb-false}
 use Rattle.std.specs.Prelude.{nat_lt}
 use Rattle.trusted_memory.specs.Pages.{paged_byte}
-use Rattle.trusted_memory.proofs.Seen.{byte_in-seen, none_high}
+use Rattle.trusted_memory.proofs.Seen.{byte_in_regions-seen, none_high}
 use Rattle.trusted_memory.proofs.trusted.Trusted.byte_behind.Goals as goal
 
 pub returns-in-None : goal.returns-in-None
@@ -14,5 +14,5 @@ returns-in-None c =
     ] in
     let byte = paged_byte c.self.inside.pages.entries in
     rw (← c.self.view_is)
-    (sym (byte_in-seen byte c.self.inside.regions.items a
+    (sym (byte_in_regions-seen byte c.self.inside.regions.items a
     ∙ ap (λ (t : Bool). cond t (byte a) 0) (none_high c.self.inside.regions.items a c.self.invariant.fit high)))

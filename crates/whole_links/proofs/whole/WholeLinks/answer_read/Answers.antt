@@ -7,7 +7,7 @@ use Rattle.trusted_memory.specs.declared.queue.WaitingRead.{WaitingRead}
 use Rattle.link_stores.specs.declared.link.LinkAccesses.{LinkAccesses}
 use Rattle.all_links.specs.{waiting_reads_after}
 use Rattle.all_links.specs.Accesses.{same_floors, nothing_happens, same_carried, AccessesTurn}
-use Rattle.all_links.proofs.Sides.{keeps_all}
+use Rattle.all_links.proofs.BesideAfter.{keeps_all}
 use Rattle.whole_links.specs.declared.whole.WholeLinks.{WholeLinks}
 use Rattle.whole_links.specs.Whole.{WholeEnds}
 use Rattle.whole_links.proofs.Ends.{whole_noted}

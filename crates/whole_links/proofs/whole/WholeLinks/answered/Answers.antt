@@ -1,5 +1,5 @@
 use Rattle.std.proofs.Common.{sym, refl}
-use Rattle.all_links.proofs.Sides.{keeps_all}
+use Rattle.all_links.proofs.BesideAfter.{keeps_all}
 use Rattle.whole_links.proofs.Answers.{answer_only}
 use Rattle.whole_links.proofs.whole.WholeLinks.answered.Goals as goal
 

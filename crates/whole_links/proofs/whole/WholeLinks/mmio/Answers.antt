@@ -3,7 +3,7 @@ use Rattle.std.proofs.Math.Seq.{take-append_seam}
 use Rattle.std.specs.Prelude.{vec_len}
 use Rattle.spec_links.specs.Guarded.{mmio_if}
 use Rattle.whole_links.specs.Besides.{has_shown, bytes_shown}
-use Rattle.all_links.proofs.Sides.{keeps_all}
+use Rattle.all_links.proofs.BesideAfter.{keeps_all}
 use Rattle.whole_links.proofs.Answers.{mmio_only, length-shown}
 use Rattle.whole_links.proofs.whole.WholeLinks.mmio.Goals as goal
 

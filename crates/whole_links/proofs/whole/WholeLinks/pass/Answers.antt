@@ -2,7 +2,7 @@ use Rattle.std.proofs.Common.{ℕ, List, refl, ap, sym, subst, ◌∙◌}
 use Rattle.std.specs.Prelude.{Some}
 use Rattle.link_events.specs.declared.event.Event.{Event}
 use Rattle.machine_ports.specs.Machine.{LinkPacket}
-use Rattle.all_links.specs.Sides.{SidesArriveAt}
+use Rattle.all_links.specs.BesideAfter.{BesideBytes}
 use Rattle.all_links.specs.States.{links_state}
 use Rattle.whole_links.specs.Accesses.{AccessesArriveAt}
 use Rattle.whole_links.specs.Packets.{packet_event}
@@ -62,7 +62,7 @@ returns-in_ok-verdict-in-Some-2-clause-sides c =
     (ap (λ (bytes : List ℕ). Some bytes) c.as_slice.ensures.value
     ∙ (rw c.in-Some-2.is at c.in_ok-bytes_left-in-Some.ensures)))
     c.in_ok-verdict-in-Some-2.ensures.lands in
-    let IsSo = λ (s : WholeLinks). SidesArriveAt c.args.plan.now event c.in_ok-verdict-in-Some-2.verdict
+    let IsSo = λ (s : WholeLinks). BesideBytes c.args.plan.now event c.in_ok-verdict-in-Some-2.verdict
     c.args.self.now.links s.links in
     elim c.match-bytes-2.branch [
       | in-Borrowed-2 w ↦ subst IsSo (sym w.self-is) came

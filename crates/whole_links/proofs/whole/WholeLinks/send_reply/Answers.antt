@@ -1,6 +1,6 @@
 use Rattle.std.proofs.Common.{sym, refl}
 use Rattle.all_links.proofs.{there}
-use Rattle.all_links.proofs.Sides.{keeps_all}
+use Rattle.all_links.proofs.BesideAfter.{keeps_all}
 use Rattle.whole_links.proofs.Answers.{answer_older, answer_sent_or}
 use Rattle.whole_links.proofs.whole.WholeLinks.send_reply.Goals as goal
 

@@ -1,7 +1,7 @@
 use Rattle.std.proofs.Common.{ℕ, ◌<◌, Some, ap, sym, subst, ◌∙◌}
-use Rattle.guarded_memory.specs.Standings.{interface_status}
-use Rattle.link_stores.proofs.Standings.{as_many, stands_at}
-use Rattle.link_stores.proofs.link.FlooredStandings.standing.Goals as goal
+use Rattle.guarded_memory.specs.Statuses.{interface_status}
+use Rattle.link_stores.proofs.Statuses.{as_many, stands_at}
+use Rattle.link_stores.proofs.link.FlooredStatuses.status.Goals as goal
 
 pub interface-requires : goal.interface-requires
 interface-requires c =

@@ -2,9 +2,9 @@
 use Rattle.std.specs.Prelude.{ℕ, ◌/◌, ◌%◌, ◌==◌, Bool, true, false, List, slice_get}
 use Rattle.std.specs.Option.{option_map_or}
 use Rattle.ide_types.specs.declared.interface.BarPlan.{BarPlan}
-use Rattle.guarded_memory.specs.declared.standing.InterfaceState.{InterfaceState}
-use Rattle.guarded_memory.specs.declared.standing.InterfaceState.TheVariants.{ConfigUnlocked, ConfigLocked, Run, Error}
-use Rattle.guarded_memory.specs.declared.standing.InterfaceStatus.{InterfaceStatus}
+use Rattle.guarded_memory.specs.declared.status.InterfaceState.{InterfaceState}
+use Rattle.guarded_memory.specs.declared.status.InterfaceState.TheVariants.{ConfigUnlocked, ConfigLocked, Run, Error}
+use Rattle.guarded_memory.specs.declared.status.InterfaceStatus.{InterfaceStatus}
 use Rattle.interface_state.specs.declared.states.TdiState.{TdiState}
 use Rattle.interface_state.specs.declared.states.TdiState.TheVariants as tdi
 use Rattle.interface_state.specs.RegisterValues.{has_bit}

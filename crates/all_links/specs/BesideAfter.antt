@@ -28,7 +28,7 @@ use Rattle.interface_host.specs.declared.operation.InterfaceOperation.TheVariant
 use Rattle.interface_host.specs.Views.{HostTdi}
 use Rattle.interface_host.specs.Managers.{stream_keyed, peer_stop, reset_interface_manager}
 use Rattle.trusted_memory.specs.{Leads}
-use Rattle.line_arrivals.specs.{secure_with, LinkEnds, InterfacesView, keyed_if, stopped_if, operated_on}
+use Rattle.line_arrivals.specs.{secure_or_live, LinkEnds, InterfacesView, keyed_if, stopped_if, operated_on}
 use Rattle.line_arrivals.specs.{arrival_of, writes_by, grants_in, EndsView, peer_live, stream_named, AreLinks}
 pub use Rattle.line_arrivals.specs.Follows.{IsSettledOrSame, AllFollow}
 use Rattle.all_links.specs.declared.links.Links.{Links}
@@ -38,7 +38,7 @@ use Rattle.all_links.specs.States.{links_state}
 -- ---- nothing
 
 -- neither manager, nor any device's interfaces, nor memory
-pub record SidesKeep (old new : Links) : Type 0 where
+pub record BesideStays (old new : Links) : Type 0 where
   pub keeper : new.keeper.interfaces ≡ old.keeper.interfaces
   pub peer_draws : new.keeper.peer_draws ≡ old.keeper.peer_draws
   pub devices : (i : ℕ) (l l' : LinkEnds) → slice_get old.ends.links i ≡ Some l → slice_get new.ends.links i ≡ Some l'
@@ -47,7 +47,7 @@ pub record SidesKeep (old new : Links) : Type 0 where
 
 -- ---- arrivals
 
-pub record SidesArrive (plan : Plan) (arrival : LinkState → Option Arrival) (verdict : Verdict) (old new : Links) :
+pub record BesideArrival (plan : Plan) (arrival : LinkState → Option Arrival) (verdict : Verdict) (old new : Links) :
     Type 0 where
   pub keeper : new.keeper.interfaces ≡ old.keeper.interfaces
   pub peer_draws : new.keeper.peer_draws ≡ old.keeper.peer_draws
@@ -93,7 +93,7 @@ peers_drawn operation.Establish line before after draws =
     if nat_le 24 line && not (after == before) then slice_set draws (peer_of line) before else draws
 peers_drawn o line before after draws = draws
 
-pub record SidesOperate (o : Operation) (line stream : ℕ) (verdict : Verdict) (old new : Links) : Type 0 where
+pub record BesideOperation (o : Operation) (line stream : ℕ) (verdict : Verdict) (old new : Links) : Type 0 where
   pub devices : AllFollow old.ends new.ends
   pub contents : new.trusted.contents ≡ old.trusted.contents
   pub unnamed : stream_named old.keeper.keys.manager old.ends line stream ≡ None
@@ -113,16 +113,16 @@ pub record SidesOperate (o : Operation) (line stream : ℕ) (verdict : Verdict) 
 abbrev pub reset_if : Bool → DeviceTdis → DeviceTdis
 reset_if own d = if own then reset_tdis d else d
 
-pub record SidesReset (link : ℕ) (old new : Links) : Type 0 where
+pub record BesideReset (link : ℕ) (old new : Links) : Type 0 where
   pub contents : new.trusted.contents ≡ old.trusted.contents
   pub peer_draws : new.keeper.peer_draws ≡ old.keeper.peer_draws
   pub devices : link < length old.ends.links → (i : ℕ) (l l' : LinkEnds) → slice_get old.ends.links i ≡ Some l
       → slice_get new.ends.links i ≡ Some l' → l'.device.interfaces
-      ≡ settled_interfaces (secure_with l'.device.port (peer_live new.ends i))
+      ≡ settled_interfaces (secure_or_live l'.device.port (peer_live new.ends i))
       (reset_if (i == link) l.device.interfaces)
   pub keeper : link < length old.ends.links
       → new.keeper.interfaces ≡ reset_interface_manager link old.keeper.interfaces
-  pub absent : length old.ends.links ≤ link → SidesKeep old new
+  pub absent : length old.ends.links ≤ link → BesideStays old new
 
 -- ---- events on interfaces
 
@@ -132,10 +132,10 @@ with_device v link l d =
     record v { links = slice_set v.links link (record l { device = record l.device { interfaces = d } }) }
 
 -- the manager and the device's interfaces after an operation of the manager on an interface
-pub record SidesAsk (number : ℕ) (o : InterfaceOperation) (loss : Option Loss) (old new : Links) : Type 0 where
+pub record BesideAsking (number : ℕ) (o : InterfaceOperation) (loss : Option Loss) (old new : Links) : Type 0 where
   pub contents : new.trusted.contents ≡ old.trusted.contents
   pub peer_draws : new.keeper.peer_draws ≡ old.keeper.peer_draws
-  pub unnamed : interface_named old.keeper.interfaces old.ends.links number ≡ None → SidesKeep old new
+  pub unnamed : interface_named old.keeper.interfaces old.ends.links number ≡ None → BesideStays old new
   pub asked : (at : ℕ × ℕ) (l : LinkEnds) (x : HostTdi)
       → interface_named old.keeper.interfaces old.ends.links number ≡ Some at
       → slice_get old.ends.links at.0 ≡ Some l → slice_get old.keeper.interfaces.interfaces number ≡ Some x
@@ -143,12 +143,13 @@ pub record SidesAsk (number : ℕ) (o : InterfaceOperation) (loss : Option Loss)
       (new.keeper.interfaces ≡ e.manager) × (new.ends ≡ with_device old.ends at.0 l e.device)
 
 -- of one on a stream between devices, if there is such an interface, and its device has the stream; its ID is a byte
-pub record SidesPeer (number line stream : ℕ) (o : InterfaceOperation) (loss : Option Loss) (old new : Links) : Type 0
+pub record BesideBinding (number line stream : ℕ) (o : InterfaceOperation) (loss : Option Loss) (old new : Links) : Type
+    0
   where
-    pub late : 256 ≤ stream → SidesKeep old new
-    pub absent : has_peer_in old.keeper old.ends number line stream ≡ false → SidesKeep old new
+    pub late : 256 ≤ stream → BesideStays old new
+    pub absent : has_peer_in old.keeper old.ends number line stream ≡ false → BesideStays old new
     pub asked : stream < 256 → has_peer_in old.keeper old.ends number line stream ≡ true
-        → SidesAsk number o loss old new
+        → BesideAsking number o loss old new
 
 -- a call of one interface of a device, if it meets a test
 abbrev pub called_if : (Tdi → Bool) → LinkEnds → ℕ → Tdi → Call → LinkEnds
@@ -156,55 +157,57 @@ called_if test l place tdi call =
     if test tdi then record l { device = record l.device { interfaces = called_at l.device.interfaces place tdi call } }
     else l
 
-pub record SidesCall (number : ℕ) (test : Tdi → Bool) (call : Call) (old new : Links) : Type 0 where
+pub record BesideCall (number : ℕ) (test : Tdi → Bool) (call : Call) (old new : Links) : Type 0 where
   pub keeper : new.keeper.interfaces ≡ old.keeper.interfaces
   pub peer_draws : new.keeper.peer_draws ≡ old.keeper.peer_draws
   pub contents : new.trusted.contents ≡ old.trusted.contents
-  pub unnamed : interface_named old.keeper.interfaces old.ends.links number ≡ None → SidesKeep old new
+  pub unnamed : interface_named old.keeper.interfaces old.ends.links number ≡ None → BesideStays old new
   pub called : (at : ℕ × ℕ) (l : LinkEnds) (tdi : Tdi)
       → interface_named old.keeper.interfaces old.ends.links number ≡ Some at
       → slice_get old.ends.links at.0 ≡ Some l → slice_get l.device.interfaces.interfaces at.1 ≡ Some tdi
       → new.ends ≡ record old.ends { links = slice_set old.ends.links at.0 (called_if test l at.1 tdi call) }
 
-abbrev pub SidesInterface : InterfaceEvent → Links → Links → Type 0
-SidesInterface (ie.Lock i loss) old new = SidesAsk i op.Lock loss old new
-SidesInterface (ie.Report i loss) old new = SidesAsk i op.Report loss old new
-SidesInterface (ie.Start i loss) old new = SidesAsk i op.Start loss old new
-SidesInterface (ie.Halt i loss) old new = SidesAsk i op.Halt loss old new
-SidesInterface (ie.State i loss) old new = SidesAsk i op.State loss old new
-SidesInterface (ie.Bind i line stream loss) old new =
-    SidesPeer i line stream (op.Bind (managed_peer_stream old.keeper line stream)) loss old new
-SidesInterface (ie.Unbind i line stream loss) old new =
-    SidesPeer i line stream (op.Unbind (managed_peer_stream old.keeper line stream)) loss old new
-SidesInterface (ie.View i) old new = SidesKeep old new
-SidesInterface (ie.Write i register value) old new =
-    SidesCall i (λ tdi. has_register tdi.plan register) (WriteRegister register value) old new
-SidesInterface (ie.Flr i) old new = SidesCall i (λ tdi. true) LevelReset old new
-SidesInterface (ie.Firmware i) old new = SidesCall i (λ tdi. true) FirmwareUpdate old new
-SidesInterface (ie.Memory at len) old new = SidesKeep old new
+abbrev pub BesideInterface : InterfaceEvent → Links → Links → Type 0
+BesideInterface (ie.Lock i loss) old new = BesideAsking i op.Lock loss old new
+BesideInterface (ie.Report i loss) old new = BesideAsking i op.Report loss old new
+BesideInterface (ie.Start i loss) old new = BesideAsking i op.Start loss old new
+BesideInterface (ie.Halt i loss) old new = BesideAsking i op.Halt loss old new
+BesideInterface (ie.State i loss) old new = BesideAsking i op.State loss old new
+BesideInterface (ie.Bind i line stream loss) old new =
+    BesideBinding i line stream (op.Bind (managed_peer_stream old.keeper line stream)) loss old new
+BesideInterface (ie.Unbind i line stream loss) old new =
+    BesideBinding i line stream (op.Unbind (managed_peer_stream old.keeper line stream)) loss old new
+BesideInterface (ie.View i) old new = BesideStays old new
+BesideInterface (ie.Write i register value) old new =
+    BesideCall i (λ tdi. has_register tdi.plan register) (WriteRegister register value) old new
+BesideInterface (ie.Flr i) old new = BesideCall i (λ tdi. true) LevelReset old new
+BesideInterface (ie.Firmware i) old new = BesideCall i (λ tdi. true) FirmwareUpdate old new
+BesideInterface (ie.Memory at len) old new = BesideStays old new
 
 -- ---- all events
 
 abbrev pub arrival_in_state : Plan → Event → LinkState → Option Arrival
 arrival_in_state plan e st = arrival_of plan st e
 
-abbrev pub SidesArriveAt : Plan → Event → Verdict → Links → Links → Type 0
-SidesArriveAt plan e verdict old new = SidesArrive plan (arrival_in_state plan e) verdict old new
+abbrev pub BesideBytes : Plan → Event → Verdict → Links → Links → Type 0
+BesideBytes plan e verdict old new = BesideArrival plan (arrival_in_state plan e) verdict old new
 
-abbrev pub Sides : Plan → Event → Verdict → Links → Links → Type 0
-Sides plan (event.Send port bytes more trusted) verdict old new = SidesKeep old new
-Sides plan (event.Pass n) verdict old new = SidesArriveAt plan (event.Pass n) verdict old new
-Sides plan (event.Alter n at mask) verdict old new = SidesArriveAt plan (event.Alter n at mask) verdict old new
-Sides plan (event.Cut n len) verdict old new = SidesArriveAt plan (event.Cut n len) verdict old new
-Sides plan (event.Arrive port bytes) verdict old new = SidesArriveAt plan (event.Arrive port bytes) verdict old new
-Sides plan (event.Dump n) verdict old new = SidesKeep old new
-Sides plan (event.Establish line stream loss) verdict old new =
-    SidesOperate operation.Establish line stream verdict old new
-Sides plan (event.Refresh line stream loss) verdict old new = SidesOperate operation.Refresh line stream verdict old new
-Sides plan (event.Stop line stream loss) verdict old new = SidesOperate operation.Stop line stream verdict old new
-Sides plan (event.Reset link ends) verdict old new = SidesReset link old new
-Sides plan (event.Status line stream) verdict old new = SidesKeep old new
-Sides plan (event.Interface e) verdict old new = SidesInterface e old new
-Sides plan (event.Access e) verdict old new = SidesKeep old new
-Sides plan (event.Forward link d) verdict old new = SidesKeep old new
-Sides plan event.Absent verdict old new = SidesKeep old new
+abbrev pub BesideAfter : Plan → Event → Verdict → Links → Links → Type 0
+BesideAfter plan (event.Send port bytes more trusted) verdict old new = BesideStays old new
+BesideAfter plan (event.Pass n) verdict old new = BesideBytes plan (event.Pass n) verdict old new
+BesideAfter plan (event.Alter n at mask) verdict old new = BesideBytes plan (event.Alter n at mask) verdict old new
+BesideAfter plan (event.Cut n len) verdict old new = BesideBytes plan (event.Cut n len) verdict old new
+BesideAfter plan (event.Arrive port bytes) verdict old new = BesideBytes plan (event.Arrive port bytes) verdict old new
+BesideAfter plan (event.Dump n) verdict old new = BesideStays old new
+BesideAfter plan (event.Establish line stream loss) verdict old new =
+    BesideOperation operation.Establish line stream verdict old new
+BesideAfter plan (event.Refresh line stream loss) verdict old new = BesideOperation operation.Refresh line stream
+    verdict old new
+BesideAfter plan (event.Stop line stream loss) verdict old new = BesideOperation operation.Stop line stream verdict old
+    new
+BesideAfter plan (event.Reset link ends) verdict old new = BesideReset link old new
+BesideAfter plan (event.Status line stream) verdict old new = BesideStays old new
+BesideAfter plan (event.Interface e) verdict old new = BesideInterface e old new
+BesideAfter plan (event.Access e) verdict old new = BesideStays old new
+BesideAfter plan (event.Forward link d) verdict old new = BesideStays old new
+BesideAfter plan event.Absent verdict old new = BesideStays old new

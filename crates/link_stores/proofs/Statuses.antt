@@ -3,7 +3,7 @@ use Rattle.std.proofs.Common.{◌≡◌, ℕ, suc, zero, ◌+◌, List, [], ◌�
 use Rattle.std.proofs.lemmas.Option.{none-some, same_Some}
 use Rattle.std.specs.Prelude.{slice_get, slice_index}
 use Rattle.interface_state.specs.Machine.{Tdi}
-use Rattle.guarded_memory.specs.Standings.{interface_status}
+use Rattle.guarded_memory.specs.Statuses.{interface_status}
 use Rattle.link_stores.specs.Accesses.{numbered_statuses}
 
 pub as_many : (floors : List ℕ) (n : ℕ) (ts : List Tdi) → length (numbered_statuses floors n ts) ≡ length ts

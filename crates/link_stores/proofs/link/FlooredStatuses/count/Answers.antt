@@ -1,6 +1,6 @@
 use Rattle.std.proofs.Common.{sym, ◌∙◌}
-use Rattle.link_stores.proofs.Standings.{as_many}
-use Rattle.link_stores.proofs.link.FlooredStandings.count.Goals as goal
+use Rattle.link_stores.proofs.Statuses.{as_many}
+use Rattle.link_stores.proofs.link.FlooredStatuses.count.Goals as goal
 
 pub returns : goal.returns
 returns c =

@@ -4,8 +4,8 @@ use Rattle.all_links.proofs.Terms.{◌≡◌, ℕ, ◌+◌, ◌==◌, ◌<◌, n
 use Rattle.all_links.proofs.Terms.{subst, arith, nat_tests, Option, Some, None, slice_get, slice_set, EndsView}
 use Rattle.all_links.proofs.Terms.{none-some, same_Some, true-lt, nat_lt, IsSome, if◌then◌else◌, Verdict, StreamStage}
 use Rattle.all_links.proofs.Terms.{LinkEnds, Links, InterfacesView, ManagerView, Named, named_stream, stream_named}
-use Rattle.all_links.proofs.Terms.{OperatesAt, ResetsAt, PortName, peer_live, port_on, work_of, told_by_line, drawn_at}
-use Rattle.all_links.proofs.Terms.{nat_le, ◌-◌}
+use Rattle.all_links.proofs.Terms.{OperatesAt, ResetsAt, PortName, peer_live, port_on, work_of, told_by_line}
+use Rattle.all_links.proofs.Terms.{drawn_on_line, nat_le, ◌-◌}
 use Rattle.std.proofs.Common.{◌&&◌}
 use Rattle.std.specs.Prelude.{IfSome}
 use Rattle.link_events.specs.declared.event.Loss.{Loss}
@@ -18,14 +18,15 @@ use Rattle.tsm_host.specs.Operations.{OpName, op_name}
 use Rattle.tsm_host.specs.Walk.{verdict_of}
 use Rattle.interface_state.specs.Machine.{Tdi, Call}
 use Rattle.interface_host.specs.declared.operation.InterfaceOperation.{InterfaceOperation}
-use Rattle.interface_host.specs.declared.operation.InterfaceOutcome.{InterfaceOutcome as Outcome'}
+use Rattle.interface_host.specs.declared.operation.InterfaceOutcome.{InterfaceOutcome}
 use Rattle.interface_host.specs.Managers.{reset_interface_manager}
 use Rattle.interface_ends.specs.Keepers.{Ended}
-use Rattle.line_arrivals.specs.{operated_on, HostKeeper, AsksAt, CallsAt, told_by_place, drawn_in, line_place}
-use Rattle.line_arrivals.specs.{LinePlace, Link, Near, Pair, secure_with, manager_told}
+use Rattle.line_arrivals.specs.{operated_on, HostKeeper, AsksAt, CallsAt, told_by_place, drawn_at_place, line_place}
+use Rattle.line_arrivals.specs.{LinePlace, Link, Near, Pair, secure_or_live, manager_told}
 use Rattle.all_links.specs.Interfaces.{interface_named, has_peer_in}
-use Rattle.all_links.specs.Sides.{SidesKeep, told_on_line, peers_drawn, SidesOperate, SidesReset, SidesAsk, SidesPeer}
-use Rattle.all_links.specs.Sides.{called_if, SidesCall, told_by_link, told_by_peer, works_on, reset_if}
+use Rattle.all_links.specs.BesideAfter.{BesideStays, told_on_line, peers_drawn, BesideOperation, BesideReset}
+use Rattle.all_links.specs.BesideAfter.{BesideAsking, BesideBinding, called_if, BesideCall, told_by_link, told_by_peer}
+use Rattle.all_links.specs.BesideAfter.{works_on, reset_if}
 use Rattle.all_links.proofs.Asked.{if_some, is_found, set_back, with_interfaces}
 use Rattle.all_links.proofs.Settled.{all_same, reset_device, operated_follow}
 use Rattle.ide_types.specs.Ports.{host_port}
@@ -35,7 +36,7 @@ use Rattle.interface_ends.specs.Replies.{settled_interfaces}
 -- ---- nothing
 
 pub keeps_with : (old new : Links) → new.ends.links ≡ old.ends.links → new.keeper ≡ old.keeper
-    → new.trusted.contents ≡ old.trusted.contents → SidesKeep old new
+    → new.trusted.contents ≡ old.trusted.contents → BesideStays old new
 keeps_with old new ends keeper contents = record {
   keeper = ap (λ (k : HostKeeper). k.interfaces) keeper;
   peer_draws = ap (λ (k : HostKeeper). k.peer_draws) keeper;
@@ -45,7 +46,7 @@ keeps_with old new ends keeper contents = record {
   contents = contents;
 }
 
-pub keeps_all : {old new : Links} → new ≡ record old { steps = old.steps + 1 } → SidesKeep old new
+pub keeps_all : {old new : Links} → new ≡ record old { steps = old.steps + 1 } → BesideStays old new
 keeps_all {old} {new} is =
     keeps_with old new (ap (λ (s : Links). s.ends.links) is) (ap (λ (s : Links). s.keeper) is)
     (ap (λ (s : Links). s.trusted.contents) is)
@@ -53,7 +54,7 @@ keeps_all {old} {new} is =
 -- ---- resets
 
 pub nothing_resets : {old new : Links} (link : ℕ) → false ≡ nat_lt link (length old.ends.links)
-    → new ≡ record old { steps = old.steps + 1 } → SidesReset link old new
+    → new ≡ record old { steps = old.steps + 1 } → BesideReset link old new
 nothing_resets {old} {new} link nowhere is = record {
   contents = ap (λ (s : Links). s.trusted.contents) is;
   peer_draws = ap (λ (s : Links). s.keeper.peer_draws) is;
@@ -65,7 +66,7 @@ nothing_resets {old} {new} link nowhere is = record {
 pub reset_beside : (old : Links) (link : ℕ) (es : List PortName) (ends : EndsView) (k : HostKeeper)
     → nat_lt link (length old.ends.links) ≡ true → ResetsAt old.ends link es ends
     → k.interfaces ≡ reset_interface_manager link old.keeper.interfaces → k.peer_draws ≡ old.keeper.peer_draws
-    → SidesReset link old (record old { ends = ends; keeper = k; steps = old.steps + 1 })
+    → BesideReset link old (record old { ends = ends; keeper = k; steps = old.steps + 1 })
 reset_beside old link es ends k here ends_are keeper draws =
     let lt : link < length old.ends.links = true-lt link (length old.ends.links) here in
     record {
@@ -73,7 +74,7 @@ reset_beside old link es ends k here ends_are keeper draws =
       peer_draws = draws;
       devices = λ there i l l' at at'.
           subst (λ (v : EndsView). l'.device.interfaces ≡ settled_interfaces
-          (secure_with l'.device.port (peer_live v i))
+          (secure_or_live l'.device.port (peer_live v i))
           (reset_if (i == link) l.device.interfaces)) (sym ends_are)
           (reset_device old.ends link es i l l' at
           (ap (λ (v : EndsView). slice_get v.links i) (sym ends_are) ∙ at'));
@@ -85,7 +86,7 @@ reset_beside old link es ends k here ends_are keeper draws =
 
 pub nothing_asked : {old new : Links} (n : ℕ) (o : InterfaceOperation) (loss : Option Loss)
     → None ≡ interface_named old.keeper.interfaces old.ends.links n → new ≡ record old { steps = old.steps + 1 }
-    → SidesAsk n o loss old new
+    → BesideAsking n o loss old new
 nothing_asked {old} {new} n o loss nowhere is = record {
   contents = ap (λ (s : Links). s.trusted.contents) is;
   peer_draws = ap (λ (s : Links). s.keeper.peer_draws) is;
@@ -94,10 +95,10 @@ nothing_asked {old} {new} n o loss nowhere is = record {
 }
 
 pub asked_beside : (old new : Links) (n : ℕ) (at : ℕ × ℕ) (o : InterfaceOperation) (loss : Option Loss)
-    (outcome : Outcome')
+    (outcome : InterfaceOutcome)
     (ends : EndsView) (k : HostKeeper) → Some at ≡ interface_named old.keeper.interfaces old.ends.links n
     → AsksAt old.ends at.0 old.keeper n o loss outcome ends k
-    → new ≡ record old { ends = ends; keeper = k; steps = old.steps + 1 } → SidesAsk n o loss old new
+    → new ≡ record old { ends = ends; keeper = k; steps = old.steps + 1 } → BesideAsking n o loss old new
 asked_beside old new n at o loss outcome ends k here asks is = record {
   contents = ap (λ (s : Links). s.trusted.contents) is;
   peer_draws = (let f = is_found old.keeper.interfaces old.ends n at here in
@@ -118,7 +119,7 @@ asked_beside old new n at o loss outcome ends k here asks is = record {
 -- one on a stream between devices that is not there, and one on one that is
 pub no_peer_beside : {old new : Links} (n line stream : ℕ) (o : InterfaceOperation) (loss : Option Loss)
     → (nat_lt stream 256 && has_peer_in old.keeper old.ends n line stream) ≡ false
-    → new ≡ record old { steps = old.steps + 1 } → SidesPeer n line stream o loss old new
+    → new ≡ record old { steps = old.steps + 1 } → BesideBinding n line stream o loss old new
 no_peer_beside {old} {new} n line stream o loss none is = record {
   late = λ most. keeps_all is;
   absent = λ no. keeps_all is;
@@ -131,8 +132,8 @@ no_peer_beside {old} {new} n line stream o loss none is = record {
         let both : true ≡ false = sym (λ i. low i && has i) ∙ none in cc
 
 pub peer_beside : (old new : Links) (n line stream : ℕ) (o : InterfaceOperation) (loss : Option Loss) → stream < 256
-    → has_peer_in old.keeper old.ends n line stream ≡ true → SidesAsk n o loss old new
-    → SidesPeer n line stream o loss old new
+    → has_peer_in old.keeper old.ends n line stream ≡ true → BesideAsking n o loss old new
+    → BesideBinding n line stream o loss old new
 peer_beside old new n line stream o loss small has x = record {
   late = λ most. absurd (omega (arith, small, most));
   absent = λ none. absurd (let both : true ≡ false = sym has ∙ none in cc);
@@ -143,7 +144,7 @@ peer_beside old new n line stream o loss small has x = record {
 
 pub nothing_called : {old new : Links} (n : ℕ) (test : Tdi → Bool) (call : Call)
     → None ≡ interface_named old.keeper.interfaces old.ends.links n → new ≡ record old { steps = old.steps + 1 }
-    → SidesCall n test call old new
+    → BesideCall n test call old new
 nothing_called {old} {new} n test call nowhere is = record {
   keeper = ap (λ (s : Links). s.keeper.interfaces) is;
   peer_draws = ap (λ (s : Links). s.keeper.peer_draws) is;
@@ -160,7 +161,7 @@ Tests v at test b = (l : LinkEnds) (tdi : Tdi) → slice_get v.links at.0 ≡ So
 pub called_beside : (old new : Links) (n : ℕ) (at : ℕ × ℕ) (test : Tdi → Bool) (call : Call) (code : ℕ)
     (ends : EndsView) → Some at ≡ interface_named old.keeper.interfaces old.ends.links n → Tests old.ends at test true
     → CallsAt old.ends at.0 at.1 call code ends → new ≡ record old { ends = ends; steps = old.steps + 1 }
-    → SidesCall n test call old new
+    → BesideCall n test call old new
 called_beside old new n at test call code ends here tests calls is = record {
   keeper = ap (λ (s : Links). s.keeper.interfaces) is;
   peer_draws = ap (λ (s : Links). s.keeper.peer_draws) is;
@@ -178,7 +179,7 @@ called_beside old new n at test call code ends here tests calls is = record {
 
 pub not_called : (old new : Links) (n : ℕ) (at : ℕ × ℕ) (test : Tdi → Bool) (call : Call)
     → Some at ≡ interface_named old.keeper.interfaces old.ends.links n → Tests old.ends at test false
-    → new ≡ record old { steps = old.steps + 1 } → SidesCall n test call old new
+    → new ≡ record old { steps = old.steps + 1 } → BesideCall n test call old new
 not_called old new n at test call here tests is = record {
   keeper = ap (λ (s : Links). s.keeper.interfaces) is;
   peer_draws = ap (λ (s : Links). s.keeper.peer_draws) is;
@@ -259,7 +260,7 @@ module _ (q : StreamStage) (before after : ℕ) (m : InterfacesView) where
       by false is = told_other c (work_of (op_name c).operation q 0).begins result (nat_lt (op_name c).line 16) refl
 
 drawn_here : (c : OpCall) (before after : ℕ) (draws : List ℕ)
-    → drawn_at (op_name c).line c (not (after == before)) before draws
+    → drawn_on_line (op_name c).line c (not (after == before)) before draws
     ≡ peers_drawn (op_name c).operation (op_name c).line before after draws
 drawn_here (call.Establish line id) before after draws = by (nat_lt line 8) refl
   where
@@ -267,32 +268,33 @@ drawn_here (call.Establish line id) before after draws = by (nat_lt line 8) refl
     drawn b = if b && not (after == before) then slice_set draws (peer_of line) before else draws
 
     behind : (b : Bool) → nat_lt line 16 ≡ b
-        → drawn_in (if b then Near (line - 8) else Pair (line - 16)) (call.Establish line id) (not (after == before))
+        → drawn_at_place (if b then Near (line - 8) else Pair (line - 16)) (call.Establish line id)
+        (not (after == before))
         before draws ≡ drawn (nat_le 24 line)
     behind true is = sym (ap drawn (not_peers line is))
     behind false is = refl
 
     by : (b : Bool) → nat_lt line 8 ≡ b
-        → drawn_in (if b then Link line else if nat_lt line 16 then Near (line - 8) else Pair (line - 16))
+        → drawn_at_place (if b then Link line else if nat_lt line 16 then Near (line - 8) else Pair (line - 16))
         (call.Establish line id) (not (after == before)) before draws ≡ drawn (nat_le 24 line)
     by true is = sym (ap drawn (not_peers line (grind (arith, nat_tests, is))))
     by false is = behind (nat_lt line 16) refl
 drawn_here (call.Refresh line id) before after draws = by (line_place line)
   where
-    by : (place : LinePlace) → drawn_in place (call.Refresh line id) (not (after == before)) before draws ≡ draws
+    by : (place : LinePlace) → drawn_at_place place (call.Refresh line id) (not (after == before)) before draws ≡ draws
     by (Link i) = refl
     by (Near i) = refl
     by (Pair i) = refl
 drawn_here (call.Stop line id) before after draws = by (line_place line)
   where
-    by : (place : LinePlace) → drawn_in place (call.Stop line id) (not (after == before)) before draws ≡ draws
+    by : (place : LinePlace) → drawn_at_place place (call.Stop line id) (not (after == before)) before draws ≡ draws
     by (Link i) = refl
     by (Near i) = refl
     by (Pair i) = refl
 
 pub nothing_operates : {old new : Links} (operation : Operation) (line id : ℕ) (verdict : Verdict)
     → None ≡ stream_named old.keeper.keys.manager old.ends line id
-    → new ≡ record old { steps = old.steps + 1 } → SidesOperate operation line id verdict old new
+    → new ≡ record old { steps = old.steps + 1 } → BesideOperation operation line id verdict old new
 nothing_operates {old} {new} operation line id verdict nowhere is = record {
   devices = all_same old.ends new.ends (ap (λ (s : Links). s.ends) is);
   contents = ap (λ (s : Links). s.trusted.contents) is;
@@ -304,7 +306,7 @@ nothing_operates {old} {new} operation line id verdict nowhere is = record {
 -- an operation that there is not on the line
 pub not_operated : {old new : Links} (operation : Operation) (line id : ℕ) (verdict : Verdict)
     → works_on operation line ≡ false → new ≡ record old { steps = old.steps + 1 }
-    → SidesOperate operation line id verdict old new
+    → BesideOperation operation line id verdict old new
 not_operated {old} {new} operation.Establish line id verdict not is = absurd cc
 not_operated {old} {new} operation.Stop line id verdict not is = absurd cc
 not_operated {old} {new} operation.Refresh line id verdict not is = record {
@@ -335,10 +337,10 @@ pub operated_beside : (old : Links) (ends : EndsView) (k : HostKeeper) (c : OpCa
     → IfSome (named_stream old.keeper.keys.manager (op_name c).line (op_name c).stream) (λ (n : Named).
     k.interfaces ≡ told_by_line (op_name c).line c (work_of (op_name c).operation n.stream.op 0).begins
     (not (k.keys.pool.draws == old.keeper.keys.pool.draws)) old.keeper.keys.pool.draws result old.keeper.interfaces)
-    → k.peer_draws ≡ drawn_at (op_name c).line c (not (k.keys.pool.draws == old.keeper.keys.pool.draws))
+    → k.peer_draws ≡ drawn_on_line (op_name c).line c (not (k.keys.pool.draws == old.keeper.keys.pool.draws))
     old.keeper.keys.pool.draws old.keeper.peer_draws
     → verdict_of operation line id loss result ≡ Some verdict
-    → SidesOperate operation line id verdict old (record old { ends = ends; keeper = k; steps = old.steps + 1 })
+    → BesideOperation operation line id verdict old (record old { ends = ends; keeper = k; steps = old.steps + 1 })
 operated_beside old ends k c operation line id loss result verdict found here name operates tells draws says =
     let m : ManagerView = old.keeper.keys.manager in
     let before : ℕ = old.keeper.keys.pool.draws in

@@ -4,8 +4,7 @@ ghost use Rattle.std.specs.Prelude.{◌≡◌};
 ghost use Rattle.interface_host.specs.Facts.{reported_in};
 ghost use Rattle.interface_host.specs.Judging.{answer_shown};
 ghost use Rattle.interface_host.specs.Views.{seen_of_managed, IsUnlocked, seen_after_lock, reported_view, started_view};
-ghost use Rattle.interface_host.specs.Views.{compared_view};
-ghost use Rattle.interface_host.specs.Views.{seen_after_step, broken_view};
+ghost use Rattle.interface_host.specs.Views.{compared_view, seen_after_step, broken_view};
 
 use crate::judge::Answer;
 use crate::step::Step;
@@ -72,7 +71,7 @@ impl ManagedTdi {
     {
         match self {
             ManagedTdi::Unlocked(tdi) => ManagedTdi::Locked(tdi.lock(nonce)),
-            standing => standing,
+            managed => managed,
         }
     }
 
@@ -82,7 +81,7 @@ impl ManagedTdi {
     {
         match self {
             ManagedTdi::Locked(tdi) => ManagedTdi::Locked(tdi.report()),
-            standing => standing,
+            managed => managed,
         }
     }
 
@@ -92,7 +91,7 @@ impl ManagedTdi {
     {
         match self {
             ManagedTdi::Locked(tdi) => ManagedTdi::Running(tdi.start(draw)),
-            standing => standing,
+            managed => managed,
         }
     }
 
@@ -115,7 +114,7 @@ impl ManagedTdi {
                     ManagedTdi::Broken(Tdi::broken())
                 }
             }
-            standing => standing,
+            managed => managed,
         }
     }
 

@@ -5,7 +5,7 @@ use Rattle.spec_interfaces.specs.Sites.{sites}
 use Rattle.spec_keys.specs.History.{History}
 use Rattle.machine_whole.specs.Accesses.{face_statuses}
 use Rattle.world.specs.{AreLinks, WorldStandsFor, WholeLinks, world_of}
-use Rattle.world.proofs.{standings_are}
+use Rattle.world.proofs.{statuses_are}
 use Rattle.ide_why.specs.Reading.{statuses_read}
 
 module _ (plan : Plan) (s : WholeLinks) (links : AreLinks plan s.links.ends s.links.keeper.keys)
@@ -13,5 +13,5 @@ module _ (plan : Plan) (s : WholeLinks) (links : AreLinks plan s.links.ends s.li
   where
     pub stand : (link : ℕ) → statuses_read s link
         ≡ face_statuses link (sites plan) stood.whole.faces.list stood.whole.accesses.floors
-    stand link = standings_are plan s.links.ends.links s.links.keeper.interfaces s.links.trusted.contents stood.whole
+    stand link = statuses_are plan s.links.ends.links s.links.keeper.interfaces s.links.trusted.contents stood.whole
         stood.is.beside links.fits links.many s.accesses whole stood.is.accesses link

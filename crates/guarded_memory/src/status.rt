@@ -2,8 +2,8 @@
 
 ghost use Rattle.std.specs.Prelude.{◌≡◌};
 ghost use Rattle.interface_state.specs.RegisterValues.{has_bit};
-ghost use Rattle.guarded_memory.specs.Standings.{is_open_range, has_open_range};
-ghost use Rattle.guarded_memory.specs.Standings.{is_config_unlocked, is_in_run, state_of_interface, interface_status};
+ghost use Rattle.guarded_memory.specs.Statuses.{is_open_range, has_open_range};
+ghost use Rattle.guarded_memory.specs.Statuses.{is_config_unlocked, is_in_run, state_of_interface, interface_status};
 
 use ide_types::BarPlan;
 use interface_state::{Bindings, Interface, Register, TdiState};
@@ -90,7 +90,7 @@ impl InterfaceStatus {
         ensures { result ≡ interface_status interface.now floor }
     {
         InterfaceStatus {
-            state: InterfaceState::of(interface.standing()),
+            state: InterfaceState::of(interface.status()),
             memory_space: has_memory_space(interface),
             bars: interface.bars(),
             bound: interface.bindings(floor),
