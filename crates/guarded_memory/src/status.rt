@@ -90,7 +90,7 @@ impl InterfaceStatus {
         ensures { result ≡ interface_status interface.now floor }
     {
         InterfaceStatus {
-            state: InterfaceState::of(interface.status()),
+            state: InterfaceState::of(interface.state_with_lock()),
             memory_space: has_memory_space(interface),
             bars: interface.bars(),
             bound: interface.bindings(floor),
