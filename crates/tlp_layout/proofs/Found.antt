@@ -6,7 +6,7 @@ use Rattle.std.proofs.lemmas.List.{take_all}
 use Rattle.tlp_layout.specs.{Layout, HeadView, body_size, TlpFault, SpellsHead, head_size, layout_of_byte, fault_at}
 use Rattle.tlp_layout.specs.{IsFault, IsHeadFault, head_of, rest_size, whole_size, may_follow, SpellsTlp, with_payload}
 use Rattle.tlp_layout.specs.declared.fault.TlpFault.TheVariants as faults
-use Rattle.tlp_layout.specs.Inside.{Agrees, GoesOff, GoesOffAt}
+use Rattle.tlp_layout.specs.Inside.{Agrees, TlpGoesOff, TlpGoesOffAt}
 use Rattle.ide_types.proofs.Cells.{IsBytes}
 use Rattle.tlp_layout.proofs.Heads.{back, head_size_at_least}
 use Rattle.tlp_layout.proofs.Walk.{IsWalked, fits_from, agrees_there}
@@ -19,14 +19,14 @@ no_kind : (o : Option Layout) → o ≡ None → is_some o ≡ true → ⊥
 no_kind None e t = absurd cc
 no_kind (Some k) e t = absurd cc
 
-stops_short : (s : List ℕ) (f : TlpFault) (place : ℕ) → GoesOffAt s f place → place < head_size (get_or s 0 0)
+stops_short : (s : List ℕ) (f : TlpFault) (place : ℕ) → TlpGoesOffAt s f place → place < head_size (get_or s 0 0)
 stops_short s f place h = elim (cases_eq place 0) [
   | inl none ↦ omega (arith, head_size_at_least (get_or s 0 0))
   | inr some ↦ (h.behind (omega arith)).2
 ]
 
 stops_end : (size : List ℕ → ℕ) (s : List ℕ) (f : TlpFault) (place : ℕ) → place ≤ size s → IsBytes s
-    → GoesOffAt s f place
+    → TlpGoesOffAt s f place
     → EndsAt size may_follow s place
 stops_end size s f place sized fit h = record {
   within = h.within;
@@ -49,7 +49,7 @@ stops_end size s f place sized fit h = record {
   ];
 }
 
-pub head_fault : (s : List ℕ) (f : TlpFault) → IsBytes s → GoesOff s f → IsHeadFault s f
+pub head_fault : (s : List ℕ) (f : TlpFault) → IsBytes s → TlpGoesOff s f → IsHeadFault s f
 head_fault s f fit h =
     let short = stops_short s f h.0 h.1 in (
       h.0,
@@ -57,7 +57,7 @@ head_fault s f fit h =
       h.1.cause,
     )
 
-pub tlp_fault : (s : List ℕ) (f : TlpFault) → IsBytes s → GoesOff s f → IsFault s f
+pub tlp_fault : (s : List ℕ) (f : TlpFault) → IsBytes s → TlpGoesOff s f → IsFault s f
 tlp_fault s f fit h =
     let short = stops_short s f h.0 h.1 in
     (h.0, place_of tlps s h.0 (stops_end whole_size s f h.0 (omega arith) fit h.1) (λ _. omega arith), h.1.cause)

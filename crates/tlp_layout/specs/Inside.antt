@@ -9,7 +9,7 @@ Agrees layout s n =
     (i : ℕ) → 0 < i → i < n → is_allowed_byte layout (head_size (slice_index s 0)) i (slice_index s i) ≡ true
 
 -- the bytes go off a header at this place
-pub record GoesOffAt (s : List ℕ) (fault : TlpFault) (place : ℕ) : Type 0 where
+pub record TlpGoesOffAt (s : List ℕ) (fault : TlpFault) (place : ℕ) : Type 0 where
   pub within : place ≤ length s
   pub cause : fault ≡ fault_at s place
   pub first : place ≡ 0 → place < length s → layout_of_byte (slice_index s 0) ≡ None
@@ -17,5 +17,5 @@ pub record GoesOffAt (s : List ℕ) (fault : TlpFault) (place : ℕ) : Type 0 wh
       × (place < head_size (slice_index s 0)) × Agrees layout s place
       × (place < length s → is_allowed_byte layout (head_size (slice_index s 0)) place (slice_index s place) ≡ false)
 
-abbrev pub GoesOff : List ℕ → TlpFault → Type 0
-GoesOff s fault = (place : ℕ) × GoesOffAt s fault place
+abbrev pub TlpGoesOff : List ℕ → TlpFault → Type 0
+TlpGoesOff s fault = (place : ℕ) × TlpGoesOffAt s fault place

@@ -8,7 +8,7 @@ ghost use Rattle.tlp_layout.specs.Causes.{layout_of_byte as layout_named, head_s
 ghost use Rattle.tlp_layout.specs.Faults.{IsFault, IsHeadFault};
 ghost use Rattle.tlp_layout.specs.Reading.{read_of, read_head_of, head_of, lead_of, fields_of, address_read};
 ghost use Rattle.tlp_layout.specs.Reading.{number_at as number_named, tag_at as tag_named};
-ghost use Rattle.tlp_layout.specs.Inside.{Agrees, GoesOff};
+ghost use Rattle.tlp_layout.specs.Inside.{Agrees, TlpGoesOff};
 ghost use Rattle.tlp_layout.specs.declared.tlp.Tlp.{Tlp};
 ghost use Rattle.tlp_layout.specs.declared.head.Fields.TheVariants.{Memory, Config, Message, Completion};
 ghost use Rattle.tlp_layout.specs.declared.layout.Layout.TheVariants as layouts;
@@ -28,7 +28,7 @@ fn head_at(bytes: &[u8]) -> Result<(Layout, usize), TlpFault>
     ensures size { IfOk result (λ x.
         (x.1 ≡ size_named (slice_index bytes.now 0)) × (x.1 ≤ length bytes.now)) }
     ensures agrees { IfOk result (λ x. Agrees x.0 bytes.now x.1) }
-    ensures goes_off { IfErr result (GoesOff bytes.now) }
+    ensures goes_off { IfErr result (TlpGoesOff bytes.now) }
 {
     if bytes.is_empty() {
         return Err(TlpFault::Short(0));
