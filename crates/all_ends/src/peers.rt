@@ -5,14 +5,11 @@ ghost use Rattle.spec_interfaces.specs.Peers.{peer_end, has_peer, live_by_id};
 ghost use Rattle.all_ends.specs.Ends.{live_at_port, live_of, end_named};
 
 use ide_port::Port;
-use ide_types::{PeerPlan, Side, StreamStatus, SubKind};
+use ide_types::{FIRST_PEER_LINE, PeerPlan, Side, StreamStatus, SubKind};
 use link_ends::{PairEnds, PeerStreams};
 
 /// The first line that is keyed by messages at both ends.
 const FIRST_PAIR_LINE: usize = 16;
-
-/// The line of the first stream between devices.
-const FIRST_PEER_LINE: usize = 24;
 
 /// The streams between a link's device and others, by their ends.
 #[derive(Clone, Copy)]
@@ -47,7 +44,7 @@ pub fn has_peer(peers: &[PeerPlan], link: u8, line: u64, stream: u64) -> bool
 {
     match peer_end(peers, link as usize, stream) {
         None => false,
-        Some((_, number)) => (FIRST_PEER_LINE + number) as u64 == line,
+        Some((_, number)) => (FIRST_PEER_LINE as usize + number) as u64 == line,
     }
 }
 
@@ -69,7 +66,7 @@ fn live_of(pairs: &[PairEnds], side: Side, number: usize, stream: u8) -> Option<
     requires { number < 2 ^ 61 }
     ensures { result ≡ live_of pairs.now (end_named (side, number)) stream }
 {
-    match pairs.get(FIRST_PEER_LINE + number - FIRST_PAIR_LINE) {
+    match pairs.get(FIRST_PEER_LINE as usize + number - FIRST_PAIR_LINE) {
         None => None,
         Some(ends) => live_at_port(&ends.end(side).port, stream),
     }

@@ -7,7 +7,7 @@ ghost use Rattle.link_events.specs.Interfaces.{IsAllowedInterface};
 ghost use Rattle.ide_types.specs.RegisterNames.{width_of};
 
 use crate::links::Links;
-use ide_types::{Bytes, InterfaceVerdict, OutOfMemory, Register, SubKind};
+use ide_types::{Bytes, FIRST_PEER_LINE, InterfaceVerdict, OutOfMemory, Register, SubKind};
 use interface_host::{InterfaceOperation, PeerStream};
 use line_arrivals::asked_verdict;
 use link_events::{Event, InterfaceEvent, Loss};
@@ -16,9 +16,6 @@ use std::alloc::Global;
 
 /// The most bytes of a report.
 const MOST_REPORT: usize = 1_140;
-
-/// The first line of a stream between devices.
-const FIRST_PEER_LINE: u64 = 24;
 
 impl Links {
     ghost use Rattle.ide_types.specs.declared.plan.Plan.{Plan as PlanView};
@@ -142,7 +139,7 @@ impl Links {
             None => None,
             Some((link, _)) => {
                 if self.ends.has_peer(link, line, stream) {
-                    let number = (line - FIRST_PEER_LINE) as usize;
+                    let number = (line - u64::from(FIRST_PEER_LINE)) as usize;
                     let draw = self.keeper.peer_draws[number];
                     let line = line as u8;
                     let id = stream as u8;

@@ -6,6 +6,9 @@ ghost use Rattle.ide_types.specs.Names.{kind_word};
 
 use std::fmt;
 
+/// The line of the first stream between devices: that of stream P is P more (this profile).
+pub const FIRST_PEER_LINE: u8 = 24;
+
 /// What a line is: a link, one of the two segments of a link's hop, or a stream between two devices (this profile).
 #[derive(Clone, Copy, PartialEq, Eq)]
 pub enum LineKind {

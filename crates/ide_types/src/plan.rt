@@ -1,5 +1,9 @@
 //! A topology, and its links.
 
+ghost use Rattle.std.specs.Prelude.{◌≡◌, option_map, slice_get};
+ghost use Rattle.ide_types.specs.Plans.{has_stream_id};
+ghost use Rattle.ide_types.specs.Ends.{link_hop, own_has_id};
+
 use crate::{InterfacePlan, Items, StreamPlan};
 
 /// What there is before the first event of a run (this profile).
@@ -20,6 +24,34 @@ pub struct Plan {
     pub memory: Items<Region>,
     /// The streams between two devices, by their number; up to 8 of them.
     pub peers: Items<PeerPlan>,
+}
+
+fn has_stream(streams: &[StreamPlan], id: u64) -> bool
+    ensures { result ≡ has_stream_id streams.now id }
+{
+    streams.iter().any(|stream| u64::from(stream.id) == id)
+}
+
+impl Plan {
+    /// Whether a link has the stream of its own; false if there is no such link.
+    pub fn own_has(&self, link: u64, id: u64) -> bool
+        ensures { result ≡ own_has_id (slice_get self.now.links link) id }
+    {
+        match self.links.as_slice().get(link as usize) {
+            None => false,
+            Some(link) => has_stream(link.streams.as_slice(), id),
+        }
+    }
+
+    /// The hop of a link, if there is one.
+    pub fn hop(&self, link: u64) -> Option<&HopPlan>
+        ensures { option_map (λ o. o.now) result ≡ link_hop (slice_get self.now.links link) }
+    {
+        match self.links.as_slice().get(link as usize) {
+            None => None,
+            Some(link) => link.hop.as_ref(),
+        }
+    }
 }
 
 /// A link: a host's port and a device's (PCI Express Base 6.0 section 6.33 and chapter 11, in this profile).

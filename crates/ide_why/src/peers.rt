@@ -12,15 +12,12 @@ ghost use Rattle.ide_why.specs.Facts.{bind_read, shown_read, state_of_whole};
 ghost use Rattle.ide_why.specs.Reading.{bindings_read, tdi_read};
 
 use crate::reader::Reader;
-use ide_types::OutOfMemory;
+use ide_types::{FIRST_PEER_LINE, OutOfMemory};
 use interface_state::Interface;
 use why_facts::{
     FaceSeen, Fact, InterfaceFact, ManagerState, OperationFact, manager_state, push_bar_of,
     push_draw, push_live, push_of_interface, push_of_operation, push_takes,
 };
-
-/// The line of the first stream between devices.
-const FIRST_PEER_LINE: u64 = 24;
 
 impl Reader<'_> {
     // The interface of a number as its device keeps it; `None` if there is none.
@@ -74,7 +71,7 @@ impl Reader<'_> {
         requires few { line < 32 }
         ensures { result ≡ slice_index_or self.now.links.now.links.keeper.peer_draws (peer_of line) 0 }
     {
-        self.links.links.keeper.peer_draws[(line - FIRST_PEER_LINE) as usize]
+        self.links.links.keeper.peer_draws[(line - u64::from(FIRST_PEER_LINE)) as usize]
     }
 
     /// Appends what a binding of an interface to a stream between devices looks at, if its device has the stream.

@@ -1,16 +1,16 @@
 //! Which ends arriving bytes meet.
 
 ghost use Rattle.std.specs.Prelude.{◌≡◌, ◌≤◌, length, slice_get};
-ghost use Rattle.ide_types.specs.Plans.{has_stream_id, hop_has_id as hop_has_its};
+ghost use Rattle.ide_types.specs.Plans.{hop_has_id as hop_has_its};
 ghost use Rattle.ide_types.specs.Ends.{end_at_port as end_on_port, peer_end as end_of_peer};
-ghost use Rattle.ide_types.specs.Ends.{link_hop, own_has_id as own_has_its, peer_end_at as end_of_peer_at};
+ghost use Rattle.ide_types.specs.Ends.{link_hop, peer_end_at as end_of_peer_at};
 ghost use Rattle.spec_links.specs.Ports.{id_in as id_of, end_reached as reached_by, goes_through as is_through};
 ghost use Rattle.line_routes.specs.Rows.{hop_line_has as hop_line_has_id, lacks_hop_stream};
 
-use crate::ports::{at_switch, hop, port_of};
+use crate::ports::{at_switch, port_of};
 use crate::sends::hop_end;
 use ide_prefix::PACKET_FIRST;
-use ide_types::{PeerPlan, Plan, PortName, Side, StreamPlan, ValidPlan, port_at};
+use ide_types::{PeerPlan, Plan, PortName, Side, ValidPlan, port_at};
 
 // The stream ID of a packet's bytes.
 #[tactic(auto, unfolding(spec_links::specs::Ports::id_in))]
@@ -29,17 +29,11 @@ fn id_in(bytes: &[u8]) -> Option<u8>
     }
 }
 
-fn has_stream(streams: &[StreamPlan], id: u8) -> bool
-    ensures { result ≡ has_stream_id streams.now id }
-{
-    streams.iter().any(|stream| stream.id == id)
-}
-
 // Whether the hop of a link has the stream.
 fn hop_has(plan: &Plan, link: u8, id: u8) -> bool
     ensures { result ≡ hop_has_its (link_hop (slice_get plan.now.links link)) id }
 {
-    match hop(plan, link) {
+    match plan.hop(u64::from(link)) {
         None => false,
         Some(hop) => hop.id == id,
     }
@@ -79,15 +73,6 @@ fn peer_end_at(peers: &[PeerPlan], port: PortName, id: u8) -> PortName
     }
 }
 
-fn own_has(plan: &Plan, link: u8, id: u8) -> bool
-    ensures { result ≡ own_has_its (slice_get plan.now.links link) id }
-{
-    match plan.links.as_slice().get(link as usize) {
-        None => false,
-        Some(link) => has_stream(link.streams.as_slice(), id),
-    }
-}
-
 // The end, at this port, of the line that has the stream; if none has it the port itself.
 fn end_at_port(plan: &Plan, port: PortName, id: u8) -> PortName
     requires { length plan.now.peers ≤ 8 }
@@ -95,7 +80,7 @@ fn end_at_port(plan: &Plan, port: PortName, id: u8) -> PortName
 {
     if port.line >= 8 {
         port
-    } else if own_has(plan, port.line, id) {
+    } else if plan.own_has(u64::from(port.line), u64::from(id)) {
         port
     } else if hop_has(plan, port.line, id) {
         hop_end(port.side, port.line)

@@ -5,14 +5,13 @@ ghost use Rattle.spec_keys.specs.Places.{is_cut};
 ghost use Rattle.spec_links.specs.Hops.{has_hop as has_hop_in, leaving_end as leaving_end_of};
 ghost use Rattle.spec_links.specs.Hops.{clears_hop as clears_hop_of};
 
-use crate::ports::hop;
 use ide_types::{Direction, PortName, Side, ValidPlan};
 
 /// Whether a link has a hop (this profile).
 pub fn has_hop(plan: &ValidPlan, link: u64) -> bool
     ensures { result ≡ has_hop_in plan.now link }
 {
-    link < 8 && hop(plan.plan(), link as u8).is_some()
+    link < 8 && plan.plan().hop(link).is_some()
 }
 
 /// The end at the switch at which TLPs of a direction are sealed again (PCI Express Base 6.0 section 6.33, in this

@@ -1,12 +1,11 @@
 //! Ends of lines, and the ports at which they are.
 
-ghost use Rattle.std.specs.Prelude.{◌≡◌, ◌<◌, ◌≤◌, length, option_map, slice_get};
-ghost use Rattle.ide_types.specs.Ends.{link_hop};
+ghost use Rattle.std.specs.Prelude.{◌≡◌, ◌<◌, ◌≤◌};
 ghost use Rattle.spec_links.specs.Plan.{has_link, has_port as has_end, partner as partner_of};
 ghost use Rattle.spec_links.specs.Ports.{port_of as port_of_end, at_switch as is_at_switch, may_send as sends_at};
 ghost use Rattle.line_routes.specs.Rows.{has_line_by};
 
-use ide_types::{HopPlan, Plan, PortName, Side, ValidPlan, port_at};
+use ide_types::{Plan, PortName, Side, ValidPlan, port_at};
 
 /// The other end of its line.
 pub fn partner(end: PortName) -> PortName
@@ -26,16 +25,6 @@ fn has_link(plan: &Plan, line: u8) -> bool
     ensures { result ≡ has_link plan.now line }
 {
     (line as usize) < plan.links.as_slice().len()
-}
-
-// The hop of a link, if there is one.
-pub(crate) fn hop(plan: &Plan, link: u8) -> Option<&HopPlan>
-    ensures { option_map (λ o. o.now) result ≡ link_hop (slice_get plan.now.links link) }
-{
-    match plan.links.as_slice().get(link as usize) {
-        None => None,
-        Some(link) => link.hop.as_ref(),
-    }
 }
 
 /// The port of an end: of a host or a device it is the end of their link, of a switch the end itself (this profile).
@@ -71,8 +60,8 @@ fn has_line(plan: &Plan, line: u8) -> bool
 {
     match line {
         0..=7 => has_link(plan, line),
-        8..=15 => hop(plan, line - 8).is_some(),
-        16..=23 => hop(plan, line - 16).is_some(),
+        8..=15 => plan.hop(u64::from(line - 8)).is_some(),
+        16..=23 => plan.hop(u64::from(line - 16)).is_some(),
         _ => ((line - 24) as usize) < plan.peers.as_slice().len(),
     }
 }

@@ -18,15 +18,12 @@ ghost use Rattle.link_ends.specs.Hosts.{pair_told, peer_drawn};
 use crate::ends::LinkEnds;
 use crate::keeper::KeyKeeper;
 use crate::{PairEnds, PeerStreams};
-use ide_types::{OutOfMemory, PortName, StreamStatus, ValidPlan};
+use ide_types::{FIRST_PEER_LINE, OutOfMemory, PortName, StreamStatus, ValidPlan};
 use interface_ends::{InterfaceKeeper, StreamSaid};
 use interface_host::InterfaceOperation;
 use link_events::Loss;
 use std::alloc::Global;
 use tsm_host::{NamedOperation, StreamOutcome, StreamResult};
-
-/// The first line of a stream between devices.
-const FIRST_PEER_LINE: u8 = 24;
 
 /// The host's manager of all lines: of keys, and of device interfaces (PCI Express Base 6.0 section 6.33 and chapter
 /// 11, in this profile).

@@ -7,7 +7,7 @@ ghost use Rattle.script_events.specs.Events.{arrive_event, reset as reset_of, pe
 ghost use Rattle.script_events.specs.Laws.{EventsAreAllowed};
 
 use crate::resets::reset_ends;
-use crate::streams::{bound_stream, has_port, hop, hop_stream, own_stream, peer_stream};
+use crate::streams::{bound_stream, has_port, hop_stream, own_stream, peer_stream};
 use ide_types::{Bytes, Direction, Plan, PortName, Side, ValidPlan};
 use link_events::{Event, HopEvent, InterfaceEvent, Loss, PeerEvent, ScriptEvent};
 
@@ -103,7 +103,7 @@ fn unbind(interface: u64, stream: Option<(u64, u64)>, lose: Option<Loss>) -> Eve
 fn forward(plan: &Plan, link: u64, direction: u64) -> Event
     ensures { result ≡ forward_event plan.now link direction }
 {
-    if hop(plan, link).is_none() {
+    if plan.hop(link).is_none() {
         return Event::Absent;
     }
     match direction {

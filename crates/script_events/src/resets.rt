@@ -4,7 +4,6 @@ ghost use Rattle.std.specs.Prelude.{◌≡◌, ◌≤◌, ◌<◌, ◌∷◌, �
 ghost use Rattle.ide_types.specs.Ports.{host_port, device_port};
 ghost use Rattle.ide_types.specs.Ends.{link_hop, hop_ends, peer_ends, reset_ends as reset_ends_of};
 
-use crate::streams::hop;
 use ide_types::{PeerPlan, Plan, PortName, Side, ValidPlan};
 use link_events::Ends;
 
@@ -36,7 +35,7 @@ fn link_ends(plan: &Plan, link: u8) -> Ends
     let mut ends = Ends::new();
     ends.push(host(link));
     ends.push(device(link));
-    match hop(plan, u64::from(link)) {
+    match plan.hop(u64::from(link)) {
         None => ends,
         Some(_) => {
             ends.push(host(8 + link));

@@ -1,45 +1,19 @@
 //! Streams that a script names, by their lines and their IDs.
 
-ghost use Rattle.std.specs.Prelude.{◌≡◌, ◌<◌, Some, option_map, slice_get, IfSome};
-ghost use Rattle.ide_types.specs.Plans.{has_stream_id};
-ghost use Rattle.ide_types.specs.Ends.{own_has_id, link_hop, is_planned_port as has_port_in};
+ghost use Rattle.std.specs.Prelude.{◌≡◌, ◌<◌, Some, IfSome};
+ghost use Rattle.ide_types.specs.Ends.{is_planned_port as has_port_in};
 ghost use Rattle.ide_types.specs.Ends.{interface_link as link_of_interface};
 ghost use Rattle.script_events.specs.Events.{own_stream as own_stream_of, peer_stream as peer_stream_of};
 ghost use Rattle.script_events.specs.Events.{segment_stream, hop_stream as hop_stream_of, ends_at as ends_at_link};
 ghost use Rattle.script_events.specs.Events.{bound_stream as bound_stream_of};
 
-use ide_types::{HopPlan, LinkPlan, PeerPlan, Plan, PortName, StreamPlan, ValidPlan};
-
-fn has_stream(streams: &[StreamPlan], id: u64) -> bool
-    ensures { result ≡ has_stream_id streams.now id }
-{
-    streams.iter().any(|stream| u64::from(stream.id) == id)
-}
-
-fn has_own(plan: &Plan, link: u64, id: u64) -> bool
-    ensures { result ≡ own_has_id (slice_get plan.now.links link) id }
-{
-    match plan.links.as_slice().get(link as usize) {
-        None => false,
-        Some(link) => has_stream(link.streams.as_slice(), id),
-    }
-}
-
-// The hop of a link, if there is one.
-pub(crate) fn hop(plan: &Plan, link: u64) -> Option<&HopPlan>
-    ensures { option_map (λ o. o.now) result ≡ link_hop (slice_get plan.now.links link) }
-{
-    match plan.links.as_slice().get(link as usize) {
-        None => None,
-        Some(link) => link.hop.as_ref(),
-    }
-}
+use ide_types::{HopPlan, LinkPlan, PeerPlan, Plan, PortName, ValidPlan};
 
 // A stream of a link.
 pub(crate) fn own_stream(plan: &Plan, link: u64, stream: u64) -> Option<(u64, u64)>
     ensures { result ≡ own_stream_of plan.now link stream }
 {
-    if has_own(plan, link, stream) {
+    if plan.own_has(link, stream) {
         Some((link, stream))
     } else {
         None
@@ -77,7 +51,7 @@ pub(crate) fn hop_stream(plan: &ValidPlan, link: u64, segment: u64) -> Option<(u
     if link >= 8 {
         return None;
     }
-    match hop(plan, link) {
+    match plan.hop(link) {
         None => None,
         Some(hop) => on_segment(hop, link, segment),
     }
@@ -127,7 +101,7 @@ pub(crate) fn has_port(plan: &Plan, port: PortName) -> bool
 {
     match port.line {
         0..=7 => true,
-        8..=15 => hop(plan, u64::from(port.line - 8)).is_some(),
-        _ => hop(plan, u64::from(port.line) - 16).is_some(),
+        8..=15 => plan.hop(u64::from(port.line - 8)).is_some(),
+        _ => plan.hop(u64::from(port.line) - 16).is_some(),
     }
 }
