@@ -255,9 +255,10 @@ trust_there : (v : EndsView) (s : Side) (i : ℕ) (x : LinkEnds) (trusted : Bool
 trust_there v Host i x trusted is = refl
 trust_there v Device i x trusted is = sym (ap (λ (o : Option LinkEnds). link_trust Device trusted o) is)
 
-module _ (v : EndsView) (end : PortName) (tlp : List ℕ) (more trusted : Bool) (answer : Sent) (i : ℕ) where
+module _ (v : EndsView) (end : PortName) (tlp : List ℕ) (more trusted : Bool) (answer : Sent) (sealed : List ℕ)
+    (i : ℕ) where
   abbrev Goes : PortEnd → Trusting → PortEnd → Type 0
-  Goes e t e' = (number : ℕ) → IsSentAtPort e tlp more t number answer e'
+  Goes e t e' = (number : ℕ) → IsSentAtPort e tlp more t number answer e' sealed
 
   trust_of : (place : LinePlace) → place ≡ line_place end.line
       → trust_at_place v end.side place trusted ≡ trust_at_place v end.side (line_place end.line) trusted
@@ -266,7 +267,7 @@ module _ (v : EndsView) (end : PortName) (tlp : List ℕ) (more trusted : Bool) 
   pub send_link : (x y : LinkEnds) → Link i ≡ line_place end.line → x ≡ slice_index_or v.links i x
       → Goes (port_in end.side x) (trusting_at end.side x trusted) (port_in end.side y)
       → y ≡ with_port end.side (port_in end.side y) x
-      → SendsAt v end tlp more trusted answer (record v { links = slice_set v.links i y })
+      → SendsAt v end tlp more trusted answer (record v { links = slice_set v.links i y }) sealed
   send_link x y at read goes made e is =
       let there = seen v end (Link i) at e is in
       let e' : PortEnd = port_in end.side y in
@@ -284,7 +285,7 @@ module _ (v : EndsView) (end : PortName) (tlp : List ℕ) (more trusted : Bool) 
   pub send_near : (x y : LinkEnds) → Near i ≡ line_place end.line → x ≡ slice_index_or v.near i x
       → Goes (port_in end.side x) (asked_trust trusted) (port_in end.side y)
       → y ≡ with_port end.side (port_in end.side y) x
-      → SendsAt v end tlp more trusted answer (record v { near = slice_set v.near i y })
+      → SendsAt v end tlp more trusted answer (record v { near = slice_set v.near i y }) sealed
   send_near x y at read goes made e is =
       let there = seen v end (Near i) at e is in
       let e' : PortEnd = port_in end.side y in
@@ -299,7 +300,7 @@ module _ (v : EndsView) (end : PortName) (tlp : List ℕ) (more trusted : Bool) 
   pub send_pair : (x y : PairEnds) (t : Trusting) → Pair i ≡ line_place end.line → x ≡ slice_index_or v.pairs i x
       → Goes (pair_port end.side x) t (pair_port end.side y) → t ≡ pair_trust v end.side i trusted
       → y ≡ with_pair_port end.side (pair_port end.side y) x
-      → SendsAt v end tlp more trusted answer (record v { pairs = slice_set v.pairs i y })
+      → SendsAt v end tlp more trusted answer (record v { pairs = slice_set v.pairs i y }) sealed
   send_pair x y t at read goes trusts made e is =
       let there = seen v end (Pair i) at e is in
       let e' : PortEnd = pair_port end.side y in

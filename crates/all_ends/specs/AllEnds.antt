@@ -52,20 +52,21 @@ Changes old link new P = (l : LinkEnds) → slice_get old.links link ≡ Some l 
 
 -- ---- sends
 
--- at the end of a side of a line that is kept there
+-- at the end of a side of a line that is kept there, which seals these bytes
 pub record Sends (old : EndsView) (side : Side) (place : LinePlace) (tlp : List ℕ) (more trusted : Bool) (answer : Sent)
-    (new : EndsView) (e : PortEnd) : Type 0 where
+    (new : EndsView) (sealed : List ℕ) (e : PortEnd) : Type 0 where
   pub port : PortEnd
   pub new_is : new ≡ with_port_at_place old side place port
-  pub sent : (number : ℕ) → IsSentAtPort e tlp more (trust_at_place old side place trusted) number answer port
+  pub sent : (number : ℕ)
+      → IsSentAtPort e tlp more (trust_at_place old side place trusted) number answer port sealed
 
-abbrev pub SendsIn : EndsView → Side → LinePlace → List ℕ → Bool → Bool → Sent → EndsView → Type 0
-SendsIn old side place tlp more trusted answer new =
-    (e : PortEnd) → port_at_place old side place ≡ Some e → Sends old side place tlp more trusted answer new e
+abbrev pub SendsIn : EndsView → Side → LinePlace → List ℕ → Bool → Bool → Sent → EndsView → List ℕ → Type 0
+SendsIn old side place tlp more trusted answer new sealed =
+    (e : PortEnd) → port_at_place old side place ≡ Some e → Sends old side place tlp more trusted answer new sealed e
 
-abbrev pub SendsAt : EndsView → PortName → List ℕ → Bool → Bool → Sent → EndsView → Type 0
-SendsAt old end tlp more trusted answer new =
-    SendsIn old end.side (line_place end.line) tlp more trusted answer new
+abbrev pub SendsAt : EndsView → PortName → List ℕ → Bool → Bool → Sent → EndsView → List ℕ → Type 0
+SendsAt old end tlp more trusted answer new sealed =
+    SendsIn old end.side (line_place end.line) tlp more trusted answer new sealed
 
 -- ---- arrivals
 

@@ -23,7 +23,7 @@ use crate::places::{LinePlace, line_place};
 use crate::sending::{bound_on, send_between, send_far, send_near};
 use arrival_verdicts::{ReceivingPort, switch_verdict, taken_verdict};
 use hop_queues::HopQueues;
-use ide_port::{Arrival, Port, Sent};
+use ide_port::{Arrival, Port, SendBuffer, Sent};
 use ide_types::{
     BarPlan, Direction, OutOfMemory, PeerPlan, PortName, Register, Side, StreamStatus, SubKind,
     ValidPlan,
@@ -150,43 +150,50 @@ impl AllEnds {
     }
 
     // Sends at an end of a line that is keyed by messages at both and is kept at this place.
-    fn send_pair(&mut self, end: PortName, i: usize, tlp: &[u8], more: bool, trusted: bool) -> Sent
+    fn send_pair(
+        &mut self,
+        end: PortName,
+        i: usize,
+        tlp: &[u8],
+        more: bool,
+        trusted: bool,
+        out: &mut SendBuffer,
+    ) -> Sent
         requires place { Pair i ≡ line_place end.line }
         requires here { IsSome (port_on self.old end) }
         requires few { EndsUnitsAtMost (2 ^ 40) self.old }
-        ensures { SendsAt self.old end tlp.now more trusted result self.new }
+        ensures { SendsAt self.old end tlp.now more trusted result self.new out.new }
     {
         if i < HOPS {
-            send_far(&mut self.pairs[i], end.side, tlp, more, trusted)
+            send_far(&mut self.pairs[i], end.side, tlp, more, trusted, out)
         } else {
             let interfaces = bound_on(&self.links, &self.peers, end.side, i - HOPS);
-            send_between(&mut self.pairs[i], end.side, tlp, more, interfaces)
+            send_between(&mut self.pairs[i], end.side, tlp, more, interfaces, out)
         }
     }
 
     /// Sends a TLP's bytes at an end. At a host's port and at a switch T is set as it is asked. A device's port sets T
     /// if the TLP's owner is an interface in RUN, on its link if the TLP takes the stream that the interface's lock
-    /// names, on a stream between devices if the interface is bound to it; it sets none on a hop's segment.
-    pub fn send(&mut self, end: PortName, tlp: &[u8], more: bool, trusted: bool) -> Sent
+    /// names, on a stream between devices if the interface is bound to it; it sets none on a hop's segment. `out` is
+    /// left with what was sealed.
+    pub fn send(
+        &mut self,
+        end: PortName,
+        tlp: &[u8],
+        more: bool,
+        trusted: bool,
+        out: &mut SendBuffer,
+    ) -> Sent
         requires here { IsSome (port_on self.old end) }
         requires few { EndsUnitsAtMost (2 ^ 40) self.old }
-        ensures { SendsAt self.old end tlp.now more trusted result self.new }
+        ensures { SendsAt self.old end tlp.now more trusted result self.new out.new }
     {
         match line_place(end.line) {
-            LinePlace::Link(i) => self.links[i].send(end.side, tlp, more, trusted),
-            LinePlace::Near(i) => send_near(&mut self.near[i], end.side, tlp, more, trusted),
-            LinePlace::Pair(i) => self.send_pair(end, i, tlp, more, trusted),
-        }
-    }
-
-    /// The bytes that the last send at the end sealed, its packets joined; none if there is no such end.
-    pub fn packets(&self, end: PortName) -> &[u8]
-        ensures value { (e : PortEnd) → port_on self.now end ≡ Some e → result.now ≡ e.sealed }
-        ensures short { length result.now ≤ 4184 }
-    {
-        match self.port(end) {
-            None => &[],
-            Some(port) => port.packets(),
+            LinePlace::Link(i) => self.links[i].send(end.side, tlp, more, trusted, out),
+            LinePlace::Near(i) => {
+                send_near(&mut self.near[i], end.side, tlp, more, trusted, out)
+            }
+            LinePlace::Pair(i) => self.send_pair(end, i, tlp, more, trusted, out),
         }
     }
 

@@ -6,21 +6,29 @@ ghost use Rattle.link_ends.specs.Ends.{port_in, with_port};
 ghost use Rattle.interface_ends.specs.Replies.{DeviceTdis};
 ghost use Rattle.all_ends.specs.Ends.{pair_port, with_pair_port, bound_on, far_hop_trust, bound_trust};
 
-use ide_port::{FixedTrust, Sent, Trusting};
+use ide_port::{FixedTrust, SendBuffer, Sent, Trusting};
 use ide_types::{PeerPlan, Side};
 use interface_ends::DeviceInterfaces;
 use link_ends::{BoundOwners, LinkEnds, PairEnds};
 
-/// Sends a TLP's bytes at the end of a side of a hop's segment towards the host, with T as it is asked.
-pub fn send_near(ends: &mut LinkEnds, side: Side, tlp: &[u8], more: bool, trusted: bool) -> Sent
+/// Sends a TLP's bytes at the end of a side of a hop's segment towards the host, with T as it is asked. `out` is left
+/// with what was sealed.
+pub fn send_near(
+    ends: &mut LinkEnds,
+    side: Side,
+    tlp: &[u8],
+    more: bool,
+    trusted: bool,
+    out: &mut SendBuffer,
+) -> Sent
     requires { PortUnitsAtMost (2 ^ 40) (port_in side ends.old) }
     ensures sent { (number : ℕ) → IsSentAtPort (port_in side ends.old) tlp.now more
-        (λ head stream. trusted) number result (port_in side ends.new) }
+        (λ head stream. trusted) number result (port_in side ends.new) out.new }
     ensures ends { ends.new ≡ with_port side (port_in side ends.new) ends.old }
 {
     match side {
-        Side::Host => ends.host.send(tlp, more, &FixedTrust(trusted)),
-        Side::Device => ends.device.port.send(tlp, more, &FixedTrust(trusted)),
+        Side::Host => ends.host.send(tlp, more, &FixedTrust(trusted), out),
+        Side::Device => ends.device.port.send(tlp, more, &FixedTrust(trusted), out),
     }
 }
 
@@ -31,29 +39,37 @@ fn send_pair<T: Trusting>(
     tlp: &[u8],
     more: bool,
     trusting: &T,
+    out: &mut SendBuffer,
 ) -> Sent
     requires { PortUnitsAtMost (2 ^ 40) (pair_port side ends.old) }
     ensures sent { (number : ℕ) → IsSentAtPort (pair_port side ends.old) tlp.now more
-        (T.trusting trusting.now) number result (pair_port side ends.new) }
+        (T.trusting trusting.now) number result (pair_port side ends.new) out.new }
     ensures ends { ends.new ≡ with_pair_port side (pair_port side ends.new) ends.old }
 {
     match side {
-        Side::Host => ends.near.port.send(tlp, more, trusting),
-        Side::Device => ends.far.port.send(tlp, more, trusting),
+        Side::Host => ends.near.port.send(tlp, more, trusting, out),
+        Side::Device => ends.far.port.send(tlp, more, trusting, out),
     }
 }
 
 /// Sends them at the end of a side of a hop's segment towards the device: the switch sets T as it is asked, and the
 /// device does not.
-pub fn send_far(ends: &mut PairEnds, side: Side, tlp: &[u8], more: bool, trusted: bool) -> Sent
+pub fn send_far(
+    ends: &mut PairEnds,
+    side: Side,
+    tlp: &[u8],
+    more: bool,
+    trusted: bool,
+    out: &mut SendBuffer,
+) -> Sent
     requires { PortUnitsAtMost (2 ^ 40) (pair_port side ends.old) }
     ensures sent { (number : ℕ) → IsSentAtPort (pair_port side ends.old) tlp.now more
-        (far_hop_trust side trusted) number result (pair_port side ends.new) }
+        (far_hop_trust side trusted) number result (pair_port side ends.new) out.new }
     ensures ends { ends.new ≡ with_pair_port side (pair_port side ends.new) ends.old }
 {
     match side {
-        Side::Host => send_pair(ends, side, tlp, more, &FixedTrust(trusted)),
-        Side::Device => send_pair(ends, side, tlp, more, &FixedTrust(false)),
+        Side::Host => send_pair(ends, side, tlp, more, &FixedTrust(trusted), out),
+        Side::Device => send_pair(ends, side, tlp, more, &FixedTrust(false), out),
     }
 }
 
@@ -64,15 +80,16 @@ pub fn send_between(
     tlp: &[u8],
     more: bool,
     interfaces: Option<&DeviceInterfaces>,
+    out: &mut SendBuffer,
 ) -> Sent
     requires { PortUnitsAtMost (2 ^ 40) (pair_port side ends.old) }
     ensures sent { (number : ℕ) → IsSentAtPort (pair_port side ends.old) tlp.now more
-        (bound_trust (option_map (λ d. d.now) interfaces.entry)) number result (pair_port side ends.new) }
+        (bound_trust (option_map (λ d. d.now) interfaces.entry)) number result (pair_port side ends.new) out.new }
     ensures ends { ends.new ≡ with_pair_port side (pair_port side ends.new) ends.old }
 {
     match interfaces {
-        None => send_pair(ends, side, tlp, more, &FixedTrust(false)),
-        Some(interfaces) => send_pair(ends, side, tlp, more, &BoundOwners { interfaces }),
+        None => send_pair(ends, side, tlp, more, &FixedTrust(false), out),
+        Some(interfaces) => send_pair(ends, side, tlp, more, &BoundOwners { interfaces }, out),
     }
 }
 

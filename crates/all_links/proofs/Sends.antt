@@ -1,16 +1,14 @@
 -- Sends at an end of a line, as the machine has them.
-use Rattle.std.specs.Prelude.{zero, suc, not, Result, Ok, Err}
-use Rattle.all_links.proofs.Terms.{◌≡◌, ℕ, ◌+◌, Bool, true, false, List, [], ◌∷◌, ◌++◌, length, refl, ap, sym, ◌∙◌}
+use Rattle.std.specs.Prelude.{not, Result, Ok, Err}
+use Rattle.all_links.proofs.Terms.{◌≡◌, ℕ, ◌+◌, Bool, true, false, List, [], ◌++◌, length, refl, ap, sym, ◌∙◌}
 use Rattle.all_links.proofs.Terms.{subst, arith, Option, Some, None, IsSome, slice_get, map, sum_by, if◌then◌else◌}
-use Rattle.all_links.proofs.Terms.{option_map, is_some, Side, Host, Device, PortName, Plan, Verdict, MeasuredPacket}
-use Rattle.all_links.proofs.Terms.{LinkPacket, Stepped, kept_packet, step_of, joined_packets, Sent, PortEnd, SendStep}
+use Rattle.all_links.proofs.Terms.{is_some, PortName, Plan, Verdict, MeasuredPacket}
+use Rattle.all_links.proofs.Terms.{LinkPacket, Stepped, kept_packet, step_of, Sent, PortEnd, SendStep}
 use Rattle.all_links.proofs.Terms.{send_step, sent_verdict, lengths_sent, IsSentAtPort, LinkEnds, Links, SendsAt}
 use Rattle.all_links.proofs.Terms.{state_of, IsBounded, AreLinks, links_state, EndsWith, EndsSending, Send, EndsView}
-use Rattle.all_links.proofs.Terms.{port_on, trusting_on, with_port_on, beside_in, BesidePorts, port_in, with_port}
+use Rattle.all_links.proofs.Terms.{port_on, trusting_on, with_port_on, beside_in, BesidePorts}
 use Rattle.all_links.proofs.Terms.{LinkState, has_port, stepped_bytes, KeeperView}
-use Rattle.line_arrivals.specs.{cut_packets, PairEnds, end_sent_verdict, changed_at, line_place, pair_port}
-use Rattle.line_arrivals.specs.{port_at_place, with_pair_port, with_port_at_place, LinePlace, Link, Near, Pair}
-use Rattle.std.proofs.lemmas.Option.{none-some}
+use Rattle.line_arrivals.specs.{cut_packets, end_sent_verdict, line_place}
 use Rattle.std.proofs.lemmas.Bool.{and_parts}
 use Rattle.tlp_layout.specs.Outgoing.{Outgoing, outgoing_of}
 use Rattle.spec_links.specs.Ports.{at_switch, may_send, port_of, sealing_end}
@@ -22,81 +20,53 @@ use Rattle.all_links.specs.BesideAfter.{BesideStays}
 use Rattle.ide_port.specs.{Trusting}
 use Rattle.ide_port.proofs.Units.{sent-units}
 use Rattle.trusted_memory.specs.{TrustedMemory}
-use Rattle.line_arrivals.proofs.{sealing_there, at_port, cut_joined, lengths_join, sealed_on, send_joins, send_keeps}
+use Rattle.line_arrivals.proofs.{sealing_there, at_port, cut_joined, lengths_join, sealed_on, send_keeps}
 use Rattle.line_arrivals.proofs.{sends_as, sent_at_port, state_after_send as sent_at}
 use Rattle.line_arrivals.proofs.{port_is, wired, Grows, bounded_then, end_grows, end_kept}
 use Rattle.line_arrivals.proofs.Follows.{interfaces_put, put_seen}
 use Rattle.line_arrivals.proofs.Landing.{ends_there}
 
--- ---- the port at an end after another was put there
-
-got : {A B : Type 0} (g : A → B) (f : A → A) (xs : List A) (i : ℕ) (y y' : B) → ((x : A) → g (f x) ≡ y')
-    → option_map g (slice_get xs i) ≡ Some y → option_map g (slice_get (changed_at xs i f) i) ≡ Some y'
-got g f [] i y y' sets is = absurd (none-some y is)
-got g f (x ∷ xs) zero y y' sets is = ap (λ z. Some z) (sets x)
-got g f (x ∷ xs) (suc i) y y' sets is = got g f xs i y y' sets is
-
-at_side : (s : Side) (e : PortEnd) (l : LinkEnds) → port_in s (with_port s e l) ≡ e
-at_side Host e l = refl
-at_side Device e l = refl
-
-at_pair_side : (s : Side) (e : PortEnd) (l : PairEnds) → pair_port s (with_pair_port s e l) ≡ e
-at_pair_side Host e l = refl
-at_pair_side Device e l = refl
-
-put_there : (v : EndsView) (s : Side) (place : LinePlace) (e e' : PortEnd) → port_at_place v s place ≡ Some e
-    → port_at_place (with_port_at_place v s place e') s place ≡ Some e'
-put_there v s (Link i) e e' is = got (λ l. port_in s l) (with_port s e') v.links i e e' (at_side s e') is
-put_there v s (Near i) e e' is = got (λ l. port_in s l) (with_port s e') v.near i e e' (at_side s e') is
-put_there v s (Pair i) e e' is = got (λ l. pair_port s l) (with_pair_port s e') v.pairs i e e' (at_pair_side s e') is
+-- ---- a send at an end that exists, whose packets were cut from what it sealed
 
 some_end : (o : Option PortEnd) → is_some o ≡ true → (e : PortEnd) × (o ≡ Some e)
 some_end (Some e) is = (e, refl)
 some_end None is = absurd cc
 
--- ---- a send at an end that exists, whose packets were cut from the port's bytes
-
-pub record IsPut (old new : EndsView) (end : PortName) (bytes : List ℕ) (more trusted : Bool) (answer : Sent) : Type 0
-  where
-    pub port : PortEnd
-    pub at : port_on old end ≡ Some port
-    pub step : (n : ℕ) → let t = send_step port (outgoing_of port.plans port.name.side bytes) more
-        (trusting_on old end trusted) n in
-        (new ≡ with_port_on old end t.port)
-        × IsSentAtPort port bytes more (trusting_on old end trusted) n answer t.port
-        × (port_on new end ≡ Some t.port)
+pub record IsPut (old new : EndsView) (end : PortName) (bytes : List ℕ) (more trusted : Bool) (answer : Sent)
+    (sealed : List ℕ) : Type 0 where
+  pub port : PortEnd
+  pub at : port_on old end ≡ Some port
+  pub step : (n : ℕ) → let t = send_step port (outgoing_of port.plans port.name.side bytes) more
+      (trusting_on old end trusted) n in
+      (new ≡ with_port_on old end t.port)
+      × IsSentAtPort port bytes more (trusting_on old end trusted) n answer t.port sealed
 
 pub is_put : (old new : EndsView) (end : PortName) (bytes : List ℕ) (more trusted : Bool) (answer : Sent)
-    → IsSome (port_on old end) → SendsAt old end bytes more trusted answer new
-    → IsPut old new end bytes more trusted answer
-is_put old new end bytes more trusted answer here sends =
+    (sealed : List ℕ) → IsSome (port_on old end) → SendsAt old end bytes more trusted answer new sealed
+    → IsPut old new end bytes more trusted answer sealed
+is_put old new end bytes more trusted answer sealed here sends =
     let found = some_end (port_on old end) here in
     let e : PortEnd = found.0 in
     let a = sends e found.1 in
     record {
       port = e;
       at = found.1;
-      step = λ n.
-          let t : SendStep = send_step e (outgoing_of e.plans e.name.side bytes) more (trusting_on old end trusted) n in
-          let is : new ≡ with_port_on old end t.port =
-          a.new_is ∙ ap (λ (p : PortEnd). with_port_on old end p) (a.sent n).port in (
-            is,
-            subst (λ (p : PortEnd). IsSentAtPort e bytes more (trusting_on old end trusted) n answer p) (a.sent n).port
-                (a.sent n),
-            ap (λ (w : EndsView). port_on w end) is
-                ∙ put_there old end.side (line_place end.line) e t.port found.1,
-          );
+      step = λ n. (
+        a.new_is ∙ ap (λ (p : PortEnd). with_port_on old end p) (a.sent n).port,
+        subst (λ (p : PortEnd). IsSentAtPort e bytes more (trusting_on old end trusted) n answer p sealed)
+            (a.sent n).port (a.sent n),
+      );
     }
 
 pub seals : (plan : Plan) (old new : Links) (end : PortName) (bytes : List ℕ) (more trusted : Bool) (answer : Sent)
-    (verdict : Verdict) → IsBounded old.ends old.packets.packets old.steps → IsSome (port_on old.ends end)
-    → SendsAt old.ends end bytes more trusted answer new.ends
+    (sealed : List ℕ) (verdict : Verdict) → IsBounded old.ends old.packets.packets old.steps
+    → IsSome (port_on old.ends end) → SendsAt old.ends end bytes more trusted answer new.ends sealed
     → verdict ≡ end_sent_verdict end (port_of plan end) (length old.packets.packets + 1) answer
-    → new.keeper.keys ≡ old.keeper.keys → new.steps ≡ old.steps + 1 → ((e : PortEnd) → port_on new.ends end ≡ Some e
-    → new.packets.packets ≡ old.packets.packets ++ cut_packets end (lengths_sent answer) e.sealed)
+    → new.keeper.keys ≡ old.keeper.keys → new.steps ≡ old.steps + 1
+    → new.packets.packets ≡ old.packets.packets ++ cut_packets end (lengths_sent answer) sealed
     → new.trusted ≡ old.trusted → EndsSending plan verdict old new end bytes more trusted
-seals plan old new end bytes more trusted answer verdict bounded here sends says keeper steps kept memory =
-    let put = is_put old.ends new.ends end bytes more trusted answer here sends in
+seals plan old new end bytes more trusted answer sealed verdict bounded here sends says keeper steps kept memory =
+    let put = is_put old.ends new.ends end bytes more trusted answer sealed here sends in
     let e : PortEnd = put.port in
     let n : ℕ = length old.packets.packets + 1 in
     let sets : Trusting = trusting_on old.ends end trusted in
@@ -105,11 +75,10 @@ seals plan old new end bytes more trusted answer verdict bounded here sends says
     let now : EndsView = with_port_on old.ends end step.port in
     let stepped = put.step n in
     let ends_is : new.ends ≡ now = stepped.0 in
-    let sent_is : IsSentAtPort e bytes more sets n answer step.port = stepped.1 in
-    let joined : step.port.sealed ≡ joined_packets step.packets = send_joins e out more sets n in
+    let sent_is : IsSentAtPort e bytes more sets n answer step.port sealed = stepped.1 in
     let all : List LinkPacket = old.packets.packets ++ map (kept_packet end) step.packets in
     let packets_is : new.packets.packets ≡ all =
-    kept step.port stepped.2 ∙ (λ i. old.packets.packets ++ cut_packets end (sent_is.lengths i) (joined i))
+    kept ∙ (λ i. old.packets.packets ++ cut_packets end (sent_is.lengths i) (sent_is.bytes i))
     ∙ ap (λ (ps : List LinkPacket). old.packets.packets ++ ps) (cut_joined end step.packets) in
     let keeps = send_keeps e out more sets n in
     let grows : Grows 1 old.ends now = end_grows old.ends end e step.port put.at (sent-units e out more sets n) in
@@ -145,10 +114,10 @@ seals plan old new end bytes more trusted answer verdict bounded here sends says
     }
 
 pub sent_keeps : (old new : Links) (end : PortName) (bytes : List ℕ) (more trusted : Bool) (answer : Sent)
-    → IsSome (port_on old.ends end) → SendsAt old.ends end bytes more trusted answer new.ends
+    (sealed : List ℕ) → IsSome (port_on old.ends end) → SendsAt old.ends end bytes more trusted answer new.ends sealed
     → new.keeper ≡ old.keeper → new.trusted ≡ old.trusted → BesideStays old new
-sent_keeps old new end bytes more trusted answer here sends keeper memory =
-    let put = is_put old.ends new.ends end bytes more trusted answer here sends in
+sent_keeps old new end bytes more trusted answer sealed here sends keeper memory =
+    let put = is_put old.ends new.ends end bytes more trusted answer sealed here sends in
     let stepped = put.step 0 in
     record {
       keeper = ap (λ k. k.interfaces) keeper;
@@ -165,21 +134,20 @@ sent_keeps old new end bytes more trusted answer here sends keeper memory =
 pub not_sealed : (answer : Sent) → ((ps : List MeasuredPacket) → answer ≡ Sealed ps → ⊥) → lengths_sent answer ≡ []
 not_sealed answer none = grind (arith, none)
 
--- the lengths of what was sealed add up to the length of what the port lends
+-- the lengths of the packets add up to that of what was sealed
 pub sealed_length : (old new : EndsView) (end : PortName) (bytes : List ℕ) (more trusted : Bool)
-    (answer : Sent) (ps : List MeasuredPacket) (lent : List ℕ) → IsSome (port_on old end)
-    → SendsAt old end bytes more trusted answer new → map (λ (p : MeasuredPacket). p.length) ps ≡ lengths_sent answer
-    → ((e : PortEnd) → port_on new end ≡ Some e → lent ≡ e.sealed)
-    → sum_by (λ (p : MeasuredPacket). p.length) ps ≡ length lent
-sealed_length old new end bytes more trusted answer ps lent here sends said lends =
-    let put = is_put old new end bytes more trusted answer here sends in
+    (answer : Sent) (sealed : List ℕ) (ps : List MeasuredPacket) → IsSome (port_on old end)
+    → SendsAt old end bytes more trusted answer new sealed
+    → map (λ (p : MeasuredPacket). p.length) ps ≡ lengths_sent answer
+    → sum_by (λ (p : MeasuredPacket). p.length) ps ≡ length sealed
+sealed_length old new end bytes more trusted answer sealed ps here sends said =
+    let put = is_put old new end bytes more trusted answer sealed here sends in
     let e : PortEnd = put.port in
     let out : Outgoing = outgoing_of e.plans e.name.side bytes in
     let sets : Trusting = trusting_on old end trusted in
     let step : SendStep = send_step e out more sets 0 in
     let stepped = put.step 0 in
-    lengths_join ps step.packets (said ∙ stepped.1.lengths)
-    ∙ ap (λ (bs : List ℕ). length bs) (sym (lends step.port stepped.2 ∙ send_joins e out more sets 0))
+    lengths_join ps step.packets (said ∙ stepped.1.lengths) ∙ ap (λ (bs : List ℕ). length bs) (sym stepped.1.bytes)
 
 -- ---- a send at a port
 

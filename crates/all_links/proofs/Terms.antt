@@ -1,6 +1,6 @@
 -- What the proofs of this crate name from other modules.
 pub use Rattle.ide_types.specs.declared.plan.Plan.{Plan}
-pub use Rattle.ide_port.specs.{IsSentAtPort, PortEnd, SendStep, lengths_sent, send_step, sent_verdict, joined_packets}
+pub use Rattle.ide_port.specs.{IsSentAtPort, PortEnd, SendStep, lengths_sent, send_step, sent_verdict}
 pub use Rattle.ide_port.specs.declared.answer.Sent.{Sent}
 pub use Rattle.ide_types.specs.declared.port.PortName.{PortName}
 pub use Rattle.ide_types.specs.declared.port.Side.{Side}
@@ -11,7 +11,7 @@ pub use Rattle.spec_keys.specs.History.{History}
 pub use Rattle.spec_keys.specs.Operations.{StreamStage, work_of}
 pub use Rattle.line_arrivals.specs.{OperatesAt, ResetsAt, SendsAt, both_of, statuses_of, told_by_line, drawn_on_line}
 pub use Rattle.line_arrivals.specs.{EndsView, peer_live, port_on, trusting_on, with_port_on, stream_named, AreLinks}
-pub use Rattle.line_arrivals.specs.{IsBounded, ports_in, state_of, port_in, with_port, KeeperView, LinkEnds}
+pub use Rattle.line_arrivals.specs.{IsBounded, ports_in, state_of, port_in, KeeperView, LinkEnds}
 pub use Rattle.line_arrivals.specs.{InterfacesView}
 pub use Rattle.all_links.specs.Events.{operation_event}
 pub use Rattle.all_links.specs.States.{links_state}

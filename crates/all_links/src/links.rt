@@ -2,6 +2,7 @@
 
 ghost use Rattle.std.specs.Prelude.{◌≡◌, ◌+◌, ◌<◌, ◌^◌, IfOk, length, nat_lt, if◌then◌else◌};
 
+use ide_port::SendBuffer;
 use ide_types::{OutOfMemory, PortName, ValidPlan};
 use line_arrivals::{AllEnds, HostKeeper, Packets};
 use link_events::Event;
@@ -16,6 +17,8 @@ pub struct Links {
     pub ends: AllEnds,
     pub keeper: HostKeeper,
     pub packets: Packets,
+    /// What the last send sealed.
+    pub sealed: SendBuffer,
     pub trusted: Trusted,
     pub steps: u64,
 }
@@ -35,10 +38,12 @@ impl Links {
         let keeper = HostKeeper::make(alloc, plan)?;
         let trusted = Trusted::make(alloc, plan.plan().memory.as_slice())?;
         let packets = Packets::new(alloc);
+        let sealed = SendBuffer::make(alloc)?;
         Ok(Links {
             ends,
             keeper,
             packets,
+            sealed,
             trusted,
             steps: 0,
         })

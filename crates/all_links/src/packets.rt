@@ -93,10 +93,10 @@ impl Links {
         ensures sending { is_sending result ≡ true }
     {
         let number = self.packets.count() as u64 + 1;
-        let sent = self.ends.send(end, bytes, more, trusted);
+        let sent = self.ends.send(end, bytes, more, trusted, &mut self.sealed);
         if let Sent::Sealed(sealed) = &sent {
             self.packets
-                .keep(end, sealed.as_slice(), self.ends.packets(end));
+                .keep(end, sealed.as_slice(), self.sealed.as_slice());
         }
         self.steps += 1;
         send_verdict(end, port_of(plan, end), number, &sent)

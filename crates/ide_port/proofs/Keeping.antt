@@ -1,9 +1,9 @@
 -- A port keeps what always holds of it.
 use Rattle.ide_types.specs.declared.direction.Direction.{Direction}
-use Rattle.ide_port.proofs.Terms.{◌≡◌, ℕ, suc, zero, ◌<◌, ◌≤◌, List, [], ◌∷◌, length, map, get_or, Option, Some, None}
-use Rattle.ide_port.proofs.Terms.{Result, refl, ap, ◌∙◌, arith, slice_set, slice_get, vec_capacity, nat_tests, Side}
-use Rattle.ide_port.proofs.Terms.{SubKind, StreamPlan, Packet, StreamState, Sending, KeyCall, StreamEnd, joined_packets}
-use Rattle.ide_port.proofs.Terms.{packets_sent, end_outcome, end_taken, called_end, SendRefusal, Inside, PortEnd, Found}
+use Rattle.ide_port.proofs.Terms.{◌≡◌, ℕ, suc, zero, ◌<◌, List, [], ◌∷◌, length, map, get_or, Option, Some, None}
+use Rattle.ide_port.proofs.Terms.{Result, refl, ap, ◌∙◌, arith, slice_set, slice_get, nat_tests, Side}
+use Rattle.ide_port.proofs.Terms.{SubKind, StreamPlan, Packet, StreamState, Sending, KeyCall, StreamEnd}
+use Rattle.ide_port.proofs.Terms.{end_outcome, end_taken, called_end, SendRefusal, Inside, PortEnd, Found}
 use Rattle.ide_port.proofs.Terms.{found_stream, NoneWaits, AreStreamsOf, IsKept, packets_lent, delivered_at}
 use Rattle.std.proofs.lemmas.List.{length-set}
 use Rattle.sub_stream.specs.declared.answer.MeasuredPacket.{MeasuredPacket}
@@ -11,26 +11,24 @@ use Rattle.ide_port.specs.StreamSends.{IsSent}
 use Rattle.tlp_layout.specs.Choice.{plan_place}
 use Rattle.ide_port.proofs.Waiting.{none-unless, none-taken, none-stream_after_call}
 use Rattle.ide_port.proofs.Streams.{state_of, IsPlaced, placed, within}
-use Rattle.ide_port.proofs.Lengths.{sent-length}
 
--- a port with these streams and bytes, of which this stream lends
-abbrev pub port_within : Inside → List StreamEnd → List ℕ → Option ℕ → PortEnd
-port_within p xs sealed lent =
+-- a port with these streams, of which this one lends
+abbrev pub port_within : Inside → List StreamEnd → Option ℕ → PortEnd
+port_within p xs lent =
     record {
       name = p.name;
       plans = p.plans;
       limit = p.limit;
       states = map state_of xs;
-      sealed = sealed;
       delivered = delivered_at xs lent;
     }
 
 -- as it is
 abbrev pub now : Inside → PortEnd
-now p = port_within p p.streams.items p.sealed.items p.lent
+now p = port_within p p.streams.items p.lent
 
 abbrev pub Keeps : Inside → Type 0
-Keeps p = IsKept p.name.side p.limit p.plans p.streams.items p.lent p.sealed.items (vec_capacity p.sealed)
+Keeps p = IsKept p.name.side p.limit p.plans p.streams.items p.lent
 
 pub inside : (p : Inside) (id place : ℕ) → Keeps p → plan_place p.plans id ≡ Some place → place < length p.streams.items
 inside p id place kept at = within _ _ _ _ id _ kept.each at
@@ -46,48 +44,38 @@ module _ (p : Inside) (kept : Keeps p) (id place : ℕ) (x : StreamEnd) (at : pl
   there = placed _ _ _ _ id place x kept.each at is
 
   kept-with : (y : StreamEnd) (st : StreamState) (packets : List Packet) (lent : Option ℕ)
-      (sealed : List ℕ) (capacity : ℕ) → y ≡ record x { state = st; delivered = packets } → NoneWaits st
+      → y ≡ record x { state = st; delivered = packets } → NoneWaits st
       → ((q : ℕ) → lent ≡ Some q → q < length p.streams.items)
-      → length sealed ≤ 4184 → 4184 ≤ capacity → IsKept p.name.side p.limit p.plans
-      (slice_set p.streams.items place y) lent sealed capacity
-  kept-with y st packets lent sealed capacity after none lends short room = record {
+      → IsKept p.name.side p.limit p.plans (slice_set p.streams.items place y) lent
+  kept-with y st packets lent after none lends = record {
     each = there.keeps y
         (rw after (record {
           plan = (λ i. record (there.of_plan.plan i) { state = st; delivered = packets });
           receivers = none;
         }));
     lends = λ q e. (let lt = lends q e in omega (arith, lt, length-set p.streams.items place y));
-    short = short;
-    room = room;
   }
 
   pub kept-sent : (y : StreamEnd) (head payload : List ℕ) (s : Sending) (number : ℕ)
       (answer : Result (List MeasuredPacket) SendRefusal) (before out : List ℕ)
-      (capacity : ℕ)
-      → IsSent x head payload s number answer before out y → before ≡ [] → length head ≤ 16 → length payload ≤ 4096
-      → 4184 ≤ capacity
-      → IsKept p.name.side p.limit p.plans (slice_set p.streams.items place y) p.lent out capacity
-  kept-sent y head payload s number answer before out capacity sent none h b room =
-      let bytes : out ≡ joined_packets (packets_sent x head payload s number) = rw none at sent.bytes in
-      kept-with y _ x.delivered p.lent out capacity sent.stream (none-unless _ x.state _ there.of_plan.receivers)
-      kept.lends (rw bytes (sent-length x head payload s number h b)) room
+      → IsSent x head payload s number answer before out y
+      → IsKept p.name.side p.limit p.plans (slice_set p.streams.items place y) p.lent
+  kept-sent y head payload s number answer before out sent =
+      kept-with y _ x.delivered p.lent sent.stream (none-unless _ x.state _ there.of_plan.receivers) kept.lends
 
   pub kept-taken : (y : StreamEnd) (packet : Packet) → y ≡ end_taken x packet
-      → IsKept p.name.side p.limit p.plans (slice_set p.streams.items place y) (Some place) p.sealed.items
-      (vec_capacity p.sealed)
+      → IsKept p.name.side p.limit p.plans (slice_set p.streams.items place y) (Some place)
   kept-taken y packet after =
       let lends : (q : ℕ) → Some place ≡ Some q → q < length p.streams.items =
       λ q e. (let same : place ≡ q = cc in rw (← same) (inside p id place kept at)) in
-      kept-with y _ _ (Some place) _ _ after
-      (none-taken x.state packet (end_outcome x packet) there.of_plan.receivers) lends kept.short kept.room
+      kept-with y _ _ (Some place) after (none-taken x.state packet (end_outcome x packet) there.of_plan.receivers)
+      lends
 
   pub kept-stream_after_call : (y : StreamEnd) (d : Direction) (u : SubKind) (c : KeyCall)
       → y ≡ called_end x d u c
-      → IsKept p.name.side p.limit p.plans (slice_set p.streams.items place y) None p.sealed.items
-      (vec_capacity p.sealed)
+      → IsKept p.name.side p.limit p.plans (slice_set p.streams.items place y) None
   kept-stream_after_call y d u c after =
-      kept-with y _ [] None _ _ after (none-stream_after_call _ u c x.state there.of_plan.receivers) (lends-none _)
-      kept.short kept.room
+      kept-with y _ [] None after (none-stream_after_call _ u c x.state there.of_plan.receivers) (lends-none _)
 
 -- ---- what is lent
 
@@ -110,14 +98,6 @@ pub lends-still : (xs : List StreamEnd) (i : ℕ) (lent : Option ℕ) (x y : Str
     → y.delivered ≡ x.delivered → delivered_at (slice_set xs i y) lent ≡ delivered_at xs lent
 lends-still xs i None x y lt is same = refl
 lends-still xs i (Some k) x y lt is same = same-lent xs i k x y lt is same
-
--- ---- no call of a stream
-
-pub kept-later : (p : Inside) (lent : Option ℕ) (sealed : List ℕ) (capacity : ℕ) → Keeps p
-    → ((q : ℕ) → lent ≡ Some q → q < length p.streams.items) → length sealed ≤ 4184
-    → 4184 ≤ capacity → IsKept p.name.side p.limit p.plans p.streams.items lent sealed capacity
-kept-later p lent sealed capacity kept lends short room =
-    record { each = kept.each; lends = lends; short = short; room = room }
 
 -- ---- no receiver waits
 

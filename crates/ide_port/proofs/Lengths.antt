@@ -5,7 +5,7 @@ use Rattle.ide_port.proofs.Terms.{Sending, Lanes, described_seal, needs_sync, sy
 use Rattle.ide_port.proofs.Terms.{total_ahead, sealed_with_syncs, LiveKey, Three, TxSub, at_sub, live_sender}
 use Rattle.ide_port.proofs.Terms.{untagged_under, tagged_under, packet_under, sealed_one, sealed_all, StreamEnd}
 use Rattle.ide_port.proofs.Terms.{joined_packets, packets_sent, lanes_in, unless_verdict, packets_and_senders}
-use Rattle.ide_port.proofs.Terms.{sending_refusal}
+use Rattle.ide_port.proofs.Terms.{sending_refusal, Result, SendRefusal}
 use Rattle.std.proofs.Common.{Bool}
 use Rattle.gcm_seal.specs.Gcm.{masked_bytes, tag_of}
 use Rattle.gcm_seal.proofs.Sealing.{length-masked_bytes, length-tag_of}
@@ -13,6 +13,8 @@ use Rattle.ide_types.specs.declared.sub.SubKind.TheVariants.{Npr, Cpl}
 use Rattle.ide_prefix.specs.Iv.{iv_of}
 use Rattle.ide_prefix.specs.Units.{authenticated_bytes, encrypted_bytes}
 use Rattle.link_verdicts.specs.declared.verdict.SealedPacket.{SealedPacket}
+use Rattle.sub_stream.specs.declared.answer.MeasuredPacket.{MeasuredPacket}
+use Rattle.ide_port.specs.StreamSends.{IsSent}
 
 tag_length : (m : Bool) (key iv a c : List ℕ) → length (if m then tag_of key iv a c else []) ≤ 12
 tag_length m key iv a c = grind (arith, length-tag_of key iv a c)
@@ -98,7 +100,7 @@ unless_length : (o : Option Verdict) (ps : List Packet) (n : ℕ) → length (jo
     → length (joined_packets (unless_verdict o [] ps)) ≤ n
 unless_length o ps n le = grind arith
 
-pub sent-length : (e : StreamEnd) (head payload : List ℕ) (s : Sending) (number : ℕ) → length head ≤ 16
+sent-length : (e : StreamEnd) (head payload : List ℕ) (s : Sending) (number : ℕ) → length head ≤ 16
     → length payload ≤ 4096 → length (joined_packets (packets_sent e head payload s number)) ≤ 4184
 sent-length e head payload s number h b =
     unless_length (sending_refusal e s) (packets_and_senders e head payload s number).0 4184
@@ -108,3 +110,12 @@ sent-length e head payload s number h b =
       sealed_room
           (lanes_in e) s number,
     ))
+
+-- what a send of a stream leaves in a buffer without bytes
+pub buffer-length : (x y : StreamEnd) (head payload : List ℕ) (s : Sending) (number : ℕ)
+    (answer : Result (List MeasuredPacket) SendRefusal) (before out : List ℕ)
+    → IsSent x head payload s number answer before out y → before ≡ [] → length head ≤ 16 → length payload ≤ 4096
+    → length out ≤ 4184
+buffer-length x y head payload s number answer before out sent none h b =
+    let bytes : out ≡ joined_packets (packets_sent x head payload s number) = rw none at sent.bytes in
+    rw bytes (sent-length x head payload s number h b)

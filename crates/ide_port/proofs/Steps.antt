@@ -71,7 +71,7 @@ module _ (p : Inside) (e : PortEnd) (view : now p ≡ e) (kept : Keeps p) (id pl
       → IsSent x (head_bytes (header t)) (body t) (new_sending p.name x.id (class_of (header t)) more trusted) number
       answer
       before out y → r ≡ sent_as answer
-      → IsSendStep e.name number r (port_within p (slice_set p.streams.items place y) out p.lent)
+      → IsSendStep e.name number r (port_within p (slice_set p.streams.items place y) p.lent) out
       (stream_step e t more trusted number (found_stream e.plans e.states id))
   sent-step y t more trusted number answer r before out none sent said =
       let k = there p kept id place x at is in
@@ -86,11 +86,11 @@ module _ (p : Inside) (e : PortEnd) (view : now p ≡ e) (kept : Keeps p) (id pl
       rw (← view, k.is_found) (record {
         answered = ap (sent_verdict p.name number) said ∙ verdict_of p.name number answer ∙ ap as_verdict mine.answered;
         lengths = ap lengths_sent said ∙ lengths_of answer ∙ mine.lengths;
+        bytes = rw none at mine.bytes;
         port = (λ i. record (now p) {
           states = (k.change y ∙ ap
               (λ (w : StreamEnd). changed_states p.plans (map state_of p.streams.items) k.plan.id w.state) mine.stream)
               i;
-          sealed = (rw none at mine.bytes) i;
           delivered = lends-still p.streams.items place p.lent x y (inside p id place kept at) is
               (ap (λ (w : StreamEnd). w.delivered) sent.stream) i;
         });
@@ -103,7 +103,7 @@ module _ (p : Inside) (e : PortEnd) (view : now p ≡ e) (packet : Packet) where
       → plan_place p.plans packet.prefix.stream ≡ Some place
       → x ≡ get_or p.streams.items place x → taken ≡ answer_taken (end_outcome x packet) → y ≡ end_taken x packet
       → r ≡ arrival_said packet.prefix.stream packet.prefix.sub taken
-      → IsTaken r (port_within p (slice_set p.streams.items place y) p.sealed.items (Some place))
+      → IsTaken r (port_within p (slice_set p.streams.items place y) (Some place))
       (packet_step e packet (found_stream e.plans e.states packet.prefix.stream))
   taken-step kept place x y taken r at is answered after said =
       let k = there p kept packet.prefix.stream place x at is in
@@ -171,13 +171,13 @@ module _ (p : Inside) (e : PortEnd) (view : now p ≡ e) (kept : Keeps p) (c : P
       (record { none = none-found_stream p.name.side p.limit p.plans p.streams.items kept.each })))
 
   pub nowhere-step : place_and_sub p.plans c.place.stream c.place.sub ≡ None
-      → IsCalled e (port_within p p.streams.items p.sealed.items None) c None
+      → IsCalled e (port_within p p.streams.items None) c None
   nowhere-step at =
       let q = c.place in
       let none : nat_lt q.sub 3 ≡ true → found_stream e.plans e.states q.stream ≡ None =
       λ t. gone p e view q.stream (none_in (nat_lt q.sub 3) (plan_place p.plans q.stream) (sub_from q.sub) at t) in
       let out : stream_at_place e q ≡ None = grind (arith, nat_tests, none) in
-      let moves : port_within p p.streams.items p.sealed.items None ≡ called_port c e =
+      let moves : port_within p p.streams.items None ≡ called_port c e =
       ap (λ (e : PortEnd). record e { delivered = [] }) view ∙ ap
       (λ o. record e { states = called_states e c o; delivered = [] }) (sym out) in
       record { shows = grind (arith, nat_tests, out); moves = moves; slots = slots-step _ moves }
@@ -185,7 +185,7 @@ module _ (p : Inside) (e : PortEnd) (view : now p ≡ e) (kept : Keeps p) (c : P
   pub stream_after_call-step : (place : ℕ) (u : SubKind) (x y : StreamEnd)
       → IsLane p.plans c.place.stream c.place.sub place u
       → x ≡ get_or p.streams.items place x → y ≡ called_end x c.place.direction u c.call
-      → IsCalled e (port_within p (slice_set p.streams.items place y) p.sealed.items None) c
+      → IsCalled e (port_within p (slice_set p.streams.items place y) None) c
       (Some (pair_in x c.place.direction u))
   stream_after_call-step place u x y lane is after =
       let q = c.place in
@@ -196,7 +196,7 @@ module _ (p : Inside) (e : PortEnd) (view : now p ≡ e) (kept : Keeps p) (c : P
       after ∙ (λ i. called_end (k.of_plan.plan i) q.direction (lane.sub_is i) c.call) in
       let was : slot_pair_at (now p) q ≡ Some (pair_in x q.direction u) =
       ap (option_map _) at ∙ ap Some (sym (λ i. pair_in (k.of_plan.plan i) q.direction (lane.sub_is i))) in
-      let moves : port_within p (slice_set p.streams.items place y) p.sealed.items None ≡ called_port c e =
+      let moves : port_within p (slice_set p.streams.items place y) None ≡ called_port c e =
       (λ i. record (now p) {
         states =
             (k.change y ∙ ap (λ (w : StreamEnd). changed_states p.plans (map state_of p.streams.items) k.plan.id

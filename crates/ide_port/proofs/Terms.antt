@@ -24,7 +24,7 @@ pub use Rattle.std.proofs.Common.{length-append, map, refl, subst, suc, sym, tak
 pub use Rattle.std.proofs.Common.{◌==◌, ◌||◌, ◌∙◌, ◌∷◌, ◌≡◌, ◌≢◌, ◌≤◌}
 pub use Rattle.std.proofs.lemmas.Bool.Decides.{nat_tests}
 pub use Rattle.std.specs.Option.{option_and_then, option_map}
-pub use Rattle.std.specs.Prelude.{if◌then◌else◌, nat_lt, slice_get, slice_set, vec_capacity}
+pub use Rattle.std.specs.Prelude.{if◌then◌else◌, nat_lt, slice_get, slice_set}
 pub use Rattle.sub_stream.specs.Calls.{stream_after_call, no_stream, pair_at, sends_in, slots_at, slots_called_into}
 pub use Rattle.sub_stream.specs.Calls.{slots_called_out, stream_status}
 pub use Rattle.stream_lanes.specs.declared.refusal.SendRefusal.{SendRefusal}

@@ -181,8 +181,8 @@ called-units c e = record {
 
 pub sent-units : (e : PortEnd) (o : Outgoing) (more : Bool) (sets : Trusting) (number : ℕ)
     → UnitsGrow 1 e (send_step e o more sets number).port
-sent-units e (NoTlp fault) more sets number = record { bounded = (stays 1 e).bounded }
-sent-units e OnNone more sets number = record { bounded = (stays 1 e).bounded }
+sent-units e (NoTlp fault) more sets number = stays 1 e
+sent-units e OnNone more sets number = stays 1 e
 sent-units e (OnStream t id) more sets number =
     record { bounded = λ m n le all. by_stream m n le all (found_stream e.plans e.states id) refl }
   where

@@ -7,15 +7,13 @@ use Rattle.spec_stream.specs.Stream.{StreamState}
 use Rattle.sub_stream.specs.Calls.{no_stream}
 use Rattle.ide_port.specs.StreamEnds.{StreamEnd}
 
--- The streams are those of its line, in order, with their states; a key seals at most `limit` units. `sealed` are the
--- bytes of the packets of the last send, joined; `delivered` the packets of the last accepted unit, decrypted, until
--- the next packet or call of key management.
+-- The streams are those of its line, in order, with their states; a key seals at most `limit` units. `delivered` are
+-- the packets of the last accepted unit, decrypted, until the next packet or call of key management.
 pub record PortEnd : Type 0 where
   pub name : PortName
   pub plans : List StreamPlan
   pub limit : ℕ
   pub states : List StreamState
-  pub sealed : List ℕ
   pub delivered : List Packet
 
 abbrev pub new_port : PortName → List StreamPlan → ℕ → PortEnd
@@ -24,7 +22,6 @@ new_port name plans limit = record {
   plans = plans;
   limit = limit;
   states = map (λ (s : StreamPlan). no_stream) plans;
-  sealed = [];
   delivered = [];
 }
 

@@ -1,5 +1,5 @@
 -- The streams of a port as the code keeps them, beside their plans.
-use Rattle.std.specs.Prelude.{◌≡◌, ℕ, ◌<◌, ◌≤◌, nat_lt, Bool, true, false, ◌||◌, List, [], ◌∷◌, map, length}
+use Rattle.std.specs.Prelude.{◌≡◌, ℕ, ◌<◌, nat_lt, Bool, true, false, ◌||◌, List, [], ◌∷◌, map, length}
 use Rattle.std.specs.Prelude.{slice_get, Option, Some, None, if◌then◌else◌}
 use Rattle.std.specs.Option.{option_map}
 use Rattle.ide_types.specs.declared.port.Side.{Side}
@@ -62,13 +62,11 @@ abbrev pub delivered_at : List StreamEnd → Option ℕ → List Packet
 delivered_at xs None = []
 delivered_at xs (Some place) = packets_lent (slice_get xs place)
 
--- the streams are those of the plans, one of them lends, and what was sealed has room
+-- the streams are those of the plans, and one of them lends
 pub record IsKept (side : Side) (limit : ℕ) (plans : List StreamPlan) (streams : List StreamEnd) (lent : Option ℕ)
-    (sealed : List ℕ) (capacity : ℕ) : Type 0 where
+    : Type 0 where
   pub each : AreStreamsOf side limit plans streams
   pub lends : (place : ℕ) → lent ≡ Some place → place < length streams
-  pub short : length sealed ≤ 4184
-  pub room : 4184 ≤ capacity
 
 -- ---- one stream
 

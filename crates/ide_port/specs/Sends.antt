@@ -32,7 +32,7 @@ pub record SendStep : Type 0 where
 
 -- nothing is sealed
 abbrev pub unsealed_step : PortEnd → Verdict → SendStep
-unsealed_step e verdict = record { verdict = verdict; packets = []; port = record e { sealed = [] } }
+unsealed_step e verdict = record { verdict = verdict; packets = []; port = e }
 
 abbrev pub as_verdict : Result (List Described) Verdict → Verdict
 as_verdict (Ok packets) = v.Sealed packets
@@ -44,15 +44,13 @@ stream_step e t more trusted number None = unsealed_step e (v.Plain e.name)
 stream_step e t more trusted number (Some f) =
     let x = stream_end_at e f in
     let s = new_sending e.name f.plan.id (class_of (header t)) more trusted in
-    let packets = packets_sent x (head_bytes (header t)) (body t) s number in
     record {
       verdict = as_verdict (sent_descriptions x s number);
-      packets = packets;
+      packets = packets_sent x (head_bytes (header t)) (body t) s number;
       port =
           record e {
             states = changed_states e.plans e.states f.plan.id
                 (end_sent x (head_bytes (header t)) (body t) s number).state;
-            sealed = joined_packets packets;
           };
     }
 
@@ -77,12 +75,15 @@ abbrev pub lengths_sent : Sent → List ℕ
 lengths_sent (Sealed packets) = map (λ (p : MeasuredPacket). p.length) packets
 lengths_sent answer = []
 
--- an answer and the port after it, as a step says
-pub record IsSendStep (name : PortName) (number : ℕ) (answer : Sent) (new : PortEnd) (step : SendStep) : Type 0 where
+-- an answer, the port after it and the bytes that were sealed, as a step says
+pub record IsSendStep (name : PortName) (number : ℕ) (answer : Sent) (new : PortEnd) (sealed : List ℕ) (step : SendStep)
+    : Type 0 where
   pub answered : sent_verdict name number answer ≡ step.verdict
   pub lengths : lengths_sent answer ≡ packet_lengths step.packets
+  pub bytes : sealed ≡ joined_packets step.packets
   pub port : new ≡ step.port
 
-abbrev pub IsSentAtPort : PortEnd → List ℕ → Bool → Trusting → ℕ → Sent → PortEnd → Type 0
-IsSentAtPort old bytes more sets number answer new =
-    IsSendStep old.name number answer new (send_step old (outgoing_of old.plans old.name.side bytes) more sets number)
+abbrev pub IsSentAtPort : PortEnd → List ℕ → Bool → Trusting → ℕ → Sent → PortEnd → List ℕ → Type 0
+IsSentAtPort old bytes more sets number answer new sealed =
+    IsSendStep old.name number answer new sealed
+    (send_step old (outgoing_of old.plans old.name.side bytes) more sets number)

@@ -10,11 +10,13 @@ mod answer;
 mod directions;
 mod plans;
 mod port;
+mod send_buffer;
 mod stream;
 mod trusting;
 
 pub use answer::{Arrival, Sent};
 pub use port::Port;
+pub use send_buffer::SendBuffer;
 pub use stream::{SEND_ROOM, Stream};
 pub use stream_lanes::{MeasuredPackets, SendRefusal};
 pub use trusting::{FixedTrust, Trusting};

@@ -13,7 +13,7 @@ ghost use Rattle.ide_port.specs.Kept.{arrival_said};
 use crate::answer::{Arrival, Sent};
 use crate::plans::{copied, lane, place, planned};
 use crate::trusting::Trusting;
-use crate::{SEND_ROOM, Stream};
+use crate::{SendBuffer, Stream};
 use ide_prefix::{Cut, PacketView, cut};
 use ide_types::{Items, KeySet, OutOfMemory, PortName, Side, StreamPlan, StreamStatus, SubKind};
 use key_messages::{Place, ProgramFault, SlotPort};
@@ -33,14 +33,12 @@ pub struct Port {
     plans: Items<StreamPlan>,
     // those of the plans, in order
     streams: Vec<Stream>,
-    // what the last send sealed
-    sealed: Vec<u8>,
     // the place of the stream that lends what it accepted
     lent: Option<usize>,
 }
 
 impl Model for Port {
-    ghost use Rattle.std.specs.Prelude.{map, vec_capacity};
+    ghost use Rattle.std.specs.Prelude.{map};
     ghost use Rattle.ide_port.specs.StreamEnds.{StreamEnd};
     ghost use Rattle.ide_port.specs.Ends.{PortEnd};
     ghost use Rattle.ide_port.specs.Kept.{IsKept, delivered_at};
@@ -52,12 +50,10 @@ impl Model for Port {
       plans = p.plans;
       limit = p.limit;
       states = map (λ (x : StreamEnd). x.state) p.streams.items;
-      sealed = p.sealed.items;
       delivered = delivered_at p.streams.items p.lent;
     } };
 
-    ghost invariant = { λ p.
-        IsKept p.name.side p.limit p.plans p.streams.items p.lent p.sealed.items (vec_capacity p.sealed) };
+    ghost invariant = { λ p. IsKept p.name.side p.limit p.plans p.streams.items p.lent };
 }
 
 // The header and the payload of a TLP's bytes.
@@ -111,7 +107,6 @@ impl Port {
     ghost use Rattle.ide_prefix.specs.Reading.{cut_of};
     ghost use Rattle.tlp_layout.specs.Outgoing.{outgoing_if_chosen, outgoing_of, stream_taken};
     ghost use Rattle.ide_port.specs.Sends.{IsSendStep, IsSentAtPort, send_step, stream_step, sent_verdict};
-    ghost use Rattle.ide_port.specs.Sends.{unsealed_step};
     ghost use Rattle.ide_port.specs.Arrivals.{take_step, packet_step};
     ghost use Rattle.ide_port.specs.Units.{PortUnitsAtMost};
     ghost use Rattle.ide_port.specs.Calls.{port_stream_status, live_in_port, sealing_draw_in, receiving_draw_in};
@@ -128,41 +123,39 @@ impl Port {
     {
         let streams = planned(alloc, name.side, plans, limit)?;
         let plans = copied(alloc, plans)?;
-        let sealed = Vec::with_capacity(alloc, SEND_ROOM)?;
         Ok(Port {
             name,
             limit,
             plans,
             streams,
-            sealed,
             lent: None,
         })
     }
 
-    // Nothing is sealed.
-    fn unsealed(&mut self)
-        ensures { self.new ≡ record self.old { sealed = [] } }
-    {
-        self.sealed.clear();
-    }
-
     /// Sends a TLP's bytes: the TLP takes a stream, which seals it after the sync packets that must go first, or it
-    /// goes plain. `more` says that the unit goes on if it has room, `trusting` whether T is set. What was sealed is
-    /// lent by `packets` until the next send.
+    /// goes plain. `more` says that the unit goes on if it has room, `trusting` whether T is set. `out` is left with
+    /// what was sealed, in place of what it had.
     #[tactic(auto, unfolding(tlp_layout::specs::Outgoing::outgoing_of))]
-    pub fn send<T: Trusting>(&mut self, tlp: &[u8], more: bool, trusting: &T) -> Sent
+    pub fn send<T: Trusting>(
+        &mut self,
+        tlp: &[u8],
+        more: bool,
+        trusting: &T,
+        out: &mut SendBuffer,
+    ) -> Sent
         requires { PortUnitsAtMost (2 ^ 40) self.old }
         // Whatever the number of the next sealed packet is over the run.
-        ensures { (number : ℕ) → IsSentAtPort self.old tlp.now more (T.trusting trusting.now) number result self.new }
+        ensures { (number : ℕ)
+            → IsSentAtPort self.old tlp.now more (T.trusting trusting.now) number result self.new out.new }
     {
         match read(tlp) {
             Err(fault) => {
-                self.unsealed();
+                out.clear();
                 Sent::Malformed(fault)
             }
             Ok(view) => {
                 let stream = choose(&self.plans, self.name.side, &view.head());
-                self.send_chosen(stream, tlp, &view, more, trusting)
+                self.send_chosen(stream, tlp, &view, more, trusting, out)
             }
         }
     }
@@ -175,22 +168,23 @@ impl Port {
         tlp: &TlpView,
         more: bool,
         trusting: &T,
+        out: &mut SendBuffer,
     ) -> Sent
         requires few { PortUnitsAtMost (2 ^ 40) self.old }
         requires read { read_of bytes.now ≡ Ok (viewed_tlp tlp.now) }
         requires place { IfSome chosen (λ c. plan_place self.old.plans c.id ≡ Some c.place) }
-        ensures { (number : ℕ) → let out = outgoing_if_chosen (viewed_tlp tlp.now)
-            (chosen_stream (choice_of_stream chosen)) in IsSendStep self.old.name number result self.new
-            (send_step self.old out more (T.trusting trusting.now) number) }
+        ensures { (number : ℕ) → let outgoing = outgoing_if_chosen (viewed_tlp tlp.now)
+            (chosen_stream (choice_of_stream chosen)) in IsSendStep self.old.name number result self.new out.new
+            (send_step self.old outgoing more (T.trusting trusting.now) number) }
     {
         match chosen {
             None => {
-                self.unsealed();
+                out.clear();
                 Sent::Plain
             }
             Some(chosen) => {
                 let t = trusting.is_trusted(&tlp.head(), chosen.id);
-                self.send_on(chosen, bytes, tlp, more, t)
+                self.send_on(chosen, bytes, tlp, more, t, out)
             }
         }
     }
@@ -203,30 +197,23 @@ impl Port {
         tlp: &TlpView,
         more: bool,
         trusted: bool,
+        out: &mut SendBuffer,
     ) -> Sent
         requires few { PortUnitsAtMost (2 ^ 40) self.old }
         requires read { read_of bytes.now ≡ Ok (viewed_tlp tlp.now) }
         requires place { plan_place self.old.plans chosen.id ≡ Some chosen.place }
         ensures { (number : ℕ) → let f = found_stream self.old.plans self.old.states chosen.id in
-            IsSendStep self.old.name number result self.new
+            IsSendStep self.old.name number result self.new out.new
             (stream_step self.old (viewed_tlp tlp.now) more trusted number f) }
     {
         let (head, payload) = parts(bytes, tlp);
-        let sealed = &mut self.sealed;
+        let sealed = &mut out.bytes;
         sealed.clear();
         let stream = &mut self.streams[chosen.place];
         match stream.send(tlp.class(), head, payload, more, trusted, sealed) {
             Ok(sealed) => Sent::Sealed(sealed),
             Err(refusal) => Sent::Refused(refusal),
         }
-    }
-
-    /// The bytes that the last send sealed, its packets joined.
-    pub fn packets(&self) -> &[u8]
-        ensures value { result.now ≡ self.now.sealed }
-        ensures short { length result.now ≤ 4184 }
-    {
-        &self.sealed
     }
 
     // Nothing of a stream changes, and nothing is lent any more.

@@ -16,7 +16,7 @@ pub use Rattle.join_arrivals.proofs.Routes.{port_own, reached_there, sealing_the
 pub use Rattle.join_arrivals.proofs.Switched.{few_queued, queued_behind, switched_few, switched_opens, switched_reads}
 pub use Rattle.join_ends.proofs.Located.{is_located}
 pub use Rattle.join_ends.proofs.Resets.{keeper_reset, links_reset, reset_grows, state_reset}
-pub use Rattle.join_ends.proofs.Sends.{at_port, cut_joined, lengths_join, sealed_on, send_joins, send_keeps, sends_as}
+pub use Rattle.join_ends.proofs.Sends.{at_port, cut_joined, lengths_join, sealed_on, send_keeps, sends_as}
 pub use Rattle.join_ends.proofs.Sends.{state_after_send, sent_at_port}
 pub use Rattle.join_ends.proofs.Streams.{IsName, at_side, end_found, name_is, none_found, op_is, planned, some_op}
 pub use Rattle.join_ends.proofs.Streams.{unnamed}

@@ -64,10 +64,6 @@ pub send_keeps : (e : PortEnd) (o : Outgoing) (more : Bool) (sets : Trusting) (n
     → Keeps e (send_step e o more sets n).port
 send_keeps e o more sets n = grind arith
 
-pub send_joins : (e : PortEnd) (o : Outgoing) (more : Bool) (sets : Trusting) (n : ℕ)
-    → (send_step e o more sets n).port.sealed ≡ joined_packets (send_step e o more sets n).packets
-send_joins e o more sets n = grind arith
-
 -- a verdict that names the port of an end where it names no stream
 abbrev pub at_port : PortName → Verdict → Verdict
 at_port port (v.Malformed end fault place) = v.Malformed port fault place
@@ -97,7 +93,6 @@ on_stream e t f s n r =
           record e {
             states = changed_states e.plans e.states f.plan.id
                 (unless_verdict r f.state (record f.state { tx = sealed.1 }));
-            sealed = joined_packets (unless_verdict r [] sealed.0);
           };
     }
 

@@ -4,7 +4,7 @@ pub mod Landing
 pub use Rattle.join_interfaces.proofs.PeerEnds.{peer_end_is, peer_line_is}
 pub use Rattle.join_arrivals.proofs.Arrivals.{dumps}
 pub use Rattle.join_arrivals.proofs.{sealed_there, is_located, keeper_reset, links_reset, reset_grows, state_reset}
-pub use Rattle.join_arrivals.proofs.{sealing_there, at_port, cut_joined, lengths_join, sealed_on, send_joins}
+pub use Rattle.join_arrivals.proofs.{sealing_there, at_port, cut_joined, lengths_join, sealed_on}
 pub use Rattle.join_arrivals.proofs.{send_keeps, sends_as, state_after_send, sent_at_port, IsName, at_side, end_found}
 pub use Rattle.join_arrivals.proofs.{name_is, op_is, planned, closed_at, none_found, some_op, unnamed}
 pub use Rattle.join_arrivals.proofs.Operations.{Operated, WorksOn, operated, operates_grow, some_named, step_none}

@@ -9,7 +9,7 @@ pub use Rattle.join_arrivals.specs.Events.{operation_event}
 pub use Rattle.join_arrivals.specs.{carried_next}
 pub use Rattle.join_interfaces.specs.Verdicts.{NoBadInterfaceReply, outcome_verdict, op_event, report_of}
 pub use Rattle.all_ends.specs.{PairEnds, arrival_of, secure_or_live, unit_in, unit_tlps, waiting_reads_after}
-pub use Rattle.all_ends.specs.{cut_packets, new_ends, port_in, with_port, InterfacesView, keyed_if, live_for}
+pub use Rattle.all_ends.specs.{cut_packets, new_ends, port_in, InterfacesView, keyed_if, live_for}
 pub use Rattle.all_ends.specs.{operated_on, status_for, stopped_if, manager_told, IsAtBothEnds, IsOperated, IsWalked}
 pub use Rattle.all_ends.specs.{KeeperView, Operates, ends_found, arrival_verdict, end_sent_verdict, grants_in}
 pub use Rattle.all_ends.specs.{packet_effect, packet_write, unit_writes, writes_by, LinkEnds, HostKeeper}
@@ -20,7 +20,7 @@ pub use Rattle.all_ends.specs.Ends.{EndsView, all_cleared, bound_on, bound_trust
 pub use Rattle.all_ends.specs.Ends.{cleared_place, far_hop_trust, line_place, link_trust, live_at_port, live_of}
 pub use Rattle.all_ends.specs.Ends.{peer_live, new_all_ends, pair_port, port_at_place, port_on, reset_all}
 pub use Rattle.all_ends.specs.Ends.{settled_first_links, settled_ends, settled_link, settled_peer, trusting_on}
-pub use Rattle.all_ends.specs.Ends.{unlocked_ends, unlocked_link, with_pair_port, with_port_at_place, with_port_on}
+pub use Rattle.all_ends.specs.Ends.{unlocked_ends, unlocked_link, with_port_on}
 pub use Rattle.all_ends.specs.Places.{code_behind, place_on_links, stream_named}
 pub use Rattle.all_ends.specs.States.{AreLinks, IsBounded, IsLink, in_sixteen, name_of, names_from_line, names_of}
 pub use Rattle.all_ends.specs.States.{ops_by_line, line_ops, pair_ports, ports_in, rows_of, state_of, views_after}

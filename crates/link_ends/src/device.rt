@@ -11,7 +11,7 @@ ghost use Rattle.ide_port.specs.{IsSentAtPort, PortUnitsAtMost};
 ghost use Rattle.link_ends.specs.DeviceEnds.{secure_at};
 
 use crate::wiring::{Owners, PeerStreams, SecureStreams, is_secure_at};
-use ide_port::{Port, Sent};
+use ide_port::{Port, SendBuffer, Sent};
 use ide_types::{InterfacePlan, Items, OutOfMemory, PortName, Side, StreamPlan};
 use interface_ends::DeviceInterfaces;
 use interface_state::Register;
@@ -95,17 +95,17 @@ impl Device {
     }
 
     /// Sends a TLP's bytes, as its port does; T is set if the TLP's owner is an interface in RUN and the TLP takes the
-    /// stream that the interface is bound to.
-    pub fn send(&mut self, tlp: &[u8], more: bool) -> Sent
+    /// stream that the interface is bound to. `out` is left with what was sealed.
+    pub fn send(&mut self, tlp: &[u8], more: bool, out: &mut SendBuffer) -> Sent
         requires { PortUnitsAtMost (2 ^ 40) self.old.port }
         ensures sent { (number : ℕ) → IsSentAtPort self.old.port tlp.now more (device_trusting self.old.interfaces)
-            number result self.new.port }
+            number result self.new.port out.new }
         ensures others { self.new ≡ record self.old { port = self.new.port } }
     {
         let owners = Owners {
             interfaces: &self.interfaces,
         };
-        self.port.send(tlp, more, &owners)
+        self.port.send(tlp, more, &owners, out)
     }
 
     /// How many interfaces it has.

@@ -7,7 +7,7 @@ ghost use Rattle.ide_prefix.specs.Reading.{cut_of};
 ghost use Rattle.ide_port.specs.{IsSentAtPort, PortUnitsAtMost, take_step};
 
 use crate::Device;
-use ide_port::{Arrival, FixedTrust, Port, Sent};
+use ide_port::{Arrival, FixedTrust, Port, SendBuffer, Sent};
 use ide_types::{InterfacePlan, Items, OutOfMemory, PortName, Side, StreamPlan};
 use std::alloc::Global;
 
@@ -47,16 +47,24 @@ impl LinkEnds {
     }
 
     /// Sends a TLP's bytes at the port of this side. A host's port sets T as it is asked. A device's port sets T if the
-    /// TLP's owner is an interface in RUN and the TLP takes the stream that the interface is bound to.
-    pub fn send(&mut self, side: Side, tlp: &[u8], more: bool, trusted: bool) -> Sent
+    /// TLP's owner is an interface in RUN and the TLP takes the stream that the interface is bound to. `out` is left
+    /// with what was sealed.
+    pub fn send(
+        &mut self,
+        side: Side,
+        tlp: &[u8],
+        more: bool,
+        trusted: bool,
+        out: &mut SendBuffer,
+    ) -> Sent
         requires few { PortUnitsAtMost (2 ^ 40) (port_in side self.old) }
         ensures sent { (number : ℕ) → IsSentAtPort (port_in side self.old) tlp.now more
-            (trusting_at side self.old trusted) number result (port_in side self.new) }
+            (trusting_at side self.old trusted) number result (port_in side self.new) out.new }
         ensures ends { self.new ≡ with_port side (port_in side self.new) self.old }
     {
         match side {
-            Side::Host => self.host.send(tlp, more, &FixedTrust(trusted)),
-            Side::Device => self.device.send(tlp, more),
+            Side::Host => self.host.send(tlp, more, &FixedTrust(trusted), out),
+            Side::Device => self.device.send(tlp, more, out),
         }
     }
 

@@ -32,8 +32,8 @@ returns-in-Link c =
       peers = c.self.inside.peers.items;
     } in
     subst (λ (v : EndsView). SendsAt v c.args.end c.args.tlp.now c.args.more c.args.trusted c.send.result
-    (record old { links = slice_set old.links c.in-Link.i c.send.new.self })) c.self.view_is
-    (send_link old c.args.end c.args.tlp.now c.args.more c.args.trusted c.send.result c.in-Link.i
+    (record old { links = slice_set old.links c.in-Link.i c.send.new.self }) c.send.new.out) c.self.view_is
+    (send_link old c.args.end c.args.tlp.now c.args.more c.args.trusted c.send.result c.send.new.out c.in-Link.i
     c.index_mut.result.now c.send.new.self c.in-Link.ensures c.index_mut.ensures.value c.send.ensures.sent
     c.send.ensures.ends)
 
@@ -46,7 +46,8 @@ returns-in-Near c =
       peers = c.self-in-Near.inside.peers.items;
     } in
     subst (λ (v : EndsView). SendsAt v c.args.end c.args.tlp.now c.args.more c.args.trusted c.send_near.result
-    (record old { near = slice_set old.near c.in-Near.i c.send_near.new.ends })) c.self-in-Near.view_is
-    (send_near old c.args.end c.args.tlp.now c.args.more c.args.trusted c.send_near.result c.in-Near.i
-    c.index_mut-in-Near.result.now c.send_near.new.ends c.in-Near.ensures c.index_mut-in-Near.ensures.value
-    c.send_near.ensures.sent c.send_near.ensures.ends)
+    (record old { near = slice_set old.near c.in-Near.i c.send_near.new.ends }) c.send_near.new.out)
+    c.self-in-Near.view_is
+    (send_near old c.args.end c.args.tlp.now c.args.more c.args.trusted c.send_near.result c.send_near.new.out
+    c.in-Near.i c.index_mut-in-Near.result.now c.send_near.new.ends c.in-Near.ensures
+    c.index_mut-in-Near.ensures.value c.send_near.ensures.sent c.send_near.ensures.ends)

@@ -36,8 +36,8 @@ returns-then-i-lt-HOPS c =
     let less = c.if-i-lt-HOPS.true in
     let hop : nat_lt c.args.i 8 ≡ true = grind (arith, nat_tests, less) in
     subst (λ (v : EndsView). SendsAt v c.args.end c.args.tlp.now c.args.more c.args.trusted c.send_far.result
-    (record old { pairs = slice_set old.pairs c.args.i c.send_far.new.ends })) c.self.view_is
-    (send_pair old c.args.end c.args.tlp.now c.args.more c.args.trusted c.send_far.result c.args.i
+    (record old { pairs = slice_set old.pairs c.args.i c.send_far.new.ends }) c.send_far.new.out) c.self.view_is
+    (send_pair old c.args.end c.args.tlp.now c.args.more c.args.trusted c.send_far.result c.send_far.new.out c.args.i
     c.index_mut.result.now c.send_far.new.ends far c.requires.place c.index_mut.ensures.value c.send_far.ensures.sent
     (sym (ap (λ (b : Bool). if b then far
     else bound_trust (bound_on old.links old.peers c.args.end.side (c.args.i - 8))) hop)) c.send_far.ensures.ends)
@@ -61,7 +61,8 @@ returns-else-i-lt-HOPS c =
     ∙ sym (ap (λ (b : Bool). if b then far_hop_trust c.args.end.side c.args.trusted
     else bound_trust (bound_on old.links old.peers c.args.end.side (c.args.i - 8))) hop)) in
     subst (λ (v : EndsView). SendsAt v c.args.end c.args.tlp.now c.args.more c.args.trusted c.send_between.result
-    (record old { pairs = slice_set old.pairs c.args.i c.send_between.new.ends })) c.self.view_is
-    (send_pair old c.args.end c.args.tlp.now c.args.more c.args.trusted c.send_between.result c.args.i
+    (record old { pairs = slice_set old.pairs c.args.i c.send_between.new.ends }) c.send_between.new.out) c.self.view_is
+    (send_pair old c.args.end c.args.tlp.now c.args.more c.args.trusted c.send_between.result c.send_between.new.out
+    c.args.i
     c.index_mut-else-i-lt-HOPS.result.now c.send_between.new.ends bound c.requires.place
     c.index_mut-else-i-lt-HOPS.ensures.value c.send_between.ensures.sent same c.send_between.ensures.ends)

@@ -1,6 +1,5 @@
-use Rattle.all_links.proofs.Terms.{ap, sym, ◌∙◌, ◌≡◌, ◌+◌, ℕ, length, subst, List, ◌++◌, map, Some, append-nil, Plan}
-use Rattle.all_links.proofs.Terms.{MeasuredPacket, Sent, lengths_sent, Links, SendsAt, EndsView, port_on}
-use Rattle.ide_port.specs.{PortEnd}
+use Rattle.all_links.proofs.Terms.{ap, sym, ◌∙◌, ◌≡◌, ◌+◌, ℕ, length, subst, List, ◌++◌, map, append-nil, Plan}
+use Rattle.all_links.proofs.Terms.{MeasuredPacket, Sent, lengths_sent, Links, SendsAt, EndsView}
 use Rattle.line_arrivals.specs.{cut_packets, end_sent_verdict}
 use Rattle.ide_types.specs.declared.port.PortName.{PortName}
 use Rattle.spec_links.specs.Ports.{port_of}
@@ -17,9 +16,10 @@ send-sent-requires-clause-few c =
 pub keep-requires-clause-lengths : goal.keep-requires-clause-lengths
 keep-requires-clause-lengths c =
     sealed_length c.args.self.now.ends c.send-sent.new.self c.args.end c.args.bytes.now c.args.more c.args.trusted
-    c.send-sent.result c.as_slice.result.now c.packets.result.now c.requires.here c.send-sent.ensures
+    c.send-sent.result c.send-sent.new.out c.as_slice.result.now c.requires.here c.send-sent.ensures
     (ap (λ (ps : List MeasuredPacket). map (λ (p : MeasuredPacket). p.length) ps) c.as_slice.ensures.value ∙ ap
-    (λ (a : Sent). lengths_sent a) (sym c.in-Sealed.is)) c.packets.ensures.value
+    (λ (a : Sent). lengths_sent a) (sym c.in-Sealed.is))
+    ∙ ap (λ (bs : List ℕ). length bs) (sym c.as_slice-in-Sealed.ensures.value)
 
 pub returns-clause-ends : goal.returns-clause-ends
 returns-clause-ends c =
@@ -35,15 +35,14 @@ returns-clause-ends c =
     let finish = λ (ends_is : c.match-sent.self.ends ≡ c.send-sent.new.self)
     (keeper_is : c.match-sent.self.keeper.keys ≡ old.keeper.keys)
     (steps_is : c.match-sent.self.steps + 1 ≡ old.steps + 1)
-    (kept : (e : PortEnd) → port_on c.match-sent.self.ends c.args.end ≡ Some e
-    → c.match-sent.self.packets.packets ≡ old.packets.packets
-    ++ cut_packets c.args.end (lengths_sent c.send-sent.result) e.sealed)
+    (kept : c.match-sent.self.packets.packets ≡ old.packets.packets
+    ++ cut_packets c.args.end (lengths_sent c.send-sent.result) c.send-sent.new.out)
     (memory : c.match-sent.self.trusted ≡ old.trusted).
     seals plan old (record c.match-sent.self { steps = c.match-sent.self.steps + 1 }) c.args.end c.args.bytes.now
-    c.args.more c.args.trusted c.send-sent.result
+    c.args.more c.args.trusted c.send-sent.result c.send-sent.new.out
     c.send_verdict.result c.requires.bounded c.requires.here
     (subst (λ (w : EndsView). SendsAt old.ends c.args.end c.args.bytes.now c.args.more c.args.trusted
-    c.send-sent.result w)
+    c.send-sent.result w c.send-sent.new.out)
     (sym ends_is) c.send-sent.ensures) says keeper_is steps_is kept memory in
     elim c.match-sent.branch [
       | in-Sealed w ↦
@@ -52,15 +51,14 @@ returns-clause-ends c =
           ap (λ (ps : List MeasuredPacket). map (λ (p : MeasuredPacket). p.length) ps) w.as_slice.ensures.value ∙ ap
           (λ (a : Sent). lengths_sent a) (sym w.in-Sealed.is) in
           finish ends_is (ap (λ (s : Links). s.keeper.keys) w.self-is) (ap (λ (s : Links). s.steps + 1) w.self-is)
-          (λ e at. ap (λ (s : Links). s.packets.packets) w.self-is ∙ w.keep.ensures
-          ∙ (λ i. old.packets.packets ++ cut_packets c.args.end (lengths i)
-          (w.packets.ensures.value e (ap (λ (w' : EndsView). port_on w' c.args.end) (sym ends_is) ∙ at) i)))
+          (ap (λ (s : Links). s.packets.packets) w.self-is ∙ w.keep.ensures
+          ∙ (λ i. old.packets.packets ++ cut_packets c.args.end (lengths i) (w.as_slice-in-Sealed.ensures.value i)))
           (ap (λ (s : Links). s.trusted) w.self-is)
       | in_default w ↦
           finish (ap (λ (s : Links). s.ends) w.self-is) (ap (λ (s : Links). s.keeper.keys) w.self-is)
           (ap (λ (s : Links). s.steps + 1) w.self-is)
-          (λ e at. ap (λ (s : Links). s.packets.packets) w.self-is ∙ sym (append-nil old.packets.packets)
-          ∙ ap (λ (ns : List ℕ). old.packets.packets ++ cut_packets c.args.end ns e.sealed)
+          (ap (λ (s : Links). s.packets.packets) w.self-is ∙ sym (append-nil old.packets.packets)
+          ∙ ap (λ (ns : List ℕ). old.packets.packets ++ cut_packets c.args.end ns c.send-sent.new.out)
           (sym (not_sealed c.send-sent.result w.in_default.not-Sealed)))
           (ap (λ (s : Links). s.trusted) w.self-is)
     ]
@@ -71,9 +69,9 @@ returns-clause-sides c =
     let finish = λ (ends_is : c.match-sent.self.ends ≡ c.send-sent.new.self)
     (keeper_is : c.match-sent.self.keeper ≡ old.keeper) (memory : c.match-sent.self.trusted ≡ old.trusted).
     sent_keeps old (record c.match-sent.self { steps = c.match-sent.self.steps + 1 }) c.args.end c.args.bytes.now
-    c.args.more c.args.trusted c.send-sent.result c.requires.here
+    c.args.more c.args.trusted c.send-sent.result c.send-sent.new.out c.requires.here
     (subst (λ (w : EndsView). SendsAt old.ends c.args.end c.args.bytes.now c.args.more c.args.trusted
-    c.send-sent.result w) (sym ends_is) c.send-sent.ensures) keeper_is memory in
+    c.send-sent.result w c.send-sent.new.out) (sym ends_is) c.send-sent.ensures) keeper_is memory in
     elim c.match-sent.branch [
       | in-Sealed w ↦
           finish (ap (λ (s : Links). s.ends) w.self-is) (ap (λ (s : Links). s.keeper) w.self-is)

@@ -1,4 +1,4 @@
-use Rattle.ide_port.proofs.Terms.{[], ap, ◌∙◌, length, map, arith}
+use Rattle.ide_port.proofs.Terms.{[], ap, ◌∙◌, map}
 use Rattle.ide_port.proofs.Streams.{state_of, streams-new, states-new}
 use Rattle.ide_port.proofs.Keeping.{lends-none}
 use Rattle.ide_port.proofs.port.Port.make.Goals as goal
@@ -8,8 +8,6 @@ invariant_of-result c = record {
   each = rw (c.in_ok-streams.ensures, c.in_ok-plans.ensures)
       (streams-new c.args.name.side c.args.limit c.args.plans.now);
   lends = lends-none _;
-  short = omega (arith, ap length c.in_ok-sealed.ensures.items);
-  room = c.in_ok-sealed.ensures.capacity;
 }
 
 pub returns : goal.returns
@@ -20,6 +18,5 @@ returns c =
       limit = c.args.limit;
       states = (ap (map state_of) c.in_ok-streams.ensures ∙ states-new c.args.name.side c.args.limit c.args.plans.now)
           i;
-      sealed = c.in_ok-sealed.ensures.items i;
       delivered = [];
     })

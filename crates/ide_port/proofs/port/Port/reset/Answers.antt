@@ -7,8 +7,6 @@ pub invariant_of-self : goal.invariant_of-self
 invariant_of-self c = record {
   each = rw c.reset_streams.ensures (resets _ _ _ _ c.self.invariant.each).each;
   lends = lends-none _;
-  short = c.self.invariant.short;
-  room = c.self.invariant.room;
 }
 
 pub returns : goal.returns
@@ -19,7 +17,6 @@ returns c =
       limit = c.self.inside.limit;
       states = (ap (map state_of) c.reset_streams.ensures ∙
           (resets _ _ c.self.inside.plans c.self.inside.streams.items c.self.invariant.each).states) i;
-      sealed = c.self.inside.sealed.items;
       delivered = [];
     })
     ∙ ap reset_port c.self.view_is

@@ -4,6 +4,7 @@ use Rattle.std.proofs.Common.{◌^◌}
 use Rattle.ide_port.specs.Units.{UnitsAtMost}
 use Rattle.ide_port.specs.StreamSends.{IsSent}
 use Rattle.ide_port.proofs.Keeping.{inside, there, kept-sent}
+use Rattle.ide_port.proofs.Lengths.{buffer-length}
 use Rattle.tlp_layout.specs.Choice.{plan_place}
 use Rattle.ide_port.proofs.Steps.{sent_as, sent-step, reads}
 use Rattle.ide_port.proofs.Units.{found-has}
@@ -50,11 +51,15 @@ invariant_of-self c =
     let stands : plan_place c.self.inside.plans c.args.chosen.id ≡ Some c.args.chosen.place =
     ap (λ (e : PortEnd). plan_place e.plans c.args.chosen.id) c.self.view_is ∙ c.requires.place in
     kept-sent c.self.inside c.self.invariant c.args.chosen.id c.args.chosen.place c.index_mut-stream.result.now stands
-    c.index_mut-stream.ensures.value _ _ _ _ 0 _ _ _ _
-    (sent c 0) c.clear.ensures.items
-    (rw c.parts.ensures.head at c.parts.ensures.head_short)
-    (rw c.parts.ensures.payload at c.parts.ensures.payload_short)
-    (omega (arith, c.send.ensures.capacity, c.clear.ensures.capacity, c.self.invariant.room))
+    c.index_mut-stream.ensures.value _ _ _ _ 0 _ _ _ (sent c 0)
+
+pub invariant_of-out : goal.invariant_of-out
+invariant_of-out c = (
+  buffer-length c.index_mut-stream.result.now c.send.new.self _ _ _ 0 _ _ _ (sent c 0) c.clear.ensures.items
+      (rw c.parts.ensures.head at c.parts.ensures.head_short)
+      (rw c.parts.ensures.payload at c.parts.ensures.payload_short),
+  omega (arith, c.send.ensures.capacity, c.clear.ensures.capacity, c.out.invariant.1),
+)
 
 pub returns : goal.returns
 returns c = λ number.
