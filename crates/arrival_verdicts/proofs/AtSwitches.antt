@@ -1,19 +1,17 @@
 -- The packets of a unit at a switch, one after another.
-use Rattle.std.proofs.Common.{◌≡◌, ℕ, ◌+◌, List, [], ◌∷◌, ◌++◌, length, drop, refl, ap, sym, ◌∙◌, add-one}
+use Rattle.std.proofs.Common.{◌≡◌, ℕ, ◌+◌, List, [], ◌∷◌, ◌++◌, length, drop, refl, ap, sym, ◌∙◌}
 use Rattle.std.proofs.Math.Seq.{drop-length}
 use Rattle.std.proofs.lemmas.List.{append_assoc, append-nil}
-use Rattle.std.specs.Prelude.{Some, map, slice_get}
+use Rattle.std.specs.Prelude.{Some, slice_get}
 use Rattle.ide_types.specs.declared.direction.Direction.{Direction}
 use Rattle.ide_types.specs.declared.sub.SubKind.{SubKind}
 use Rattle.ide_prefix.specs.Packet.{Packet}
 use Rattle.link_verdicts.specs.declared.verdict.Effect.{Effect}
-use Rattle.sub_stream.specs.{lent_parts, mark_of}
-use Rattle.sub_stream.specs.declared.answer.PacketMark.{PacketMark}
 use Rattle.hop_queues.specs.declared.queue.HopTlp.{HopTlp}
 use Rattle.hop_queues.specs.declared.queues.HopQueues.{HopQueues}
 use Rattle.arrival_verdicts.specs.Switches.{switched_as, switched_each, packet_tlps, tlps_in, queues_after_offer}
 use Rattle.arrival_verdicts.specs.Switches.{all_offered}
-use Rattle.arrival_verdicts.proofs.Effects.{IsThere, packet_there}
+use Rattle.arrival_verdicts.proofs.Effects.{packet_there}
 
 offered_both : (d : Direction) (xs ys : List HopTlp) (q : HopQueues)
     → all_offered d (xs ++ ys) q ≡ all_offered d ys (all_offered d xs q)
@@ -29,25 +27,18 @@ module _ (ps : List Packet) (sub : SubKind) (d : Direction) (q0 : HopQueues) whe
   pub none_yet : SoFar 0 [] q0
   none_yet = record { effects = refl; queues = refl }
 
-  pub one_more : (i : ℕ) (list : List Effect) (q q' : HopQueues) (mark : PacketMark) (head body : List ℕ) (e : Effect)
-      → SoFar i list q → slice_get (map mark_of ps) i ≡ Some mark
-      → slice_get (map lent_parts ps) i ≡ Some (head, body) → e ≡ switched_as mark
-      → q' ≡ all_offered d (packet_tlps sub mark head body) q → SoFar (i + 1) (list ++ e ∷ []) q'
-  one_more i list q q' mark head body e before marked lent effect_is queues_are =
-      let t : IsThere ps i mark head body = packet_there ps i mark head body marked lent in
-      let p : Packet = t.packet in
+  pub one_more : (i : ℕ) (list : List Effect) (q q' : HopQueues) (p : Packet) (e : Effect)
+      → SoFar i list q → slice_get ps i ≡ Some p → e ≡ switched_as p
+      → q' ≡ all_offered d (packet_tlps sub p) q → SoFar (i + 1) (list ++ e ∷ []) q'
+  one_more i list q q' p e before at effect_is queues_are =
       let rest : List Packet = drop (i + 1) ps in
-      let here : drop i ps ≡ p ∷ rest = rw add-one t.here in
-      let same : e ≡ switched_as (mark_of p) = effect_is ∙ ap switched_as (sym t.mark_is) in
-      let tlps : packet_tlps sub (mark_of p) p.head p.body ≡ packet_tlps sub mark head body =
-      (λ j. packet_tlps sub (t.mark_is j) (t.head_is j) (t.body_is j)) in
+      let here : drop i ps ≡ p ∷ rest = packet_there ps i p at in
       record {
         effects = before.effects ∙ ap (λ (qs : List Packet). list ++ switched_each qs) here
-            ∙ ap (λ (x : Effect). list ++ x ∷ switched_each rest) (sym same)
+            ∙ ap (λ (x : Effect). list ++ x ∷ switched_each rest) (sym effect_is)
             ∙ sym (append_assoc list (e ∷ []) (switched_each rest));
         queues = before.queues ∙ ap (λ (qs : List Packet). all_offered d (tlps_in sub qs) q) here
-            ∙ offered_both d (packet_tlps sub (mark_of p) p.head p.body) (tlps_in sub rest) q
-            ∙ ap (λ (xs : List HopTlp). all_offered d (tlps_in sub rest) (all_offered d xs q)) tlps
+            ∙ offered_both d (packet_tlps sub p) (tlps_in sub rest) q
             ∙ ap (λ (r : HopQueues). all_offered d (tlps_in sub rest) r) (sym queues_are);
       }
 

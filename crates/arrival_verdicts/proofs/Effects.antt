@@ -1,24 +1,24 @@
 -- Effects of an accepted unit, one packet after another: what one packet makes, and then those behind it.
-use Rattle.std.proofs.Common.{◌≡◌, ℕ, suc, zero, ◌+◌, ◌==◌, Bool, true, false, List, [], ◌∷◌, ◌++◌, drop, length}
+use Rattle.std.proofs.Common.{◌≡◌, ℕ, ◌+◌, ◌==◌, Bool, true, false, List, [], ◌∷◌, ◌++◌, drop, length}
 use Rattle.std.proofs.Common.{length-append, arith, refl, ap, sym, ◌∙◌, subst}
 use Rattle.std.proofs.lemmas.List.{append-nil, append_assoc}
 use Rattle.std.specs.Prelude.{map, slice_get, if◌then◌else◌, Some, None, Option, Result, Ok, Err}
-use Rattle.std.proofs.lemmas.Option.{none-some, same_Some, some_pair_parts}
+use Rattle.std.proofs.lemmas.List.{drop_more}
+use Rattle.std.proofs.lemmas.Option.{get_or_from_slice_get, slice_get_within}
 use Rattle.link_verdicts.specs.declared.verdict.UnitName.{UnitName}
 use Rattle.ide_types.specs.declared.plan.Region.{Region}
 use Rattle.spec_links.specs.Memory.{Grants}
-use Rattle.ide_types.specs.declared.port.Side.TheVariants.{Host, Device}
-use Rattle.ide_types.specs.declared.port.Side.{Side}
 use Rattle.ide_types.specs.declared.port.PortName.{PortName}
-use Rattle.ide_prefix.specs.Packet.{Packet}
-use Rattle.sub_stream.specs.{lent_parts, mark_of}
+use Rattle.ide_prefix.specs.Packet.{Packet, HasTlp, is_sync_packet}
 use Rattle.link_verdicts.specs.declared.verdict.Effect.{Effect}
 use Rattle.trusted_memory.specs.{Write, Leads, MemoryContents, write_effect, write_span, memory_read, waiting_after}
 use Rattle.spec_keys.specs.Places.{sent_direction}
 use Rattle.std.specs.List.{cons_option}
 use Rattle.tlp_layout.specs.declared.head.HeadView.{HeadView}
 use Rattle.tlp_layout.specs.declared.fault.TlpFault.{TlpFault}
+use Rattle.tlp_layout.specs.Head.{FitsHead}
 use Rattle.tlp_layout.specs.Reading.{read_head_of}
+use Rattle.tlp_layout.proofs.Readings.{read_head_spells}
 use Rattle.link_verdicts.specs.declared.verdict.BlockCause.{BlockCause}
 use Rattle.link_verdicts.specs.declared.verdict.Effect.TheVariants as effect
 use Rattle.trusted_memory.specs.declared.grant.Grant.{Grant}
@@ -33,12 +33,10 @@ use Rattle.guarded_memory.specs.{GuardedMemory, Happened, MmioLeads, mmio_effect
 use Rattle.guarded_memory.specs.{claim_effect, cause_effect, claim_of}
 use Rattle.spec_links.specs.Admission.{waiting_then}
 use Rattle.spec_links.specs.Sent.{drawn_read, reads_by}
-use Rattle.spec_links.specs.Guarded.{tlp_happened}
 use Rattle.link_stores.specs.Accesses.{waiting_with, reads_after}
-use Rattle.arrival_verdicts.specs.Verdicts.{head_effect, head_grant, head_write, claimed_effect, marked_effect}
+use Rattle.arrival_verdicts.specs.Verdicts.{head_effect, head_grant, claimed_effect}
 use Rattle.arrival_verdicts.specs.Verdicts.{queued_by, effects_from, packet_effect, packet_write, packet_stored}
 use Rattle.arrival_verdicts.specs.Verdicts.{PacketCame, UnitCame}
-use Rattle.sub_stream.specs.declared.answer.PacketMark.{PacketMark}
 
 -- ---- reads that wait
 
@@ -75,22 +73,6 @@ module _ (draw : ℕ) where
   request_waits regions t grant n head = by_read regions t grant n head (memory_read head)
       (write_effect regions t grant (write_span head)) refl
       (write_waits regions t grant n (Ok head) (write_span head))
-
-  -- none is queued at a device's port
-  cause_none : (r : Result HeadView TlpFault) (c : Option BlockCause) → queued_by draw (cause_effect c) r ≡ []
-  cause_none r None = refl
-  cause_none r (Some c) = refl
-
-  claim_none : (t : Bool) (stream at : ℕ) (s : Span) (r : Result HeadView TlpFault) (o : Option Claim)
-      → queued_by draw (claim_effect o s t stream at) r ≡ []
-  claim_none t stream at s r None = refl
-  claim_none t stream at s r (Some c) = cause_none r (mmio_cause c.status c.range s t stream at)
-
-  pub mmio_none : (xs : List InterfaceStatus) (t : Bool) (stream at : ℕ) (r : Result HeadView TlpFault)
-      (o : Option Span)
-      → queued_by draw (mmio_effect xs t stream at o) r ≡ []
-  mmio_none xs t stream at r None = refl
-  mmio_none xs t stream at r (Some s) = claim_none t stream at s r (claim_of xs s)
 
   cause_waits : (n : ℕ) (r : Result HeadView TlpFault) (c : Option BlockCause) → Waits n (cause_effect c) r
   cause_waits n r None = omega arith
@@ -165,11 +147,11 @@ module _ (regions : List Region) (grants : Grants) (xs : List InterfaceStatus) (
   either_waits n false true x y r first second = first
   either_waits n false false x y r first second = second
 
-  marked_waits : (n : ℕ) (mark : PacketMark) (header : List ℕ)
-      → Waits unit.draw n (marked_effect regions grants xs n port unit mark header) (read_head_of header)
-  marked_waits n mark header =
-      either_waits n mark.sync (sent_direction port.side == 0) _ _ (read_head_of header)
-      (head_waits n mark.t (read_head_of header)) (claimed_waits n mark.t (read_head_of header))
+  packet_waits : (n : ℕ) (p : Packet)
+      → Waits unit.draw n (packet_effect regions grants xs n port unit p) (read_head_of p.head)
+  packet_waits n p =
+      either_waits n (is_sync_packet p) (sent_direction port.side == 0) _ _ (read_head_of p.head)
+      (head_waits n p.prefix.t (read_head_of p.head)) (claimed_waits n p.prefix.t (read_head_of p.head))
 
   -- a unit of no packets
   pub none_came : (ws : List WaitingRead) (m : MemoryContents) (g : GuardedMemory)
@@ -184,7 +166,7 @@ module _ (regions : List Region) (grants : Grants) (xs : List InterfaceStatus) (
   -- one packet, and those behind it
   pub more_came : (p : Packet) (ps : List Packet) (ws ws1 ws' : List WaitingRead) (m m1 m' : MemoryContents)
       (g g1 g' : GuardedMemory) (e : Effect) (es : List Effect)
-      → PacketCame regions grants xs port unit (mark_of p) p.head p.body ws m g e ws1 m1 g1
+      → PacketCame regions grants xs port unit p ws m g e ws1 m1 g1
       → UnitCame regions grants xs port unit ps ws1 m1 g1 es ws' m' g'
       → UnitCame regions grants xs port unit (p ∷ ps) ws m g (e ∷ es) ws' m' g'
   more_came p ps ws ws1 ws' m m1 m' g g1 g' e es one rest =
@@ -194,7 +176,7 @@ module _ (regions : List Region) (grants : Grants) (xs : List InterfaceStatus) (
       let many : length ws1 ≡ waiting_then due (length ws) =
       ap (λ (vs : List WaitingRead). length vs) one.reads_are ∙ length-append ws q
       ∙ ap (λ (x : Effect). length ws + length (queued_by unit.draw x r)) one.effect_is
-      ∙ sym (marked_waits (length ws) (mark_of p) p.head) in
+      ∙ sym (packet_waits (length ws) p) in
       let behind : es ≡ effects_from regions grants xs (waiting_then due (length ws)) port unit ps =
       rest.effects_are ∙ ap (λ (n : ℕ). effects_from regions grants xs n port unit ps) many in
       record {
@@ -208,75 +190,15 @@ module _ (regions : List Region) (grants : Grants) (xs : List InterfaceStatus) (
             one.stored rest.stored;
       }
 
--- ---- the ports
-
-module _ (regions : List Region) (grants : Grants) (xs : List InterfaceStatus) (unit : UnitName) (header body : List ℕ)
-    (ws : List WaitingRead) (m : MemoryContents) (g : GuardedMemory) where
-  pub sync : (port : PortName) (mark : PacketMark) → mark.sync ≡ true
-      → PacketCame regions grants xs port unit mark header body ws m g effect.Sync ws m g
-  sync port mark is =
-      subst (λ (b : Bool). PacketCame regions grants xs port unit (record { t = mark.t; sync = b }) header body ws m g
-      effect.Sync ws m g) (sym is)
-      (record {
-        effect_is = refl;
-        reads_are = sym (append-nil ws);
-        written = λ older is. is;
-        stored = λ older is. is;
-      })
-
-  pub at_host : (port : PortName) (mark : PacketMark) (e : Effect) (ws' : List WaitingRead) (m' : MemoryContents)
-      → mark.sync ≡ false → port.side ≡ Host
-      → e ≡ head_effect regions grants port.line (length ws) unit mark.t (read_head_of header)
-      → ws' ≡ ws ++ queued_by unit.draw e (read_head_of header)
-      → Leads m (head_write regions grants port.line unit mark.t body (read_head_of header) ∷ []) m'
-      → PacketCame regions grants xs port unit mark header body ws m g e ws' m' g
-  at_host port mark e ws' m' plain at effect_is reads_are written =
-      subst (λ (b : Bool). PacketCame regions grants xs port unit (record { t = mark.t; sync = b }) header body ws m g
-      e ws' m' g) (sym plain)
-      (subst (λ (s : Side). PacketCame regions grants xs (record { side = s; line = port.line }) unit
-      (record { t = mark.t; sync = false }) header body ws m g e ws' m' g) (sym at)
-      (record { effect_is = effect_is; reads_are = reads_are; written = written; stored = λ older is. is }))
-
-  pub at_device : (port : PortName) (mark : PacketMark) (e : Effect) (g' : GuardedMemory)
-      → mark.sync ≡ false → port.side ≡ Device
-      → e ≡ claimed_effect xs unit mark.t (read_head_of header)
-      → queued_by unit.draw e (read_head_of header) ≡ []
-      → MmioLeads g (tlp_happened xs unit mark.t body (read_head_of header) ∷ []) g'
-      → PacketCame regions grants xs port unit mark header body ws m g e ws m g'
-  at_device port mark e g' plain at effect_is none stored =
-      subst (λ (b : Bool). PacketCame regions grants xs port unit (record { t = mark.t; sync = b }) header body ws m g
-      e ws m g') (sym plain)
-      (subst (λ (s : Side). PacketCame regions grants xs (record { side = s; line = port.line }) unit
-      (record { t = mark.t; sync = false }) header body ws m g e ws m g') (sym at)
-      (record {
-        effect_is = effect_is;
-        reads_are = sym (ap (λ (vs : List WaitingRead). ws ++ vs) none ∙ append-nil ws);
-        written = λ older is. is;
-        stored = stored;
-      }))
-
 -- ---- a packet among those that are lent
 
-pub record IsThere (ps : List Packet) (i : ℕ) (mark : PacketMark) (head body : List ℕ) : Type 0 where
-  pub packet : Packet
-  pub here : drop i ps ≡ packet ∷ drop (suc i) ps
-  pub mark_is : mark_of packet ≡ mark
-  pub head_is : packet.head ≡ head
-  pub body_is : packet.body ≡ body
+pub carried_fits : (p : Packet) (o : Option HeadView) (head : HeadView) → HasTlp p o → o ≡ Some head → FitsHead head
+carried_fits p o head has is =
+    let read : HasTlp p (Some head) = subst (HasTlp p) is has in
+    ((read_head_spells head p.head).1 read.1).fits
 
-pub packet_there : (ps : List Packet) (i : ℕ) (mark : PacketMark) (head body : List ℕ)
-    → slice_get (map mark_of ps) i ≡ Some mark → slice_get (map lent_parts ps) i ≡ Some (head, body)
-    → IsThere ps i mark head body
-packet_there [] i mark head body marked lent = absurd (none-some mark marked)
-packet_there (p ∷ ps) zero mark head body marked lent =
-    let parts = some_pair_parts p.head head p.body body lent in
-    record {
-      packet = p;
-      here = refl;
-      mark_is = same_Some (mark_of p) mark marked;
-      head_is = parts.0;
-      body_is = parts.1;
-    }
-packet_there (p ∷ ps) (suc i) mark head body marked lent =
-    let t = packet_there ps i mark head body marked lent in
-    record { packet = t.packet; here = t.here; mark_is = t.mark_is; head_is = t.head_is; body_is = t.body_is }
+pub packet_there : (ps : List Packet) (i : ℕ) (p : Packet) → slice_get ps i ≡ Some p
+    → drop i ps ≡ p ∷ drop (i + 1) ps
+packet_there ps i p at =
+    drop_more ps i p (slice_get_within ps i p at)
+    ∙ ap (λ (x : Packet). x ∷ drop (i + 1) ps) (get_or_from_slice_get ps i p p at)

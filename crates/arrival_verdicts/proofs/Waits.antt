@@ -10,7 +10,7 @@ use Rattle.ide_prefix.specs.{encrypted_bytes, iv_of, is_sync_packet}
 use Rattle.gcm_seal.specs.Gcm.{masked_bytes}
 unfoldable use Rattle.gcm_seal.specs.Gcm.{open_of}
 use Rattle.gcm_seal.proofs.Sealing.{masked_bytes-append, length-masked_bytes}
-use Rattle.sub_stream.specs.{mark_of, opened_from_byte}
+use Rattle.sub_stream.specs.{opened_from_byte}
 use Rattle.hop_queues.specs.declared.queue.HopTlp.{HopTlp}
 use Rattle.spec_links.specs.Hops.{tlps_with}
 use Rattle.spec_links.specs.Admission.{plain_of}
@@ -22,7 +22,7 @@ use Rattle.arrival_verdicts.proofs.Writes.{OpensAs}
 -- of packets whose bodies are plain, each in the sub-stream that it names
 abbrev pub own_tlps : List Packet → List HopTlp
 own_tlps [] = []
-own_tlps (p ∷ ps) = packet_tlps p.prefix.sub (mark_of p) p.head p.body ++ own_tlps ps
+own_tlps (p ∷ ps) = packet_tlps p.prefix.sub p ++ own_tlps ps
 
 one_first : (b : Bool) (x : HopTlp) (xs : List HopTlp) → (if b then xs else x ∷ xs)
     ≡ (if b then [] else x ∷ []) ++ xs

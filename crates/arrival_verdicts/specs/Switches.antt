@@ -1,37 +1,34 @@
 -- What becomes of a unit that is accepted at a switch: each TLP waits to be forwarded.
-use Rattle.std.specs.Prelude.{ℕ, ◌&&◌, ◌++◌, nat_le, if◌then◌else◌, List, [], ◌∷◌, length, false, map}
+use Rattle.std.specs.Prelude.{◌&&◌, ◌++◌, nat_le, if◌then◌else◌, List, [], ◌∷◌, length, false, map}
 use Rattle.ide_types.specs.declared.direction.Direction.{Direction}
 use Rattle.ide_types.specs.declared.sub.SubKind.{SubKind}
-use Rattle.ide_prefix.specs.Packet.{Packet}
+use Rattle.ide_prefix.specs.Packet.{Packet, is_sync_packet}
 use Rattle.link_verdicts.specs.declared.verdict.Effect.{Effect}
 use Rattle.link_verdicts.specs.declared.verdict.Effect.TheVariants as effect
 use Rattle.link_verdicts.specs.declared.verdict.UnitName.{UnitName}
-use Rattle.sub_stream.specs.{mark_of}
-use Rattle.sub_stream.specs.declared.answer.PacketMark.{PacketMark}
 use Rattle.hop_queues.specs.declared.queue.HopTlp.{HopTlp}
 use Rattle.hop_queues.specs.declared.queues.HopQueues.{HopQueues}
 use Rattle.hop_queues.specs.{WaitingTlps, most_bytes, queue_of, with_queue}
 
 -- ---- effects
 
--- of a packet with this mark
-abbrev pub switched_as : PacketMark → Effect
-switched_as mark = if mark.sync then effect.Sync else effect.Waiting
+abbrev pub switched_as : Packet → Effect
+switched_as p = if is_sync_packet p then effect.Sync else effect.Waiting
 
 abbrev pub switched_each : List Packet → List Effect
-switched_each ps = map (λ p. switched_as (mark_of p)) ps
+switched_each ps = map switched_as ps
 
 -- ---- TLPs that wait
 
--- that of a packet with this mark, header and plain payload, in a sub-stream
-abbrev pub packet_tlps : SubKind → PacketMark → List ℕ → List ℕ → List HopTlp
-packet_tlps sub mark header payload =
-    if mark.sync then [] else record { sub = sub; bytes = header ++ payload; t = mark.t } ∷ []
+-- that of a packet whose body is plain, in a sub-stream
+abbrev pub packet_tlps : SubKind → Packet → List HopTlp
+packet_tlps sub p =
+    if is_sync_packet p then [] else record { sub = sub; bytes = p.head ++ p.body; t = p.prefix.t } ∷ []
 
 -- those of packets whose bodies are plain
 abbrev pub tlps_in : SubKind → List Packet → List HopTlp
 tlps_in sub [] = []
-tlps_in sub (p ∷ ps) = packet_tlps sub (mark_of p) p.head p.body ++ tlps_in sub ps
+tlps_in sub (p ∷ ps) = packet_tlps sub p ++ tlps_in sub ps
 
 -- those of the unit, by its sub-stream
 abbrev pub unit_waits : List Packet → UnitName → List HopTlp

@@ -14,7 +14,7 @@ use Rattle.tlp_layout.specs.declared.head.HeadView.{HeadView}
 use Rattle.tlp_layout.specs.declared.fault.TlpFault.{TlpFault}
 use Rattle.tlp_layout.specs.Reading.{read_head_of}
 use Rattle.ide_prefix.specs.Faults.{packet_place}
-use Rattle.ide_prefix.specs.Packet.{Packet}
+use Rattle.ide_prefix.specs.Packet.{Packet, is_sync_packet}
 use Rattle.ide_prefix.specs.FaultWords.{packet_word, tlp_word}
 use Rattle.spec_keys.specs.Places.{sent_direction}
 use Rattle.spec_links.specs.{owner_id}
@@ -27,8 +27,6 @@ use Rattle.guarded_memory.specs.declared.status.InterfaceStatus.{InterfaceStatus
 use Rattle.guarded_memory.specs.{Happened, GuardedMemory, MmioLeads, mmio_effect}
 use Rattle.trusted_memory.specs.declared.grant.Grant.{Grant}
 use Rattle.trusted_memory.specs.{Write, MemoryContents, Leads, write_span, memory_write, admitted_write}
-use Rattle.sub_stream.specs.{mark_of}
-use Rattle.sub_stream.specs.declared.answer.PacketMark.{PacketMark}
 use Rattle.tlp_layout.specs.Faults.{place_in}
 use Rattle.interface_host.specs.Managers.{InterfaceManagerView, running_grant}
 use Rattle.ide_port.specs.{refusal_verdict, numbered_from}
@@ -74,31 +72,26 @@ abbrev pub claimed_effect : List InterfaceStatus → UnitName → Bool → Resul
 claimed_effect xs unit t (Err f) = effect.Delivered
 claimed_effect xs unit t (Ok head) = mmio_effect xs t unit.stream unit.draw (write_span head)
 
--- of a packet with this mark, header and payload
-abbrev pub marked_effect : List Region → Grants → List InterfaceStatus → ℕ → PortName → UnitName → PacketMark → List ℕ
-    → Effect
-marked_effect regions grants xs waiting port unit mark header =
-    if mark.sync then effect.Sync
+-- of a packet whose body is plain
+abbrev pub packet_effect : List Region → Grants → List InterfaceStatus → ℕ → PortName → UnitName → Packet → Effect
+packet_effect regions grants xs waiting port unit p =
+    if is_sync_packet p then effect.Sync
     else if sent_direction port.side == 0
-    then head_effect regions grants port.line waiting unit mark.t (read_head_of header)
-    else claimed_effect xs unit mark.t (read_head_of header)
+    then head_effect regions grants port.line waiting unit p.prefix.t (read_head_of p.head)
+    else claimed_effect xs unit p.prefix.t (read_head_of p.head)
 
-abbrev pub marked_write : List Region → Grants → PortName → UnitName → PacketMark → List ℕ → List ℕ → Option Write
-marked_write regions grants port unit mark header payload =
-    if not mark.sync && (sent_direction port.side == 0)
-    then head_write regions grants port.line unit mark.t payload (read_head_of header)
+abbrev pub packet_write : List Region → Grants → PortName → UnitName → Packet → Option Write
+packet_write regions grants port unit p =
+    if not (is_sync_packet p) && (sent_direction port.side == 0)
+    then head_write regions grants port.line unit p.prefix.t p.body (read_head_of p.head)
     else None
 
 -- what it makes happen to the memory of a device's interfaces that stand so
-abbrev pub marked_stored : List InterfaceStatus → PortName → UnitName → PacketMark → List ℕ → List ℕ → Option Happened
-marked_stored xs port unit mark header payload =
-    if not mark.sync && (sent_direction port.side == 1)
-    then tlp_happened xs unit mark.t payload (read_head_of header)
+abbrev pub packet_stored : List InterfaceStatus → PortName → UnitName → Packet → Option Happened
+packet_stored xs port unit p =
+    if not (is_sync_packet p) && (sent_direction port.side == 1)
+    then tlp_happened xs unit p.prefix.t p.body (read_head_of p.head)
     else None
-
-abbrev pub packet_effect : List Region → Grants → List InterfaceStatus → ℕ → PortName → UnitName → Packet → Effect
-packet_effect regions grants xs waiting port unit p =
-    marked_effect regions grants xs waiting port unit (mark_of p) p.head
 
 -- of packets in order, while so many reads wait ahead of the first
 abbrev pub effects_from : List Region → Grants → List InterfaceStatus → ℕ → PortName → UnitName → List Packet
@@ -109,12 +102,6 @@ effects_from regions grants xs waiting port unit (p ∷ ps) =
     ∷ effects_from regions grants xs (waiting_then (packet_effect regions grants xs waiting port unit p) waiting) port
     unit ps
 
-abbrev pub packet_write : List Region → Grants → PortName → UnitName → Packet → Option Write
-packet_write regions grants port unit p = marked_write regions grants port unit (mark_of p) p.head p.body
-
-abbrev pub packet_stored : List InterfaceStatus → PortName → UnitName → Packet → Option Happened
-packet_stored xs port unit p = marked_stored xs port unit (mark_of p) p.head p.body
-
 -- of a TLP of this header, by its effect: the read that waits
 abbrev pub queued_by : ℕ → Effect → Result HeadView TlpFault → List WaitingRead
 queued_by draw effect.Queued r = read_in draw r
@@ -122,17 +109,16 @@ queued_by draw e r = []
 
 -- ---- one packet, and those of a unit
 
--- A packet with this mark, header and payload got this effect at a port. `ws` are the reads of the link that waited,
--- `m` stood in trusted memory and `g` in the memory of the device's interfaces, which stand as `xs`; then `ws'`, `m'`
--- and `g'` do.
+-- A packet got this effect at a port. `ws` are the reads of the link that waited, `m` stood in trusted memory and `g`
+-- in the memory of the device's interfaces, which stand as `xs`; then `ws'`, `m'` and `g'` do.
 pub record PacketCame (regions : List Region) (grants : Grants) (xs : List InterfaceStatus) (port : PortName)
     (unit : UnitName)
-    (mark : PacketMark) (header payload : List ℕ) (ws : List WaitingRead) (m : MemoryContents) (g : GuardedMemory)
+    (p : Packet) (ws : List WaitingRead) (m : MemoryContents) (g : GuardedMemory)
     (e : Effect) (ws' : List WaitingRead) (m' : MemoryContents) (g' : GuardedMemory) : Type 0 where
-  pub effect_is : e ≡ marked_effect regions grants xs (length ws) port unit mark header
-  pub reads_are : ws' ≡ ws ++ queued_by unit.draw e (read_head_of header)
-  pub written : Leads m (marked_write regions grants port unit mark header payload ∷ []) m'
-  pub stored : MmioLeads g (marked_stored xs port unit mark header payload ∷ []) g'
+  pub effect_is : e ≡ packet_effect regions grants xs (length ws) port unit p
+  pub reads_are : ws' ≡ ws ++ queued_by unit.draw e (read_head_of p.head)
+  pub written : Leads m (packet_write regions grants port unit p ∷ []) m'
+  pub stored : MmioLeads g (packet_stored xs port unit p ∷ []) g'
 
 -- the packets of a unit got these effects, likewise
 pub record UnitCame (regions : List Region) (grants : Grants) (xs : List InterfaceStatus) (port : PortName)

@@ -1,6 +1,8 @@
 //! Verdicts of arrivals at switches.
 
 ghost use Rattle.std.specs.Prelude.{◌≡◌, ◌++◌};
+ghost use Rattle.ide_prefix.specs.Cut.{packet_of_view};
+ghost use Rattle.ide_prefix.specs.Packet.{HasTlp};
 ghost use Rattle.arrival_verdicts.specs.Verdicts.{arrival_verdict, of_unit};
 ghost use Rattle.arrival_verdicts.specs.Switches.{switched_as, switched_each, packet_tlps, tlps_in, unit_waits};
 ghost use Rattle.arrival_verdicts.specs.Switches.{queues_after_offer, all_offered};
@@ -8,44 +10,42 @@ ghost use Rattle.arrival_verdicts.specs.Switches.{queues_after_offer, all_offere
 use crate::verdicts::verdict_with;
 use hop_queues::{HopQueues, MOST_BYTES};
 use ide_port::Arrival;
+use ide_prefix::PacketView;
 use ide_types::{Direction, PortName, SubKind};
 use link_verdicts::{Effect, Effects, UnitName, Verdict};
-use sub_stream::{Delivered, PacketMark};
+use sub_stream::Delivered;
 
-// Queues a TLP, if there is room for it and it is no longer than a TLP may be.
-fn offer(
-    queues: &mut HopQueues,
-    direction: Direction,
-    sub: SubKind,
-    header: &[u8],
-    payload: &[u8],
-    t: bool,
-)
-    ensures { queues.new ≡ queues_after_offer direction (record { sub = sub; bytes = header.now ++ payload.now; t = t })
-        queues.old }
+// Queues the TLP of a packet, if there is room for it and it is no longer than a TLP may be.
+fn offer(queues: &mut HopQueues, direction: Direction, sub: SubKind, packet: &PacketView)
+    ensures { queues.new ≡ queues_after_offer direction (record {
+      sub = sub;
+      bytes = packet.now.head.now ++ packet.now.body.now;
+      t = packet.now.prefix.t;
+    }) queues.old }
 {
-    if queues.has_room(direction) && header.len() + payload.len() <= MOST_BYTES {
-        queues.push(direction, sub, header, payload, t);
+    if queues.has_room(direction) && packet.head.len() + packet.body.len() <= MOST_BYTES {
+        queues.push(direction, sub, packet.head, packet.body, packet.prefix.t);
     }
 }
 
-// The effect of a packet with this mark, header and payload at a switch, in a sub-stream: a TLP waits there.
+// The effect of a packet at a switch, in a sub-stream: a TLP waits there.
 fn switched(
     queues: &mut HopQueues,
     direction: Direction,
     sub: SubKind,
-    mark: PacketMark,
-    header: &[u8],
-    payload: &[u8],
+    packet: &PacketView,
 ) -> Effect
-    ensures effect { result ≡ switched_as mark }
-    ensures queues { queues.new ≡ all_offered direction (packet_tlps sub mark header.now payload.now) queues.old }
+    requires { HasTlp (packet_of_view packet.now) packet.now.tlp }
+    ensures effect { result ≡ switched_as (packet_of_view packet.now) }
+    ensures queues { queues.new ≡ all_offered direction (packet_tlps sub (packet_of_view packet.now)) queues.old }
 {
-    if mark.sync {
-        return Effect::Sync;
+    match packet.tlp {
+        None => Effect::Sync,
+        Some(_) => {
+            offer(queues, direction, sub, packet);
+            Effect::Waiting
+        }
     }
-    offer(queues, direction, sub, header, payload, mark.t);
-    Effect::Waiting
 }
 
 // The effect of each packet of the unit that was accepted at a switch.
@@ -60,9 +60,8 @@ fn switch_effects(
 {
     let mut list = Effects::new();
     for i in 0..packets.count() {
-        let mark = packets.mark(i);
-        let (header, payload) = packets.packet(i);
-        list.push(switched(queues, direction, unit.sub, mark, header, payload));
+        let packet = packets.packet(i);
+        list.push(switched(queues, direction, unit.sub, &packet));
     }
     list
 }

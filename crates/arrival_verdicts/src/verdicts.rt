@@ -1,29 +1,30 @@
 //! The verdicts of sends and of arrivals at ports.
 
 ghost use Rattle.std.specs.Option.{option_and_then};
-ghost use Rattle.std.specs.Prelude.{◌≡◌, ◌∷◌, [], ◌+◌, ◌++◌, ◌<◌, ◌≤◌, ◌^◌, length, map, if◌then◌else◌};
-ghost use Rattle.tlp_layout.specs.Reading.{read_head_of};
+ghost use Rattle.std.specs.Prelude.{◌≡◌, ◌∷◌, [], ◌+◌, ◌++◌, ◌<◌, ◌≤◌, ◌^◌, Ok, length, map, if◌then◌else◌};
+ghost use Rattle.tlp_layout.specs.Head.{FitsHead};
+ghost use Rattle.ide_prefix.specs.Cut.{packet_of_view};
+ghost use Rattle.ide_prefix.specs.Packet.{HasTlp};
 ghost use Rattle.spec_links.specs.{owner_id};
 ghost use Rattle.interface_host.specs.Managers.{running_grant};
 ghost use Rattle.trusted_memory.specs.{Leads};
 ghost use Rattle.guarded_memory.specs.{MmioLeads};
 ghost use Rattle.link_stores.specs.{device_statuses};
-ghost use Rattle.spec_links.specs.Guarded.{tlp_happened};
 ghost use Rattle.spec_links.specs.Sent.{reads_by};
 ghost use Rattle.sub_stream.specs.{numbered_packet};
 ghost use Rattle.ide_port.specs.{refusal_verdict as verdict_refused, numbered_from};
-ghost use Rattle.arrival_verdicts.specs.Verdicts.{grants_in, end_sent_verdict, head_effect, head_write, claimed_effect};
+ghost use Rattle.arrival_verdicts.specs.Verdicts.{grants_in, end_sent_verdict, head_effect, head_write};
 ghost use Rattle.arrival_verdicts.specs.Verdicts.{queued_by, effects_from, packet_write, packet_stored, unit_writes};
 ghost use Rattle.arrival_verdicts.specs.Verdicts.{of_unit, arrival_verdict, PacketCame, UnitCame};
 
 use ide_port::{Arrival, SendRefusal, Sent};
-use ide_prefix::{packet_word, tlp_word};
+use ide_prefix::{PacketView, packet_word, tlp_word};
 use ide_types::{Binding, PortName, Side};
 use interface_ends::{DeviceInterfaces, InterfaceKeeper};
 use link_stores::LinkAccesses;
 use link_verdicts::{Effect, Effects, SealedPacket, SealedPackets, UnitName, Verdict};
-use sub_stream::{Delivered, PacketMark};
-use tlp_layout::{HeadView, TlpView, owner, read_head};
+use sub_stream::Delivered;
+use tlp_layout::{HeadView, TlpView, owner};
 use trusted_memory::{Grant, Trusted};
 
 // ---- sends
@@ -115,81 +116,47 @@ fn bound(link: u8, keeper: &InterfaceKeeper, head: &HeadView) -> Option<Binding>
     }
 }
 
-// The effect of a TLP with this header and payload at a host's port; its packet has this T and came in this unit.
+// The effect of a TLP at a host's port; its packet has this T and came in this unit.
 fn requested(
     at: &ReceivingPort,
     unit: UnitName,
     trusted: bool,
-    header: &[u8],
-    payload: &[u8],
+    tlp: &TlpView,
     memory: &mut Trusted,
     access: &mut LinkAccesses,
 ) -> Effect
-    requires { 1 ≤ memory.old.spare }
+    requires spare { 1 ≤ memory.old.spare }
+    requires fits { FitsHead tlp.now.head }
     ensures effect { result ≡ head_effect memory.old.contents.regions (grants_in at.now.keeper.now) at.now.port.line
-        (length access.old.reads) unit trusted (read_head_of header.now) }
-    ensures reads { access.new.reads ≡ access.old.reads ++ queued_by unit.draw result (read_head_of header.now) }
+        (length access.old.reads) unit trusted (Ok tlp.now.head) }
+    ensures reads { access.new.reads ≡ access.old.reads ++ queued_by unit.draw result (Ok tlp.now.head) }
     ensures kept { access.new ≡ record access.old { reads = access.new.reads } }
     ensures regions { memory.new.contents.regions ≡ memory.old.contents.regions }
     ensures spare { memory.old.spare ≤ memory.new.spare + 1 }
     ensures leads { Leads memory.old.contents (head_write memory.old.contents.regions (grants_in at.now.keeper.now)
-        at.now.port.line unit trusted payload.now (read_head_of header.now) ∷ []) memory.new.contents }
+        at.now.port.line unit trusted tlp.now.payload.now (Ok tlp.now.head) ∷ []) memory.new.contents }
 {
-    match read_head(header) {
-        Err(_) => Effect::Delivered,
-        Ok(head) => {
-            let grant = Grant {
-                bound: bound(at.port.line, at.keeper, &head),
-                stream: unit.stream,
-                draw: unit.draw,
-            };
-            let tlp = TlpView { head, payload };
-            access.request(memory, &tlp, trusted, grant)
-        }
-    }
+    let grant = Grant {
+        bound: bound(at.port.line, at.keeper, &tlp.head),
+        stream: unit.stream,
+        draw: unit.draw,
+    };
+    access.request(memory, tlp, trusted, grant)
 }
 
-// The effect of a TLP with this header and payload at a device's port; its packet has this T and came in this unit.
-fn claimed(
-    at: &ReceivingPort,
-    unit: UnitName,
-    trusted: bool,
-    header: &[u8],
-    payload: &[u8],
-    access: &mut LinkAccesses,
-) -> Effect
-    requires { 2 ≤ access.old.guarded.spare }
-    ensures effect { let xs = device_statuses access.old.floors at.now.interfaces.now in
-        result ≡ claimed_effect xs unit trusted (read_head_of header.now) }
-    ensures none_waits { queued_by unit.draw result (read_head_of header.now) ≡ [] }
-    ensures stored { let xs = device_statuses access.old.floors at.now.interfaces.now in
-        MmioLeads access.old.guarded (tlp_happened xs unit trusted payload.now (read_head_of header.now) ∷ [])
-        access.new.guarded }
-    ensures kept { access.new ≡ record access.old { guarded = access.new.guarded } }
-    ensures sizes { access.new.guarded.sizes ≡ access.old.guarded.sizes }
-    ensures spare { access.old.guarded.spare ≤ access.new.guarded.spare + 2 }
-{
-    match read_head(header) {
-        Err(_) => Effect::Delivered,
-        Ok(head) => access.deliver(at.interfaces, &TlpView { head, payload }, trusted, unit),
-    }
-}
-
-// The effect of a packet with this mark, header and payload at a port that accepted it.
-#[tactic(auto, using(crate::proofs::Effects::sync, crate::proofs::Effects::at_host, crate::proofs::Effects::at_device))]
+// The effect of a packet at a port that accepted it.
 fn effect(
     at: &ReceivingPort,
     unit: UnitName,
-    mark: PacketMark,
-    header: &[u8],
-    payload: &[u8],
+    packet: &PacketView,
     memory: &mut Trusted,
     access: &mut LinkAccesses,
 ) -> Effect
     requires spare { 1 ≤ memory.old.spare }
     requires pages { 2 ≤ access.old.guarded.spare }
+    requires tlp { HasTlp (packet_of_view packet.now) packet.now.tlp }
     ensures came { PacketCame memory.old.contents.regions (grants_in at.now.keeper.now)
-        (device_statuses access.old.floors at.now.interfaces.now) at.now.port unit mark header.now payload.now
+        (device_statuses access.old.floors at.now.interfaces.now) at.now.port unit (packet_of_view packet.now)
         access.old.reads memory.old.contents access.old.guarded
         result access.new.reads memory.new.contents access.new.guarded }
     ensures regions { memory.new.contents.regions ≡ memory.old.contents.regions }
@@ -199,12 +166,15 @@ fn effect(
     ensures spare { memory.old.spare ≤ memory.new.spare + 1 }
     ensures pages { access.old.guarded.spare ≤ access.new.guarded.spare + 2 }
 {
-    if mark.sync {
+    let Some(head) = packet.tlp else {
         return Effect::Sync;
-    }
+    };
+    let trusted = packet.prefix.t;
+    let payload = packet.body;
+    let tlp = TlpView { head, payload };
     match at.port.side {
-        Side::Device => claimed(at, unit, mark.t, header, payload, access),
-        Side::Host => requested(at, unit, mark.t, header, payload, memory, access),
+        Side::Device => access.deliver(at.interfaces, &tlp, trusted, unit),
+        Side::Host => requested(at, unit, trusted, &tlp, memory, access),
     }
 }
 
@@ -229,9 +199,8 @@ fn effects(
 {
     let mut list = Effects::new();
     for i in 0..packets.count() {
-        let mark = packets.mark(i);
-        let (header, payload) = packets.packet(i);
-        list.push(effect(at, unit, mark, header, payload, memory, access));
+        let packet = packets.packet(i);
+        list.push(effect(at, unit, &packet, memory, access));
     }
     list
 }

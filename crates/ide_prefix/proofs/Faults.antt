@@ -11,12 +11,15 @@ use Rattle.tlp_layout.specs.{may_follow, body_size, layout_of, head_bytes}
 use Rattle.ide_prefix.specs.Causes.{prefix_read, clear_size, fits_early, packet_fault_at}
 use Rattle.ide_prefix.specs.Cut.{lent_tag}
 use Rattle.ide_prefix.specs.Faults.{GoesOff}
-use Rattle.ide_prefix.specs.Packet.{FitsPacket, is_sync_packet, SpellsPacket, begins_sync}
+use Rattle.ide_prefix.specs.Packet.{FitsPacket, SpellsPacket, HasTlp, begins_sync}
 use Rattle.ide_prefix.specs.Reading.{sync_at, tag_part, packet_size, packet_may_follow}
 use Rattle.ide_prefix.specs.declared.fault.PacketFault.{PacketFault}
 use Rattle.ide_prefix.specs.declared.packet.Prefix.{Prefix}
-use Rattle.ide_prefix.specs.Inside.{GoesOffEarly, GoesOffInSync, GoesOffInHead, HasHeader, SizesAre, head_slice}
+use Rattle.ide_prefix.specs.Inside.{GoesOffEarly, GoesOffInSync, GoesOffInHead, IsInClear, SizesAre, head_slice}
 use Rattle.ide_prefix.specs.Inside.{packet_fault_of_tlp}
+use Rattle.tlp_layout.specs.Head.{SpellsHead}
+use Rattle.tlp_layout.specs.Reading.{read_head_of}
+use Rattle.tlp_layout.proofs.Readings.{read_head_spells}
 use Rattle.ide_types.proofs.Cells.{IsBytes}
 use Rattle.ide_prefix.proofs.Grammar.{IsWalkedPacket, walks_from, walked_early, walked_late, size_at_least}
 use Rattle.ide_prefix.proofs.Grammar.{size_carried, size_sync, packets, packet_of, sync_spells, carried_spells}
@@ -177,14 +180,20 @@ header_fault s f fit long early plain h =
 
 -- ---- the whole packet
 
-whole_walk : (s : List ℕ) (size wanted : ℕ) → IsBytes s → 5 ≤ length s
-    → ((i : ℕ) → i < 5 → fits_early i s (get_or s i 0) ≡ true) → SizesAre s size wanted → IsWalkedPacket s (length s)
-whole_walk s size wanted fit long early z = record {
+header_in : (s : List ℕ) (tlp : Option HeadView) → IsInClear s tlp → sync_at s ≡ false
+    → (h : HeadView) × SpellsHead h (head_slice s)
+header_in s None is plain = absurd (true≢false (sym is ∙ plain))
+header_in s (Some h) is plain = (h, is.1)
+
+whole_walk : (s : List ℕ) (tlp : Option HeadView) (size wanted : ℕ) → IsBytes s → 5 ≤ length s
+    → ((i : ℕ) → i < 5 → fits_early i s (get_or s i 0) ≡ true) → SizesAre s tlp size wanted
+    → IsWalkedPacket s (length s)
+whole_walk s tlp size wanted fit long early z = record {
   fit = λ i lt. fit i;
   early = λ i lt few. early i few;
   zeros = λ y i many lt less. z.zeros y i many less;
   late = λ plain i many lt.
-      let h = z.header plain in
+      let h = header_in s tlp z.in_clear plain in
       let t = drop 4 s in
       let hs = head_size (get_or s 4 0) in
       let r = is_right (head_slice s) (record { head = h.0; spells = h.1 }) in
@@ -197,8 +206,9 @@ whole_walk s size wanted fit long early z = record {
       rw (get_or-drop 4 s (i - 4) 0, j) at t;
 }
 
-total_is : (s : List ℕ) (size wanted : ℕ) → SizesAre s size wanted → packet_size s ≡ 4 + size + wanted + tag_part s
-total_is s size wanted z =
+total_is : (s : List ℕ) (tlp : Option HeadView) (size wanted : ℕ) → SizesAre s tlp size wanted
+    → packet_size s ≡ 4 + size + wanted + tag_part s
+total_is s tlp size wanted z =
     let a = z.size_is in
     let b = z.wanted_is in
     elim (cases_Bool (sync_at s)) [
@@ -208,22 +218,22 @@ total_is s size wanted z =
           (arith, size_carried s plain, ap head_size (get_or-drop 4 s 0 0))
     ]
 
-pub short_fault : (s : List ℕ) (size wanted : ℕ) → IsBytes s → 5 ≤ length s
-    → ((i : ℕ) → i < 5 → fits_early i s (get_or s i 0) ≡ true) → SizesAre s size wanted
+pub short_fault : (s : List ℕ) (tlp : Option HeadView) (size wanted : ℕ) → IsBytes s → 5 ≤ length s
+    → ((i : ℕ) → i < 5 → fits_early i s (get_or s i 0) ≡ true) → SizesAre s tlp size wanted
     → length s < 4 + size + wanted + tag_part s → GoesOff s (Short (length s))
-short_fault s size wanted fit long early z lt =
-    let more : length s < packet_size s = omega (arith, total_is s size wanted z) in
-    let end = halt s (length s) (omega arith) (omega arith) (whole_walk s size wanted fit long early z)
+short_fault s tlp size wanted fit long early z lt =
+    let more : length s < packet_size s = omega (arith, total_is s tlp size wanted z) in
+    let end = halt s (length s) (omega arith) (omega arith) (whole_walk s tlp size wanted fit long early z)
     (λ less most t. omega arith) in
     (length s, place_of packets s (length s) end (λ _. more), rw (eq-eqb (length s) (length s) refl) refl)
 
-pub trailing_fault : (s : List ℕ) (size wanted place : ℕ) → IsBytes s → 5 ≤ length s
-    → ((i : ℕ) → i < 5 → fits_early i s (get_or s i 0) ≡ true) → SizesAre s size wanted
+pub trailing_fault : (s : List ℕ) (tlp : Option HeadView) (size wanted place : ℕ) → IsBytes s → 5 ≤ length s
+    → ((i : ℕ) → i < 5 → fits_early i s (get_or s i 0) ≡ true) → SizesAre s tlp size wanted
     → place ≡ 4 + size + wanted + tag_part s → place < length s → GoesOff s (Trailing place)
-trailing_fault s size wanted place fit long early z e lt =
-    let total : packet_size s ≡ place = total_is s size wanted z ∙ sym e in
+trailing_fault s tlp size wanted place fit long early z e lt =
+    let total : packet_size s ≡ place = total_is s tlp size wanted z ∙ sym e in
     let some : 16 ≤ packet_size s = size_at_least s in
-    let w = walks_from s (length s) (omega arith) (whole_walk s size wanted fit long early z) in
+    let w = walks_from s (length s) (omega arith) (whole_walk s tlp size wanted fit long early z) in
     let end : EndsAt packet_size packet_may_follow s place = record {
       within = omega arith;
       sized = omega arith;
@@ -247,14 +257,25 @@ clear_size_at_least sub b = elim (cases_Bool (begins_sync sub b)) [
   | inr n ↦ rw n (head_size_at_least b)
 ]
 
-pub spells_cut : (s head body tag : List ℕ) (size wanted : ℕ) → IsBytes s → 5 ≤ length s
-    → ((i : ℕ) → i < 5 → fits_early i s (get_or s i 0) ≡ true) → SizesAre s size wanted
+-- what stood in clear is what the header reads as
+has_tlp : (s head body tag : List ℕ) (tlp : Option HeadView) (size : ℕ)
+    → sync_at s ≡ begins_sync (prefix_read s).sub (get_or head 0 0)
+    → size ≡ clear_size (prefix_read s).sub (get_or s 4 0) → head ≡ take size (drop 4 s) → IsInClear s tlp
+    → HasTlp (packet_of s head body tag) tlp
+has_tlp s head body tag None size flag ez eh is = sym flag ∙ is
+has_tlp s head body tag (Some h) size flag ez eh is =
+    let wide : size ≡ head_size (get_or s 4 0) = rw is.0 at ez in
+    let same : head ≡ head_slice s = eh ∙ ap (λ (n : ℕ). take n (drop 4 s)) wide in
+    (sym flag ∙ is.0, ap read_head_of same ∙ (read_head_spells h (head_slice s)).0 is.1)
+
+pub spells_cut : (s head body tag : List ℕ) (tlp : Option HeadView) (size wanted : ℕ) → IsBytes s → 5 ≤ length s
+    → ((i : ℕ) → i < 5 → fits_early i s (get_or s i 0) ≡ true) → SizesAre s tlp size wanted
     → length s ≡ 4 + size + wanted + tag_part s → head ≡ take size (drop 4 s) → body
     ≡ take wanted (drop size (drop 4 s)) → tag ≡ drop wanted (drop size (drop 4 s))
-    → SpellsPacket (packet_of s head body tag) s × (sync_at s ≡ is_sync_packet (packet_of s head body tag))
-spells_cut s head body tag size wanted fit long early z e eh eb et =
-    let w = whole_walk s size wanted fit long early z in
-    let total : length s ≡ packet_size s = e ∙ sym (total_is s size wanted z) in
+    → SpellsPacket (packet_of s head body tag) s × HasTlp (packet_of s head body tag) tlp
+spells_cut s head body tag tlp size wanted fit long early z e eh eb et =
+    let w = whole_walk s tlp size wanted fit long early z in
+    let total : length s ≡ packet_size s = e ∙ sym (total_is s tlp size wanted z) in
     let a = z.size_is in
     let b = z.wanted_is in
     let some : 0 < size = omega (arith, z.size_is, clear_size_at_least (prefix_read s).sub (get_or s 4 0)) in
@@ -262,6 +283,7 @@ spells_cut s head body tag size wanted fit long early z e eh eb et =
     some ∙ get_or-drop 4 s 0 0 in
     let flag : sync_at s ≡ begins_sync (prefix_read s).sub (get_or head 0 0) = ap (begins_sync (prefix_read s).sub)
     (sym zeroth) in
+    let carried = has_tlp s head body tag tlp size flag z.size_is eh z.in_clear in
     elim (cases_Bool (sync_at s)) [
       | inl y ↦
           let a' : size ≡ 12 = rw y at a in
@@ -271,7 +293,7 @@ spells_cut s head body tag size wanted fit long early z e eh eb et =
           let o : body ≡ [] = eb ∙ ap (λ (n : ℕ). take n (drop size (drop 4 s))) b' in
           let g : tag ≡ drop 12 (drop 4 s) = et ∙ ap (λ (n : ℕ). drop n (drop size (drop 4 s))) b' ∙ ap
           (λ (n : ℕ). drop n (drop 4 s)) a' in
-          (rw (h, o, g) sp.0, flag)
+          (rw (h, o, g) sp.0, carried)
       | inr plain ↦
           let a' : size ≡ head_size (get_or (drop 4 s) 0 0) = (rw plain at a) ∙ sym (ap head_size (get_or-drop 4 s 0 0))
           in
@@ -285,30 +307,31 @@ spells_cut s head body tag size wanted fit long early z e eh eb et =
           let g : tag ≡ drop (rest_size (drop 4 s)) (drop (head_size (get_or (drop 4 s) 0 0)) (drop 4 s)) = et ∙ ap
           (λ (n : ℕ). drop n (drop size (drop 4 s))) b' ∙ ap
           (λ (n : ℕ). drop (rest_size (drop 4 s)) (drop n (drop 4 s))) a' in
-          (rw (h, o, g) sp, flag)
+          (rw (h, o, g) sp, carried)
     ]
 
-pub header_sizes : (s : List ℕ) (wanted : ℕ) → 5 ≤ length s → sync_at s ≡ false → HasHeader s wanted
-    → SizesAre s (head_size (get_or s 4 0)) wanted
-header_sizes s wanted long plain h =
+pub header_sizes : (s : List ℕ) (head : HeadView) (wanted : ℕ) → 5 ≤ length s → sync_at s ≡ false
+    → SpellsHead head (head_slice s) → wanted ≡ body_size head.has_payload head.lead.length
+    → SizesAre s (Some head) (head_size (get_or s 4 0)) wanted
+header_sizes s head wanted long plain spells wanted_is =
     let size = head_size (get_or s 4 0) in
     let some : 12 ≤ size = head_size_at_least (get_or s 4 0) in
-    let k = layout_of h.head.fields in
-    let r : IsRight k (head_slice s) = subst (IsRight k) (sym h.spells.spelled) (kept h.head h.spells.fits) in
+    let k = layout_of head.fields in
+    let r : IsRight k (head_slice s) = subst (IsRight k) (sym spells.spelled) (kept head spells.fits) in
     let first : get_or (head_slice s) 0 0 ≡ get_or s 4 0 = get_or-take size (drop 4 s) 0 0 (omega arith) ∙ get_or-drop 4
     s 0 0 in
-    let same : head_of k (head_slice s) ≡ h.head = ap (head_of k)
-    (h.spells.spelled ∙ sym (append-nil (head_bytes h.head))) ∙ again h.head [] h.spells.fits in
-    let wants : rest_size (head_slice s) ≡ body_size h.head.has_payload h.head.lead.length = ap
+    let same : head_of k (head_slice s) ≡ head = ap (head_of k)
+    (spells.spelled ∙ sym (append-nil (head_bytes head))) ∙ again head [] spells.fits in
+    let wants : rest_size (head_slice s) ≡ body_size head.has_payload head.lead.length = ap
     (λ (x : HeadView). body_size x.has_payload x.lead.length) same in
     let front : rest_size (head_slice s) ≡ rest_size (drop 4 s) = rest_front size (drop 4 s) (omega arith) in
     record {
       size_is = rw plain refl;
       within = omega (arith, r.size, ap head_size first, length-take size (drop 4 s), length-drop 4 s);
-      wanted_is = rw plain (h.wanted_is ∙ sym wants ∙ front);
-      small = rw h.wanted_is (body_at_most h.head.has_payload h.head.lead.length h.spells.fits.lead.length);
+      wanted_is = rw plain (wanted_is ∙ sym wants ∙ front);
+      small = rw wanted_is (body_at_most head.has_payload head.lead.length spells.fits.lead.length);
       zeros = λ y i many lt. absurd (true≢false (sym y ∙ plain));
-      header = λ p. (h.head, h.spells);
+      in_clear = (plain, spells);
     }
 
 pub tag_long : (s : List ℕ) (size wanted : ℕ) → length s ≡ 4 + size + wanted + tag_part s
@@ -327,15 +350,16 @@ tag_is (Some y) t false e h = absurd (omega (arith, h.long, e))
 abbrev pub packet_from : Prefix → List ℕ → List ℕ → List ℕ → Packet
 packet_from p h b t = record { prefix = p; head = h; body = b; tag = t }
 
-pub is_cut : (s head body rest : List ℕ) (o : Option (Bor (List ℕ))) (size wanted : ℕ) (p : Prefix) (sync : Bool)
-    → IsBytes s → 5 ≤ length s → ((i : ℕ) → i < 5 → fits_early i s (get_or s i 0) ≡ true) → SizesAre s size wanted
-    → length s ≡ 4 + size + wanted + tag_part s → p ≡ prefix_read s → sync ≡ sync_at s → head ≡ take size (drop 4 s)
+pub is_cut : (s head body rest : List ℕ) (o : Option (Bor (List ℕ))) (tlp : Option HeadView) (size wanted : ℕ)
+    (p : Prefix)
+    → IsBytes s → 5 ≤ length s → ((i : ℕ) → i < 5 → fits_early i s (get_or s i 0) ≡ true) → SizesAre s tlp size wanted
+    → length s ≡ 4 + size + wanted + tag_part s → p ≡ prefix_read s → head ≡ take size (drop 4 s)
     → body ≡ take wanted (drop size (drop 4 s)) → rest ≡ drop wanted (drop size (drop 4 s))
     → MatchOption o (length rest ≡ 12 → ⊥) (λ y. IsWholeChunk rest y.now 12)
     → SpellsPacket (packet_from p head body (lent_tag o)) s ×
     (FitsPacket (packet_from p head body (lent_tag o)) ×
-    (sync ≡ is_sync_packet (packet_from p head body (lent_tag o))) × (is_some o ≡ p.m))
-is_cut s head body rest o size wanted p sync fit long early z e ep es eh eb er m =
+    HasTlp (packet_from p head body (lent_tag o)) tlp × (is_some o ≡ p.m))
+is_cut s head body rest o tlp size wanted p fit long early z e ep eh eb er m =
     let t = tag_is o rest (prefix_read s).m (ap length er ∙ tag_long s size wanted e) m in
-    let r = spells_cut s head body (lent_tag o) size wanted fit long early z e eh eb (t.0 ∙ er) in
-    rw (ep, es) (r.0, (r.0.fits, r.1, t.1))
+    let r = spells_cut s head body (lent_tag o) tlp size wanted fit long early z e eh eb (t.0 ∙ er) in
+    rw ep (r.0, (r.0.fits, r.1, t.1))

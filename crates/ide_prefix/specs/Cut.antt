@@ -1,14 +1,11 @@
 -- Packets whose parts are lent, as values.
-use Rattle.std.specs.Prelude.{◌≡◌, ℕ, true, List, [], Option, Some, None, Result, Ok, Err, is_some, if◌then◌else◌}
-use Rattle.std.specs.Result.{result_ok}
+use Rattle.std.specs.Prelude.{◌≡◌, ℕ, true, List, [], Option, Some, None, Result, Ok, Err, is_some}
 use denote.Ref.{Bor}
-use Rattle.tlp_layout.specs.declared.head.HeadView.{HeadView}
-use Rattle.tlp_layout.specs.Reading.{read_head_of}
 use Rattle.ide_prefix.specs.declared.packet.Cut.{Cut}
 use Rattle.ide_prefix.specs.declared.packet.Cut.TheVariants.{Plain, Ide}
 use Rattle.ide_prefix.specs.declared.packet.PacketView.{PacketView}
 use Rattle.ide_prefix.specs.declared.fault.PacketFault.{PacketFault}
-use Rattle.ide_prefix.specs.Packet.{Packet, FitsPacket, SpellsPacket, is_sync_packet}
+use Rattle.ide_prefix.specs.Packet.{Packet, FitsPacket, SpellsPacket, HasTlp}
 use Rattle.ide_prefix.specs.Causes.{is_plain}
 use Rattle.ide_prefix.specs.Reading.{CutValue, PlainTlp, IdePacket}
 
@@ -30,16 +27,11 @@ abbrev pub cut_values : Result Cut PacketFault → Result CutValue PacketFault
 cut_values (Ok c) = Ok (cut_value c)
 cut_values (Err f) = Err f
 
--- a packet that has a spelling is shown, with its flag of sync packets, and with a tag if M is set
+-- a packet that has a spelling is shown, with what its header reads as, and with a tag if M is set
 abbrev pub IsView : PacketView → Type 0
-IsView v =
-    FitsPacket (packet_of_view v) × (v.sync ≡ is_sync_packet (packet_of_view v)) × (is_some v.tag ≡ v.prefix.m)
+IsView v = FitsPacket (packet_of_view v) × HasTlp (packet_of_view v) v.tlp × (is_some v.tag ≡ v.prefix.m)
 
 -- the bytes are plain, or those of the packet that is shown
 abbrev pub IsCut : List ℕ → Cut → Type 0
 IsCut bytes Plain = is_plain bytes ≡ true
 IsCut bytes (Ide v) = SpellsPacket (packet_of_view v) bytes × IsView v
-
--- the header of the TLP that is shown, none of a sync packet
-abbrev pub view_header : PacketView → Option HeadView
-view_header v = if v.sync then None else result_ok (read_head_of v.head.now)

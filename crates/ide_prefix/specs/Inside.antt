@@ -1,10 +1,10 @@
 -- What the reader's inner functions show of the bytes.
 use Rattle.std.specs.Prelude.{◌≡◌, ℕ, ◌+◌, ◌<◌, ◌≤◌, true, false, List, length, take, drop, slice_index, if◌then◌else◌}
+use Rattle.std.specs.Prelude.{Option, Some, None}
 use Rattle.tlp_layout.specs.declared.fault.TlpFault.{TlpFault}
 use Rattle.tlp_layout.specs.declared.head.HeadView.{HeadView}
 use Rattle.tlp_layout.specs.declared.fault.TlpFault.TheVariants as tlps
 use Rattle.tlp_layout.specs.Head.{SpellsHead}
-use Rattle.tlp_layout.specs.Tlp.{body_size}
 use Rattle.tlp_layout.specs.Causes.{head_size}
 use Rattle.tlp_layout.specs.Faults.{IsHeadFault}
 use Rattle.tlp_layout.specs.Reading.{rest_size}
@@ -38,22 +38,21 @@ packet_fault_of_tlp f = Tlp (fault_after_prefix f)
 abbrev pub head_slice : List ℕ → List ℕ
 head_slice s = take (head_size (slice_index s 4)) (drop 4 s)
 
--- after the prefix stands a header, which wants that many bytes of payload
-pub record HasHeader (s : List ℕ) (wanted : ℕ) : Type 0 where
-  pub head : HeadView
-  pub spells : SpellsHead head (head_slice s)
-  pub wanted_is : wanted ≡ body_size head.has_payload head.lead.length
-
 abbrev pub GoesOffInHead : List ℕ → PacketFault → Type 0
 GoesOffInHead s fault = (f : TlpFault) × IsHeadFault (head_slice s) f × (fault ≡ packet_fault_of_tlp f)
 
--- the bytes after the prefix begin a sync packet, or with a header: its length, and that of the payload
-pub record SizesAre (s : List ℕ) (size wanted : ℕ) : Type 0 where
+-- after the prefix stands this header, or a sync packet's bytes
+abbrev pub IsInClear : List ℕ → Option HeadView → Type 0
+IsInClear s None = begins_sync (prefix_read s).sub (slice_index s 4) ≡ true
+IsInClear s (Some head) =
+    (begins_sync (prefix_read s).sub (slice_index s 4) ≡ false) × SpellsHead head (head_slice s)
+
+-- the length of that, and of the payload
+pub record SizesAre (s : List ℕ) (tlp : Option HeadView) (size wanted : ℕ) : Type 0 where
   pub size_is : size ≡ clear_size (prefix_read s).sub (slice_index s 4)
   pub within : 4 + size ≤ length s
   pub wanted_is : wanted ≡ (if begins_sync (prefix_read s).sub (slice_index s 4) then 0 else rest_size (drop 4 s))
   pub small : wanted ≤ 4096
   pub zeros : begins_sync (prefix_read s).sub (slice_index s 4) ≡ true
       → (i : ℕ) → 5 ≤ i → i < 16 → slice_index s i ≡ 0
-  pub header : begins_sync (prefix_read s).sub (slice_index s 4) ≡ false
-      → (h : HeadView) × SpellsHead h (head_slice s)
+  pub in_clear : IsInClear s tlp

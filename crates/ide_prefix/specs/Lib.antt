@@ -21,15 +21,15 @@ pub use Rattle.ide_prefix.specs.declared.fault.PacketFault.{PacketFault}
 pub use Rattle.ide_prefix.specs.declared.packet.Prefix.{Prefix}
 pub use Rattle.ide_prefix.specs.declared.packet.PacketView.{PacketView}
 pub use Rattle.ide_prefix.specs.Packet.{packet_first, sync_first, prefix_bytes, packet_bytes, sync_head, begins_sync}
-pub use Rattle.ide_prefix.specs.Packet.{is_sync_packet, IsCarried, IsSync, FitsPrefix, FitsPacket, SpellsPacket}
-pub use Rattle.ide_prefix.specs.Packet.{IsPacket}
+pub use Rattle.ide_prefix.specs.Packet.{is_sync_packet, HasTlp, IsCarried, IsSync, FitsPrefix, FitsPacket}
+pub use Rattle.ide_prefix.specs.Packet.{SpellsPacket, IsPacket}
 pub use Rattle.ide_prefix.specs.Units.{clear_bytes, authenticated_bytes, encrypted_bytes, packet_without_tag}
 pub use Rattle.ide_prefix.specs.Causes.{is_plain, sub_from, prefix_read, fits_first, fits_early, clear_size}
 pub use Rattle.ide_prefix.specs.Causes.{packet_fault_at}
 pub use Rattle.ide_prefix.specs.Faults.{GoesOff, IsPacketFault, packet_place}
 pub use Rattle.ide_prefix.specs.Reading.{CutValue, PlainTlp, IdePacket, sync_at, tag_part, packet_size, packet_read}
 pub use Rattle.ide_prefix.specs.Reading.{wants_packet, packet_may_follow}
-pub use Rattle.ide_prefix.specs.Cut.{packet_of_view, cut_value, cut_values, lent_tag, IsView, IsCut, view_header}
+pub use Rattle.ide_prefix.specs.Cut.{packet_of_view, cut_value, cut_values, lent_tag, IsView, IsCut}
 pub use Rattle.ide_prefix.specs.Iv.{iv_of}
 unfoldable pub use Rattle.ide_prefix.specs.Reading.{cut_of}
 pub use Rattle.ide_prefix.specs.FaultWords.{tlp_word, packet_word}

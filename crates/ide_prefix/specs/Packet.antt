@@ -1,12 +1,13 @@
 -- The spelling of a packet: a prefix, a TLP's header in clear, its encrypted payload, and a tag (PCI Express Base 6.0
 -- section 6.33; the layout is this profile's).
 use Rattle.std.specs.Prelude.{◌≡◌, ◌≢◌, ℕ, ◌+◌, ◌*◌, ◌<◌, Bool, true, false, List, [], ◌∷◌, ◌++◌, length, slice_index}
-use Rattle.std.specs.Prelude.{replicate, ◌⊎◌, ◌==◌, All, if◌then◌else◌}
+use Rattle.std.specs.Prelude.{replicate, ◌⊎◌, ◌==◌, All, if◌then◌else◌, Option, Some, None, Ok}
 use Rattle.ide_types.specs.declared.sub.SubKind.{SubKind}
 use Rattle.ide_types.specs.declared.sub.SubKind.TheVariants.{Pr, Npr, Cpl}
 use Rattle.ide_types.specs.Sub.{sub_bits}
 use Rattle.tlp_layout.specs.declared.head.HeadView.{HeadView}
 use Rattle.tlp_layout.specs.Head.{SpellsHead}
+use Rattle.tlp_layout.specs.Reading.{read_head_of}
 use Rattle.tlp_layout.specs.Numbers.{bit}
 use Rattle.tlp_layout.specs.Class.{class_of}
 use Rattle.tlp_layout.specs.Tlp.{body_size}
@@ -47,6 +48,11 @@ begins_sync Cpl b = b == sync_first
 
 abbrev pub is_sync_packet : Packet → Bool
 is_sync_packet p = begins_sync p.prefix.sub (slice_index p.head 0)
+
+-- what its header reads as; none of a sync packet, which carries no TLP
+abbrev pub HasTlp : Packet → Option HeadView → Type 0
+HasTlp p None = is_sync_packet p ≡ true
+HasTlp p (Some head) = (is_sync_packet p ≡ false) × (read_head_of p.head ≡ Ok head)
 
 -- it carries a TLP of the sub-stream's class: a header, and as many bytes of payload as that wants
 pub record IsCarried (p : Packet) : Type 0 where

@@ -3,6 +3,7 @@
 ghost use Rattle.std.specs.Prelude.{◌≡◌, ℕ, ◌+◌, ◌<◌, ◌≤◌, ◌%◌, ◌^◌, IfOk, IfErr, OnOk, MatchResult, if◌then◌else◌};
 ghost use Rattle.std.specs.Prelude.{length, slice_index, true, Some};
 ghost use Rattle.tlp_layout.specs.Faults.{place_in};
+ghost use Rattle.tlp_layout.specs.Head.{SpellsHead};
 ghost use Rattle.ide_prefix.specs.Packet.{Packet, SpellsPacket, begins_sync as begins_sync_of};
 ghost use Rattle.ide_prefix.specs.Causes.{is_plain as is_plain_of, prefix_read, sub_from, belongs as belongs_to};
 ghost use Rattle.ide_prefix.specs.Causes.{fits_first, fits_early, early_cause};
@@ -10,13 +11,13 @@ ghost use Rattle.ide_prefix.specs.Faults.{GoesOff, IsPacketFault};
 ghost use Rattle.ide_prefix.specs.Reading.{cut_of, IdePacket};
 ghost use Rattle.ide_prefix.specs.Cut.{IsCut, cut_value, cut_values};
 ghost use Rattle.ide_prefix.specs.declared.packet.Cut.TheVariants.{Ide};
-ghost use Rattle.ide_prefix.specs.Inside.{GoesOffEarly, GoesOffInSync, GoesOffInHead, HasHeader, SizesAre, head_slice};
+ghost use Rattle.ide_prefix.specs.Inside.{GoesOffEarly, GoesOffInSync, GoesOffInHead, SizesAre, head_slice};
 ghost use Rattle.ide_prefix.specs.Inside.{packet_fault_of_tlp};
 
 use crate::fault::PacketFault;
 use crate::packet::{Cut, PACKET_FIRST, PacketView, Prefix, SYNC_FIRST};
 use ide_types::SubKind;
-use tlp_layout::{TlpFault, TlpKind, head_size, kind_at, read_head};
+use tlp_layout::{HeadView, TlpFault, TlpKind, head_size, kind_at, read_head};
 
 fn sub_of(flags: u8) -> SubKind
     ensures { result ≡ sub_from (flags % 8) }
@@ -178,14 +179,14 @@ fn head_front(bytes: &[u8]) -> &[u8]
     &rest[..size]
 }
 
-/// How many bytes of payload the header after the prefix wants.
-fn header(bytes: &[u8]) -> Result<usize, PacketFault>
+/// The header after the prefix.
+fn header(bytes: &[u8]) -> Result<HeadView, PacketFault>
     requires { 5 ≤ length bytes.now }
-    ensures ok { IfOk result (HasHeader bytes.now) }
+    ensures ok { IfOk result (λ head. SpellsHead head (head_slice bytes.now)) }
     ensures goes_off { IfErr result (GoesOffInHead bytes.now) }
 {
     match read_head(head_front(bytes)) {
-        Ok(head) => Ok(head.payload_size()),
+        Ok(head) => Ok(head),
         Err(fault) => Err(behind_prefix(fault)),
     }
 }
@@ -196,22 +197,23 @@ fn tag_size(m: bool) -> usize
     if m { 12 } else { 0 }
 }
 
-/// The length in bytes of what stands in clear after the prefix, and of the payload.
-fn sizes(sync: bool, bytes: &[u8]) -> Result<(usize, usize), PacketFault>
+/// The header after the prefix, none in a sync packet, and the lengths in bytes of what stands there in clear and of
+/// the payload.
+fn sizes(sync: bool, bytes: &[u8]) -> Result<(Option<HeadView>, usize, usize), PacketFault>
     requires long { 5 ≤ length bytes.now }
     requires fits { (i : ℕ) → i < 5 → fits_early i bytes.now (slice_index bytes.now i) ≡ true }
     requires sync { sync ≡ begins_sync_of (prefix_read bytes.now).sub (slice_index bytes.now 4) }
-    ensures ok { IfOk result (λ x. SizesAre bytes.now x.0 x.1) }
+    ensures ok { IfOk result (λ x. SizesAre bytes.now x.0 x.1 x.2) }
     ensures err { IfErr result (GoesOff bytes.now) }
 {
     if sync {
         match sync_zeros(bytes) {
-            Ok(()) => Ok((12, 0)),
+            Ok(()) => Ok((None, 12, 0)),
             Err(fault) => Err(fault),
         }
     } else {
         match header(bytes) {
-            Ok(wanted) => Ok((head_size(bytes[4]), wanted)),
+            Ok(head) => Ok((Some(head), head_size(bytes[4]), head.payload_size())),
             Err(fault) => Err(fault),
         }
     }
@@ -225,7 +227,7 @@ fn parts(bytes: &[u8]) -> Result<PacketView<'_>, PacketFault>
     early(bytes)?;
     let prefix = prefix_at(bytes);
     let sync = begins_sync(prefix.sub, bytes[4]);
-    let (size, wanted) = sizes(sync, bytes)?;
+    let (tlp, size, wanted) = sizes(sync, bytes)?;
     let tag_size = tag_size(prefix.m);
     let total = 4 + size + wanted + tag_size;
     if bytes.len() < total {
@@ -242,7 +244,7 @@ fn parts(bytes: &[u8]) -> Result<PacketView<'_>, PacketFault>
         head,
         body,
         tag: tag.as_array::<12>(),
-        sync,
+        tlp,
     })
 }
 

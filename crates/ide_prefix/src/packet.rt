@@ -4,7 +4,7 @@ ghost use Rattle.std.specs.Prelude.{◌≡◌};
 ghost use Rattle.ide_prefix.specs.Packet.{prefix_bytes};
 
 use ide_types::SubKind;
-use tlp_layout::{HeadView, read_head};
+use tlp_layout::HeadView;
 
 /// The first byte of a packet.
 pub const PACKET_FIRST: u8 = 0x92;
@@ -49,27 +49,12 @@ pub struct PacketView<'a> {
     pub prefix: Prefix,
     /// The TLP's header, 12 or 16 bytes, or the 12 bytes of a sync packet.
     pub head: &'a [u8],
-    /// The encrypted payload, up to 4,096 bytes.
+    /// The payload, up to 4,096 bytes: encrypted as it came, or decrypted.
     pub body: &'a [u8],
     /// The tag, if M is set.
     pub tag: Option<&'a [u8; 12]>,
-    /// Whether it is a sync packet, which carries no TLP.
-    pub sync: bool,
-}
-
-impl PacketView<'_> {
-    ghost use Rattle.std.specs.Prelude.{◌≡◌};
-    ghost use Rattle.ide_prefix.specs.Cut.{view_header};
-
-    /// The header of the TLP that the packet carries; `None` of a sync packet, and of no other packet that `cut` gave.
-    pub fn header(&self) -> Option<HeadView>
-        ensures { result ≡ view_header self.now }
-    {
-        if self.sync {
-            return None;
-        }
-        read_head(self.head).ok()
-    }
+    /// What the header reads as; `None` of a sync packet, which carries no TLP.
+    pub tlp: Option<HeadView>,
 }
 
 /// What bytes are: a plain TLP's, or a packet (this profile).

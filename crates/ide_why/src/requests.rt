@@ -2,11 +2,12 @@
 
 ghost use Rattle.std.specs.Prelude.{◌≡◌, ◌++◌, IfOk, Ok, length};
 ghost use Rattle.ide_prefix.specs.Cut.{packet_of_view, IsView};
+ghost use Rattle.ide_prefix.specs.Packet.{HasTlp};
 ghost use Rattle.ide_types.specs.declared.port.Side.TheVariants.{Device, Host};
 ghost use Rattle.guarded_memory.specs.{claim_of};
 ghost use Rattle.spec_links.specs.Ports.{port_of as port_of_end};
-ghost use Rattle.why_facts.specs.Forms.{asks_facts, claim_facts, device_facts, host_facts, known_to, requester_at};
-ghost use Rattle.why_facts.specs.Forms.{requests_facts, unit_facts};
+ghost use Rattle.why_facts.specs.Forms.{claim_facts, device_facts, host_facts, known_to, request_facts};
+ghost use Rattle.why_facts.specs.Forms.{requester_at, requests_facts, unit_facts};
 ghost use Rattle.world.specs.{IsWorld, reads_at};
 ghost use Rattle.ide_why.specs.Facts.{readings_read};
 ghost use Rattle.ide_why.specs.Reading.{statuses_read};
@@ -16,8 +17,8 @@ use guarded_memory::Claim;
 use ide_prefix::PacketView;
 use ide_types::{OutOfMemory, PortName, Side, ValidPlan};
 use line_routes::{at_switch, port_of};
-use sub_stream::{Delivered, PacketMark};
-use tlp_layout::{HeadView, owner, read_head};
+use sub_stream::Delivered;
+use tlp_layout::{HeadView, owner};
 use trusted_memory::{MemReadView, Span};
 use why_facts::{
     Fact, InterfaceFact, packet_fact, push, push_adds, push_bar, push_bytes, push_face,
@@ -167,22 +168,23 @@ impl Reader<'_> {
         facts: &mut Vec<Fact>,
         port: PortName,
         place: u64,
-        mark: PacketMark,
-        head: &[u8],
+        packet: &PacketView,
     ) -> Result<(), OutOfMemory>
-        requires { IsWorld self.now.plan.now self.now.links.now }
-        ensures { IfOk result (λ _. facts.new.items ≡ facts.old.items ++ asks_facts self.now.plan.now
-            (readings_read self.now.links.now) port place mark.sync mark.t head.now) }
+        requires world { IsWorld self.now.plan.now self.now.links.now }
+        requires tlp { HasTlp (packet_of_view packet.now) packet.now.tlp }
+        ensures { IfOk result (λ _. facts.new.items ≡ facts.old.items ++ request_facts self.now.plan.now
+            (readings_read self.now.links.now) port place (packet_of_view packet.now)) }
     {
-        if mark.sync || at_switch(self.plan, port) {
+        let Some(head) = packet.tlp else {
+            return Ok(());
+        };
+        if at_switch(self.plan, port) {
             return Ok(());
         }
-        match read_head(head) {
-            Err(_) => Ok(()),
-            Ok(head) => match port.side {
-                Side::Host => self.push_asked_of_host(facts, port.line, place, mark.t, &head),
-                Side::Device => self.push_asked_of_device(facts, port.line, place, mark.t, &head),
-            },
+        let t = packet.prefix.t;
+        match port.side {
+            Side::Host => self.push_asked_of_host(facts, port.line, place, t, &head),
+            Side::Device => self.push_asked_of_device(facts, port.line, place, t, &head),
         }
     }
 
@@ -198,9 +200,8 @@ impl Reader<'_> {
             (readings_read self.now.links.now) port 1 held.now) }
     {
         for i in 0..held.count() {
-            let mark = held.mark(i);
-            let (head, _) = held.packet(i);
-            self.push_request(facts, port, i as u64 + 1, mark, head)?;
+            let packet = held.packet(i);
+            self.push_request(facts, port, i as u64 + 1, &packet)?;
         }
         Ok(())
     }
@@ -223,10 +224,6 @@ impl Reader<'_> {
         let posted = held.posted() + u64::from(packet.prefix.posted);
         push_adds(facts, packet.prefix.sub, posted)?;
         self.push_held(facts, port, held)?;
-        let mark = PacketMark {
-            t: packet.prefix.t,
-            sync: packet.sync,
-        };
-        self.push_request(facts, port, held.count() as u64 + 1, mark, packet.head)
+        self.push_request(facts, port, held.count() as u64 + 1, packet)
     }
 }

@@ -33,7 +33,7 @@ use Rattle.machine_ports.specs.Stands.{PortsStandFor, stream_state_due}
 use Rattle.spec_stream.specs.Stream.{StreamState, LiveKey, Taken, Accepted, stream_outcome, unit_name, live_in}
 use Rattle.spec_stream.specs.Stream.{slot_in_set, at_sub}
 use Rattle.law_sealing.proofs.Below.{cut_fits}
-use Rattle.sub_stream.specs.{mark_of, opened_from_byte, opened_unit}
+use Rattle.sub_stream.specs.{opened_from_byte, opened_unit}
 use Rattle.ide_port.specs.{opened_if_accepted}
 use Rattle.arrival_verdicts.specs.{PortEnd, Found, found_stream, take_step, TakeStep, port_arrival, packet_step}
 use Rattle.arrival_verdicts.specs.Verdicts.{of_unit}
@@ -162,7 +162,7 @@ few_queued d way xs q room few = ⊎_elim none one few
 -- ---- effects
 
 module _ (plan : Plan) (policy : Policy) (port : PortName) (unit : UnitName) (switch : at_switch plan port ≡ true) where
-  same_switched : (waiting : ℕ) (p : Packet) → switched_as (mark_of p) ≡ effect_by plan policy waiting port unit p
+  same_switched : (waiting : ℕ) (p : Packet) → switched_as p ≡ effect_by plan policy waiting port unit p
   same_switched waiting p = rw switch refl
 
   pub switched_opens : (waiting : ℕ) (key : List ℕ) (iv : List ℕ) (n : ℕ) (ps : List Packet)

@@ -3,7 +3,7 @@ ghost use Rattle.std.specs.Prelude.{◌≡◌, ◌++◌, ◌∷◌, [], List, If
 ghost use Rattle.std.specs.Fmt.{decimal};
 ghost use Rattle.tlp_layout.specs.Reading.{read_of};
 ghost use Rattle.ide_prefix.specs.Cut.{packet_of_view};
-ghost use Rattle.ide_prefix.specs.Packet.{is_sync_packet};
+ghost use Rattle.ide_prefix.specs.Packet.{HasTlp};
 ghost use Rattle.ide_prefix.specs.Faults.{packet_place};
 ghost use Rattle.ide_prefix.specs.FaultWords.{packet_word as packet_word_of};
 ghost use Rattle.ide_types.specs.Names.{Text, joined_words, fault_word};
@@ -53,10 +53,10 @@ fn packet_fault_text(alloc: Global, number: u64, fault: PacketFault) -> Result<S
 
 // The kind of the TLP that a packet carries, or the word for a sync packet.
 fn carried_kind(packet: &PacketView<'_>) -> &'static str
-    requires { packet.now.sync ≡ is_sync_packet (packet_of_view packet.now) }
+    requires { HasTlp (packet_of_view packet.now) packet.now.tlp }
     ensures { result.now ≡ carried_word (carried_header (packet_of_view packet.now)) }
 {
-    carried_name(&packet.header())
+    carried_name(&packet.tlp)
 }
 
 fn push_prefix(text: &mut String, prefix: &Prefix) -> Result<(), AllocError>
@@ -78,7 +78,7 @@ fn push_prefix(text: &mut String, prefix: &Prefix) -> Result<(), AllocError>
 }
 
 fn push_carried(text: &mut String, packet: &PacketView<'_>) -> Result<(), AllocError>
-    requires { packet.now.sync ≡ is_sync_packet (packet_of_view packet.now) }
+    requires { HasTlp (packet_of_view packet.now) packet.now.tlp }
     ensures { OnOk result (string_bytes text.new ≡ string_bytes text.old
         ++ joined_words (carried_words (packet_of_view packet.now))) }
 {
@@ -89,7 +89,7 @@ fn push_carried(text: &mut String, packet: &PacketView<'_>) -> Result<(), AllocE
 }
 
 fn packet_text(alloc: Global, number: u64, packet: &PacketView<'_>) -> Result<String, AllocError>
-    requires { packet.now.sync ≡ is_sync_packet (packet_of_view packet.now) }
+    requires { HasTlp (packet_of_view packet.now) packet.now.tlp }
     ensures { IfOk result (λ s. string_bytes s ≡ decimal number
         ++ joined_words (packet_words (packet_of_view packet.now))) }
 {

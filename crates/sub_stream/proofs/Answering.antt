@@ -2,7 +2,7 @@
 -- seen as the receiver of the specs. It goes by the answer, by who holds the buffer and by the state of each slot: a
 -- packet that fits finds nothing held in the other key set, so the buffer is its own slot's alone. The hard case is an
 -- accepted unit: its slot counts it, an older key in the other slot goes, and the buffer lends the decrypted packets.
-use Rattle.std.proofs.Common.{◌≡◌, ℕ, ◌+◌, ◌<◌, ◌≤◌, Bool, true, false, not, ◌&&◌, ◌||◌, ◌==◌, nat_lt, nat_le}
+use Rattle.std.proofs.Common.{◌≡◌, ℕ, ◌+◌, ◌<◌, Bool, true, false, not, ◌&&◌, ◌||◌, ◌==◌, nat_lt, nat_le}
 use Rattle.std.proofs.Common.{if◌then◌else◌, List, [], ◌∷◌, ◌++◌, length, Option, Some, None, refl, sym, ap, ◌∙◌, arith}
 use Rattle.std.proofs.Common.{length-append}
 use Rattle.std.specs.Option.{option_map}
@@ -32,10 +32,10 @@ use Rattle.sub_stream.specs.Receivers.{Receiver, held_zero, held_one, receiver_s
 use Rattle.sub_stream.specs.Receivers.{ahead_if_held, HoldsFew, IsReceiver, holds_some, holds_apart, held_set}
 use Rattle.sub_stream.specs.Receivers.{holds_after_answer, held_alone, held_unless_failed, is_accepted, is_draw_below}
 use Rattle.sub_stream.specs.Receivers.{without_older, slots_after, fits_held, fits_unit, key_for, receiver_ahead}
-use Rattle.sub_stream.specs.Receivers.{is_tagged_behind, judged_packet, early_answer, early_of, BufferAfter}
+use Rattle.sub_stream.specs.Receivers.{is_tagged_behind, judged_packet, BufferAfter}
 use Rattle.sub_stream.specs.Receivers.{receiver_outcome_by_keys, receiver_outcome, dropped_slots, dropped_receiver}
 use Rattle.sub_stream.specs.Receivers.{ahead_held, opened_unit, after_answer, slots_ahead, gone_receiver}
-use Rattle.sub_stream.proofs.Receiving.{units_of, held_of, key_seen, fits_seen, early_seen, early_by, other_holds}
+use Rattle.sub_stream.proofs.Receiving.{units_of, held_of, key_seen, fits_seen, early_answer, early_of, other_holds}
 
 -- ---- answers that come early
 
@@ -176,24 +176,6 @@ key-kept k pair u0 u1 h unit held is apart =
     key_seen k pair u0 u1 h unit.packets
     ∙ ap (option_map (live_key_seen (units_of k u0 u1) (held_of k h unit.packets))) is
     ∙ ap (λ ps. Some (live_key_seen (units_of k u0 u1) ps held)) (held-kept k h unit apart)
-
--- the answers of a packet that fits what is held
-pub fits-early : (k : Bool) (pair : SlotPair) (u0 u1 : ℕ) (h : Holds) (aggregation : ℕ) (unit : Gathered) (p : Packet)
-    (held : DrawnKey)
-    → HoldsFew pair aggregation h unit.packets → p.prefix.k ≡ k → live_held (slot_in pair k) ≡ Some held
-    → early_answer aggregation p (live_in (seen_slot (receiver_slots_seen pair u0 u1 h unit.packets) k))
-    (live_in (seen_slot (receiver_slots_seen pair u0 u1 h unit.packets) (not k))) ≡ None
-    → fits_held h (length unit.packets) aggregation k p.prefix.m ≡ true
-fits-early k pair u0 u1 h aggregation unit p held few is_k is none =
-    by_fits (fits_held h (length unit.packets) aggregation k p.prefix.m)
-    (ap (λ o. early_by o (live_held (slot_in pair (not k)))
-    (fits_held h (length unit.packets) aggregation k p.prefix.m))
-    (sym is)
-    ∙ sym (early_seen k pair u0 u1 h aggregation unit.packets p few) ∙ none)
-  where
-    by_fits : (b : Bool) → (if b then None else Some (answers.Fail fail.Unit)) ≡ None → b ≡ true
-    by_fits true e = refl
-    by_fits false e = absurd (cc)
 
 pub taken-keyed : (stream : ℕ) (sub : SubKind) (aggregation u0 u1 : ℕ) (pair : SlotPair) (h : Holds) (unit : Gathered)
     (allowed : ℕ) (total : List ℕ) (p : Packet) (held : DrawnKey)

@@ -1,22 +1,20 @@
 -- Packets in a buffer: what is joined, one more, and decrypted.
 use Rattle.std.proofs.Common.{◌≡◌, ℕ, ◌+◌, ◌-◌, ◌<◌, ◌≤◌, zero, suc, List, [], ◌∷◌, ◌++◌, length, map, take, drop}
-use Rattle.std.proofs.Common.{get_or, slice_index, Some, refl, sym, ap, ◌∙◌, arith}
+use Rattle.std.proofs.Common.{get_or, Some, refl, sym, ap, ◌∙◌, arith}
 use Rattle.std.specs.List.{slice_get}
-use Rattle.std.specs.Option.{option_map}
 use Rattle.std.proofs.Math.ListN.{set}
 use Rattle.std.proofs.Math.Seq.{take-append_seam, drop-append_seam}
-use Rattle.std.proofs.lemmas.Option.{slice_get-map}
 use Rattle.std.proofs.lemmas.List.{length-map}
 use Rattle.std.proofs.lemmas.List.Sums.{sum_by-cons}
 use Rattle.std.proofs.lemmas.Grind.{common_steps}
 use Rattle.gcm_seal.specs.Gcm.{masked_bytes}
 use Rattle.gcm_seal.proofs.Sealing.{masked_bytes-append, length-masked_bytes}
 use Rattle.ide_prefix.specs.declared.packet.Prefix.{Prefix}
-use Rattle.ide_prefix.specs.Packet.{Packet, prefix_bytes, begins_sync}
+use Rattle.ide_prefix.specs.Packet.{Packet, prefix_bytes}
 use Rattle.ide_prefix.specs.Units.{clear_bytes, authenticated_bytes, encrypted_bytes}
 use Rattle.spec_stream.specs.Stream.{posted_sum}
 use Rattle.ide_prefix.specs.{heads_of, bodies_of, overwritten_bytes, packets_with_bodies}
-use Rattle.sub_stream.specs.Gathered.{packets_of_prefixes, parts_of, opened_from_byte, lent_parts, mark_of}
+use Rattle.sub_stream.specs.Gathered.{packets_of_prefixes, parts_of, opened_from_byte}
 
 abbrev pub Parts : Type 0
 Parts = List ℕ × List ℕ
@@ -117,19 +115,6 @@ overwritten_bytes-all old new e = grind (arith, common_steps)
 
 -- ---- lent
 
-pub parts-lent : (ps : List Packet) → map (λ (x : Parts). (drop 4 x.0, x.1)) (map parts_of ps) ≡ map lent_parts ps
-parts-lent [] = refl
-parts-lent (p ∷ ps) = ap (λ y. lent_parts p ∷ y) (parts-lent ps)
-
-pub lent_at : (xs : List Parts) (ps : List Prefix) (i : ℕ) (clear body : List ℕ)
-    → map parts_of (packets_of_prefixes xs ps) ≡ xs
-    → slice_get xs i ≡ Some (clear, body) → slice_get (map lent_parts (packets_of_prefixes xs ps)) i
-    ≡ Some (drop 4 clear, body)
-lent_at xs ps i clear body e at =
-    let cut : Parts → Parts = λ x. (drop 4 x.0, x.1) in
-    ap (λ y. slice_get y i) (sym (parts-lent (packets_of_prefixes xs ps)) ∙ ap (map cut) e)
-    ∙ slice_get-map cut xs i ∙ ap (option_map cut) at
-
 pub clear_long : (xs : List Parts) (ps : List Prefix) (i : ℕ) (clear body : List ℕ)
     → map parts_of (packets_of_prefixes xs ps)
     ≡ xs
@@ -145,20 +130,27 @@ clear_long (x ∷ xs) (p ∷ ps) (suc i) clear body e at =
     let rest : map parts_of (packets_of_prefixes xs ps) ≡ xs = cc in
     clear_long xs ps i clear body rest at
 
-pub mark_at : (xs : List Parts) (ps : List Prefix) (i : ℕ) (clear body : List ℕ) (d : Prefix) → i < length xs
+packet_of : (xs : List Parts) (ps : List Prefix) (i : ℕ) (clear body : List ℕ) (d : Prefix)
     → map parts_of (packets_of_prefixes xs ps) ≡ xs → slice_get xs i ≡ Some (clear, body)
-    → slice_get (map mark_of (packets_of_prefixes xs ps)) i ≡ Some
-    (record { t = (get_or ps i d).t; sync = begins_sync (get_or ps i d).sub (slice_index clear 4) })
-mark_at [] ps i clear body d lt e at = absurd (omega arith)
-mark_at (x ∷ xs) [] i clear body d lt e at = absurd (cc)
-mark_at (x ∷ xs) (p ∷ ps) zero clear body d lt e at =
-    let first : parts_of (record { prefix = p; head = drop 4 x.0; body = x.1; tag = [] }) ≡ x = cc in
+    → slice_get (packets_of_prefixes xs ps) i
+    ≡ Some (record { prefix = get_or ps i d; head = drop 4 clear; body = body; tag = [] })
+packet_of [] ps i clear body d e at = absurd (cc)
+packet_of (x ∷ xs) [] i clear body d e at = absurd (cc)
+packet_of (x ∷ xs) (p ∷ ps) zero clear body d e at =
     let same : x ≡ (clear, body) = cc in
-    let head : prefix_bytes p ++ drop 4 x.0 ≡ clear = ap (λ (y : Parts). y.0) (first ∙ same) in
-    ap (λ y. Some (record { t = p.t; sync = begins_sync p.sub (slice_index y 4) })) head
-mark_at (x ∷ xs) (p ∷ ps) (suc i) clear body d lt e at =
+    ap (λ (y : Parts). Some (record { prefix = p; head = drop 4 y.0; body = y.1; tag = [] })) same
+packet_of (x ∷ xs) (p ∷ ps) (suc i) clear body d e at =
     let rest : map parts_of (packets_of_prefixes xs ps) ≡ xs = cc in
-    mark_at xs ps i clear body d (omega arith) rest at
+    packet_of xs ps i clear body d rest at
 
-pub whole_rest : (s : List ℕ) → take (length s - 4) (drop 4 s) ≡ drop 4 s
+whole_rest : (s : List ℕ) → take (length s - 4) (drop 4 s) ≡ drop 4 s
 whole_rest s = grind (arith, common_steps)
+
+pub packet_at : (xs : List Parts) (ps : List Prefix) (i : ℕ) (clear body : List ℕ) (d : Prefix)
+    → map parts_of (packets_of_prefixes xs ps) ≡ xs → slice_get xs i ≡ Some (clear, body)
+    → slice_get (packets_of_prefixes xs ps) i
+    ≡ Some (record { prefix = get_or ps i d; head = take (length clear - 4) (drop 4 clear); body = body; tag = [] })
+packet_at xs ps i clear body d e at =
+    packet_of xs ps i clear body d e at
+    ∙ ap (λ (head : List ℕ). Some (record { prefix = get_or ps i d; head = head; body = body; tag = [] }))
+    (sym (whole_rest clear))

@@ -1,22 +1,21 @@
 -- A receiver's slots that are seen, and the answers that come before a look at the tag.
 use Rattle.std.proofs.Common.{◌≡◌, ℕ, ◌+◌, ◌<◌, Bool, true, false, not, ◌&&◌, ◌||◌, nat_le, if◌then◌else◌, List, []}
-use Rattle.std.proofs.Common.{length, Option, Some, None, refl, sym, ap, ◌∙◌}
+use Rattle.std.proofs.Common.{length, Option, Some, None, Ok, Err, refl, ap, ◌∙◌}
 use Rattle.std.specs.Option.{option_map}
-use denote.Ref.{Bor}
 use Rattle.std.proofs.lemmas.Bool.{lt-ltb}
 use Rattle.ide_types.specs.declared.sub.FailCause.TheVariants as fail
 use Rattle.ide_prefix.specs.Packet.{Packet}
 use Rattle.spec_stream.specs.Stream.{LiveKey, slot_in_set as seen_slot, live_in, holds_any}
 use Rattle.key_slots.specs.declared.slot.Slot.{Slot as KeySlot}
 use Rattle.key_slots.specs.declared.slot.Slot.TheVariants.{Empty, Programmed, Armed, Live}
-use Rattle.key_slots.specs.{KeySet, DrawnKey, SlotPair, slot_in, is_one, is_live, live_held, shown_key}
+use Rattle.key_slots.specs.{DrawnKey, SlotPair, slot_in, is_live, live_held}
 use Rattle.sub_stream.specs.declared.answer.Taken.{Taken as Answer}
 use Rattle.sub_stream.specs.declared.answer.Taken.TheVariants as answers
 use Rattle.sub_stream.specs.declared.receiver.Holds.{Holds}
 use Rattle.sub_stream.specs.declared.receiver.Holds.TheVariants.{Nothing, HeldZero, HeldOne, Delivered}
 use Rattle.sub_stream.specs.Seen.{slot_as_seen, live_key_seen}
 use Rattle.sub_stream.specs.Receivers.{held_zero, held_one, receiver_slots_seen, HoldsFew, holds_some, holds_apart}
-use Rattle.sub_stream.specs.Receivers.{fits_held, fits_unit, early_answer}
+use Rattle.sub_stream.specs.Receivers.{Receiver, fits_held, fits_unit, key_for, keyed_by}
 
 -- the units and the packets of a key set
 abbrev pub units_of : Bool → ℕ → ℕ → ℕ
@@ -97,14 +96,24 @@ fits_seen k pair u0 u1 h aggregation ps p x few is =
     by_apart true e = rw e refl
     by_apart false e = rw (is, count_held k h ps e) refl
 
--- ---- the early answers, from the keys alone
+-- ---- the answers that come before a look at the tag
 
-abbrev pub early_by : Option DrawnKey → Option DrawnKey → Bool → Option Answer
+abbrev pub early_answer : ℕ → Packet → Option LiveKey → Option LiveKey → Option Answer
+early_answer aggregation p None None = Some answers.NotKeyed
+early_answer aggregation p None (Some y) = Some (answers.Fail fail.Key)
+early_answer aggregation p (Some x) other = if fits_unit aggregation x other p then None else Some
+    (answers.Fail fail.Unit)
+
+abbrev pub early_of : Receiver → Packet → Option Answer
+early_of rx p = early_answer rx.aggregation p (key_for rx p.prefix.k) (key_for rx (not p.prefix.k))
+
+-- from the keys alone
+abbrev early_by : Option DrawnKey → Option DrawnKey → Bool → Option Answer
 early_by None None fits = Some answers.NotKeyed
 early_by None (Some y) fits = Some (answers.Fail fail.Key)
 early_by (Some x) other fits = if fits then None else Some (answers.Fail fail.Unit)
 
-pub early_seen : (k : Bool) (pair : SlotPair) (u0 u1 : ℕ) (h : Holds) (aggregation : ℕ) (ps : List Packet) (p : Packet)
+early_seen : (k : Bool) (pair : SlotPair) (u0 u1 : ℕ) (h : Holds) (aggregation : ℕ) (ps : List Packet) (p : Packet)
     → HoldsFew pair aggregation h ps
     → early_answer aggregation p (live_in (seen_slot (receiver_slots_seen pair u0 u1 h ps) k))
     (live_in (seen_slot (receiver_slots_seen pair u0 u1 h ps) (not k)))
@@ -130,9 +139,28 @@ early_seen k pair u0 u1 h aggregation ps p few =
         by_other None = refl
         by_other (Some y) = refl
 
--- a lent key is that of its slot
-pub key_held : (pair : SlotPair) (k : Bool) (set : KeySet) (r : Option (Bor (List ℕ) × ℕ)) (f : Bor (List ℕ) × ℕ)
-    → shown_key r ≡ live_held (slot_in pair (is_one set)) → is_one set ≡ k → r ≡ Some f
-    → live_held (slot_in pair k) ≡ Some (record { key = f.0.now; draw = f.1 })
-key_held pair k set r f shown mine is =
-    ap (λ b. live_held (slot_in pair b)) (sym mine) ∙ sym shown ∙ ap shown_key is
+-- an answer in place of a key is the early one
+pub early_is : (k : Bool) (pair : SlotPair) (u0 u1 : ℕ) (h : Holds) (aggregation : ℕ) (ps : List Packet) (p : Packet)
+    (a : Answer)
+    → HoldsFew pair aggregation h ps → keyed_by (live_held (slot_in pair k)) (live_held (slot_in pair (not k)))
+    (fits_held h (length ps) aggregation k p.prefix.m) ≡ Err a
+    → early_answer aggregation p (live_in (seen_slot (receiver_slots_seen pair u0 u1 h ps) k))
+    (live_in (seen_slot (receiver_slots_seen pair u0 u1 h ps) (not k))) ≡ Some a
+early_is k pair u0 u1 h aggregation ps p a few is =
+    early_seen k pair u0 u1 h aggregation ps p few
+    ∙ by_keys (live_held (slot_in pair k)) (live_held (slot_in pair (not k)))
+    (fits_held h (length ps) aggregation k p.prefix.m) is
+  where
+    by_keys : (x y : Option DrawnKey) (fits : Bool) → keyed_by x y fits ≡ Err a → early_by x y fits ≡ Some a
+    by_keys None None fits e = let same : answers.NotKeyed ≡ a = cc in ap (λ b. Some b) same
+    by_keys None (Some y) fits e = let same : answers.Fail fail.Key ≡ a = cc in ap (λ b. Some b) same
+    by_keys (Some x) y true e = absurd (cc)
+    by_keys (Some x) y false e = let same : answers.Fail fail.Unit ≡ a = cc in ap (λ b. Some b) same
+
+-- a key that is given is that of the set, and the packet fits
+pub key_and_fit : (x y : Option DrawnKey) (fits : Bool) (held : DrawnKey) → keyed_by x y fits ≡ Ok held
+    → (x ≡ Some held) × (fits ≡ true)
+key_and_fit None None fits held e = absurd (cc)
+key_and_fit None (Some y) fits held e = absurd (cc)
+key_and_fit (Some x) y true held e = let same : x ≡ held = cc in (ap (λ z. Some z) same, refl)
+key_and_fit (Some x) y false held e = absurd (cc)

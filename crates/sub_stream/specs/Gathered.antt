@@ -4,11 +4,11 @@ use Rattle.std.specs.Prelude.{◌≡◌, ℕ, ◌+◌, ◌*◌, ◌≤◌, List,
 use Rattle.std.specs.Borrow.{Bor}
 use Rattle.gcm_seal.specs.Gcm.{masked_bytes}
 use Rattle.ide_prefix.specs.declared.packet.Prefix.{Prefix}
-use Rattle.ide_prefix.specs.Packet.{Packet, is_sync_packet}
+use Rattle.ide_prefix.specs.Packet.{Packet, HasTlp}
 use Rattle.ide_prefix.specs.Units.{clear_bytes, authenticated_bytes}
 use Rattle.spec_stream.specs.Stream.{posted_sum}
 use Rattle.ide_prefix.specs.{Collected}
-use Rattle.sub_stream.specs.declared.answer.PacketMark.{PacketMark}
+use Rattle.tlp_layout.specs.declared.head.HeadView.{HeadView}
 
 -- at most how many packets, the bytes before what they have in clear, and the packets, without a tag
 pub record Gathered : Type 0 where
@@ -55,6 +55,19 @@ pub record IsGathered (prefixes : List Prefix) (posted : ℕ) (buf : Collected) 
   pub sum : posted ≡ posted_sum (packets_of_prefixes buf.packets prefixes)
   pub few : posted ≤ 255 * length buf.packets
 
+-- ---- with what their headers read as
+
+-- the first places have what the packets' headers read as
+abbrev pub AllHaveTlp : List Packet → List (Option HeadView) → Type 0
+AllHaveTlp [] tlps = Unit {0}
+AllHaveTlp (p ∷ ps) [] = ⊥
+AllHaveTlp (p ∷ ps) (o ∷ tlps) = HasTlp p o × AllHaveTlp ps tlps
+
+pub record HaveTlps (unit : Gathered) (tlps : List (Option HeadView)) : Type 0 where
+  pub small_aggregation : unit.aggregation ≤ 8
+  pub places : length tlps ≡ 8
+  pub read : AllHaveTlp unit.packets tlps
+
 -- ---- decrypted
 
 -- with their bodies decrypted; the first begins at byte n of the unit's plaintext
@@ -71,10 +84,3 @@ opened_packets key iv unit = opened_from_byte key iv 0 unit
 abbrev pub lent_packets : Option (Bor Gathered) → List Packet
 lent_packets None = []
 lent_packets (Some unit) = unit.now.packets
-
--- what is lent of a packet: its header, and its body
-abbrev pub lent_parts : Packet → List ℕ × List ℕ
-lent_parts p = (p.head, p.body)
-
-abbrev pub mark_of : Packet → PacketMark
-mark_of p = record { t = p.prefix.t; sync = is_sync_packet p }

@@ -10,9 +10,8 @@ pub mod Facts
 pub use Rattle.sub_stream.specs.declared.answer.MeasuredPacket.{MeasuredPacket}
 pub use Rattle.sub_stream.specs.declared.answer.TxRefusal.{TxRefusal}
 pub use Rattle.sub_stream.specs.declared.answer.Taken.{Taken}
-pub use Rattle.sub_stream.specs.declared.answer.PacketMark.{PacketMark}
 pub use Rattle.sub_stream.specs.Answers.{numbered_packet, answer_taken}
-pub use Rattle.sub_stream.specs.Gathered.{lent_totals, lent_parts, mark_of, opened_from_byte, opened_packets}
+pub use Rattle.sub_stream.specs.Gathered.{lent_totals, opened_from_byte, opened_packets}
 pub use Rattle.sub_stream.specs.Seen.{key_slot, slot_pair}
 pub use Rattle.spec_stream.specs.Slots.{no_slots}
 pub use Rattle.sub_stream.specs.Senders.{Sender, new_sender, ready_key, ready_of, packets_under, open_packets}

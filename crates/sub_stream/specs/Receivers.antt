@@ -1,7 +1,8 @@
 -- A receiver of one sub-stream as a machine: what it keeps, and what it answers to a packet (PCI Express Base 6.0
 -- section 6.33, in this profile).
 use Rattle.std.specs.Prelude.{◌≡◌, ℕ, ◌+◌, ◌≤◌, ◌<◌, Bool, true, false, not, ◌&&◌, ◌||◌, ◌==◌, nat_le, nat_lt, List, []}
-use Rattle.std.specs.Prelude.{◌∷◌, ◌++◌, length, Option, Some, None, if◌then◌else◌}
+use Rattle.std.specs.Prelude.{◌∷◌, ◌++◌, length, Option, Some, None, Result, Ok, Err, if◌then◌else◌}
+use denote.Ref.{Bor}
 use Rattle.ide_types.specs.declared.sub.SubKind.{SubKind}
 use Rattle.ide_types.specs.declared.sub.FailCause.TheVariants as fail
 use Rattle.gcm_seal.specs.Gcm.{verifies}
@@ -12,7 +13,7 @@ use Rattle.spec_stream.specs.Stream.{LaneSlot, Empty, Programmed, Live, LaneSlot
 use Rattle.spec_stream.specs.Stream.{Held, Accepted, slot_in_set, with_slot, live_in, holds_any, posted_sum}
 use Rattle.spec_stream.specs.Stream.{outcome_of_checks, slot_without_packets, gone_on, accepted_slots}
 use Rattle.spec_stream.specs.Slots.{begun_slot, no_slots}
-use Rattle.key_slots.specs.{SlotPair, slot_in as key_slot_in, with_both, live_draw, is_only_live}
+use Rattle.key_slots.specs.{SlotPair, DrawnKey, slot_in as key_slot_in, with_both, live_draw, is_only_live}
 use Rattle.key_slots.specs.{is_live as is_live_key}
 use Rattle.key_slots.specs.declared.slot.Slot.TheVariants as key
 use Rattle.sub_stream.specs.declared.answer.Taken.{Taken as Answer}
@@ -185,15 +186,17 @@ receiver_outcome_by_keys rx allowed total p (Some x) other =
     if fits_unit rx.aggregation x other p then judged_packet (receiver_ahead rx x total) allowed x p else Failed
     fail.Unit
 
--- the answers that come before a look at the tag
-abbrev pub early_answer : ℕ → Packet → Option LiveKey → Option LiveKey → Option Answer
-early_answer aggregation p None None = Some answers.NotKeyed
-early_answer aggregation p None (Some y) = Some (answers.Fail fail.Key)
-early_answer aggregation p (Some x) other = if fits_unit aggregation x other p then None else Some
-    (answers.Fail fail.Unit)
+-- the key of a packet's set, by the Live keys of this set and of the other, and whether the packet fits what is held;
+-- else the answer that comes before a look at the tag
+abbrev pub keyed_by : Option DrawnKey → Option DrawnKey → Bool → Result DrawnKey Answer
+keyed_by None None fits = Err answers.NotKeyed
+keyed_by None (Some y) fits = Err (answers.Fail fail.Key)
+keyed_by (Some x) other fits = if fits then Ok x else Err (answers.Fail fail.Unit)
 
-abbrev pub early_of : Receiver → Packet → Option Answer
-early_of rx p = early_answer rx.aggregation p (key_for rx p.prefix.k) (key_for rx (not p.prefix.k))
+-- with a lent key as a value
+abbrev pub shown_keyed : Result (Bor (List ℕ) × ℕ) Answer → Result DrawnKey Answer
+shown_keyed (Ok shown) = Ok (record { key = shown.0.now; draw = shown.1 })
+shown_keyed (Err answer) = Err answer
 
 -- the buffer after an answer under a key: the packet is with the held ones, or the unit is decrypted
 abbrev pub BufferAfter : Gathered → LiveKey → Packet → Taken → Gathered → Type 0

@@ -43,11 +43,3 @@ pub enum Taken {
     /// A check failed.
     Fail(FailCause),
 }
-
-/// What the layers above look at in a packet of an accepted unit: whether it is trusted, and whether it is a sync
-/// packet, which carries no TLP.
-#[derive(Clone, Copy, PartialEq, Eq)]
-pub struct PacketMark {
-    pub t: bool,
-    pub sync: bool,
-}

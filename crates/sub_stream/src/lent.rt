@@ -1,17 +1,19 @@
 //! The packets of a unit, lent.
 
-ghost use Rattle.std.specs.Prelude.{◌≡◌, ◌<◌, ◌≤◌, [], Some, length, slice_get, map};
+ghost use Rattle.std.specs.Prelude.{◌≡◌, ◌<◌, ◌≤◌, [], Some, length, slice_get};
+ghost use Rattle.ide_prefix.specs.Cut.{packet_of_view};
+ghost use Rattle.ide_prefix.specs.Packet.{HasTlp};
 ghost use Rattle.spec_stream.specs.Stream.{posted_sum};
 
-use crate::answer::PacketMark;
-use crate::unit_packets::UnitPackets;
+use crate::received::ReceivedPackets;
+use ide_prefix::PacketView;
 use std::marker::Model;
 
 /// The packets of the unit that was accepted last, decrypted, or those of the next that are held, as they came, or
 /// none. They are lent until the receiver changes. Contracts see the packets.
 #[derive(Drop)]
 pub struct Delivered<'a> {
-    unit: Option<&'a UnitPackets>,
+    unit: Option<&'a ReceivedPackets>,
 }
 
 impl<'a> Model for Delivered<'a> {
@@ -25,8 +27,6 @@ impl<'a> Model for Delivered<'a> {
 }
 
 impl<'a> Delivered<'a> {
-    ghost use Rattle.sub_stream.specs.Gathered.{lent_parts, mark_of};
-
     /// No packets.
     pub fn none() -> Delivered<'a>
         ensures { result ≡ [] }
@@ -35,7 +35,7 @@ impl<'a> Delivered<'a> {
     }
 
     /// The packets of this unit.
-    pub(crate) fn of(unit: &'a UnitPackets) -> Delivered<'a>
+    pub(crate) fn of(unit: &'a ReceivedPackets) -> Delivered<'a>
         ensures { result ≡ unit.now.packets }
     {
         Delivered { unit: Some(unit) }
@@ -47,29 +47,20 @@ impl<'a> Delivered<'a> {
         ensures most { result ≤ 8 }
     {
         match self.unit {
-            Some(unit) => unit.count(),
+            Some(unit) => unit.packets().count(),
             None => 0,
         }
     }
 
-    /// The header and the decrypted payload of packet `i`, counted from 0.
-    pub fn packet(&self, i: usize) -> (&'a [u8], &'a [u8])
+    /// Packet `i`, counted from 0, without a tag, with what its header was read as when it came; the payload is
+    /// decrypted if the unit was accepted.
+    pub fn packet(&self, i: usize) -> PacketView<'a>
         requires { i < length self.now }
-        ensures { slice_get (map lent_parts self.now) i ≡ Some (result.0.now, result.1.now) }
+        ensures packet { slice_get self.now i ≡ Some (packet_of_view result) }
+        ensures tlp { HasTlp (packet_of_view result) result.tlp }
     {
         match self.unit {
             Some(unit) => unit.packet(i),
-            None => unreachable!(),
-        }
-    }
-
-    /// Whether packet `i`, counted from 0, is trusted, and whether it is a sync packet.
-    pub fn mark(&self, i: usize) -> PacketMark
-        requires { i < length self.now }
-        ensures { slice_get (map mark_of self.now) i ≡ Some result }
-    {
-        match self.unit {
-            Some(unit) => unit.mark(i),
             None => unreachable!(),
         }
     }
@@ -80,7 +71,7 @@ impl<'a> Delivered<'a> {
         ensures few { result ≤ 2040 }
     {
         match self.unit {
-            Some(unit) => unit.posted(),
+            Some(unit) => unit.packets().posted(),
             None => 0,
         }
     }

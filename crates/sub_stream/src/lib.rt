@@ -6,11 +6,12 @@
 mod answer;
 mod facts;
 mod lent;
+mod received;
 mod receiver;
 mod sender;
 mod unit_packets;
 
-pub use answer::{MeasuredPacket, PacketMark, Taken, TxRefusal};
+pub use answer::{MeasuredPacket, Taken, TxRefusal};
 pub use facts::{LaneFacts, ReceiverFacts, SenderFacts, SetFacts, SlotFacts, StreamFacts};
 pub use lent::Delivered;
 pub use receiver::Rx;

@@ -5,7 +5,7 @@ ghost use Rattle.std.specs.Prelude.{[], length, nat_lt, if◌then◌else◌, IfO
 ghost use Rattle.gcm_seal.specs.Gcm.{verifies};
 ghost use Rattle.ide_prefix.specs.Cut.{packet_of_view, lent_tag, IsView};
 ghost use Rattle.ide_prefix.specs.Units.{encrypted_bytes};
-ghost use Rattle.key_slots.specs.{slot_in as key_slot_in, is_one, is_empty, is_live, program_answer};
+ghost use Rattle.key_slots.specs.{slot_in as key_slot_in, is_one, is_empty, is_live, live_held, program_answer};
 ghost use Rattle.spec_stream.specs.Slots.{receiving_draw};
 ghost use Rattle.spec_stream.specs.Stream.{slot_in_set, posted_sum};
 ghost use Rattle.sub_stream.specs.Answers.{answer_taken};
@@ -14,14 +14,14 @@ ghost use Rattle.sub_stream.specs.Gathered.{lent_totals, clear_of, no_packets};
 ghost use Rattle.sub_stream.specs.Seen.{slot_pair, key_slot, is_programmed, live_key_seen};
 ghost use Rattle.sub_stream.specs.Senders.{begun_where_empty};
 ghost use Rattle.sub_stream.specs.Receivers.{fits_held, judged_packet, BufferAfter, holds_some, holds_apart};
+ghost use Rattle.sub_stream.specs.Receivers.{keyed_by, shown_keyed};
 ghost use Rattle.sub_stream.specs.Receivers.{holds_after_answer, held_alone, held_unless_failed, holds_without};
 ghost use Rattle.sub_stream.specs.Receivers.{is_accepted, without_older, slots_after, held_zero, held_one};
 
 use crate::answer::Taken;
 use crate::facts::{SetFacts, slot_facts};
 use crate::lent::Delivered;
-use crate::sender::begin_where_empty;
-use crate::unit_packets::UnitPackets;
+use crate::received::ReceivedPackets;
 use gcm_seal::Gcm;
 use ide_prefix::{PacketView, UnitBuf, carried_head, unit_iv};
 use ide_types::{FailCause, KeySet, OutOfMemory, SubKind};
@@ -118,7 +118,7 @@ pub struct Rx {
     one: u64,
     slots: Slots,
     holds: Holds,
-    unit: UnitPackets,
+    unit: ReceivedPackets,
 }
 
 impl Model for Rx {
@@ -167,16 +167,34 @@ fn greater(zero: u32, one: u32) -> u32
 }
 
 // Whether the packet joins what is held, and leaves room for the last of its unit.
-fn fits(holds: Holds, unit: &UnitPackets, aggregation: u8, packet: &PacketView) -> bool
+fn fits(holds: Holds, unit: &ReceivedPackets, aggregation: u8, packet: &PacketView) -> bool
     ensures { result ≡ fits_held holds (length unit.now.packets) aggregation packet.now.prefix.k packet.now.prefix.m }
 {
-    let held = if holds.some() { unit.count() } else { 0 };
+    let held = if holds.some() {
+        unit.packets().count()
+    } else {
+        0
+    };
     let full = aggregation as usize <= held + 1;
     !(holds.apart(packet.prefix.k) || !packet.prefix.m && full)
 }
 
+// The Live key of a packet's key set, if the packet fits what is held; else the answer that needs no look at the tag.
+fn key_if_fits(slots: &Slots, k: bool, fits: bool) -> Result<(&Gcm, u32), Taken>
+    ensures { shown_keyed result ≡ keyed_by (live_held (key_slot_in slots.now k))
+        (live_held (key_slot_in slots.now (not k))) fits }
+{
+    let set = KeySet::of_bit(k);
+    match (slots.live_key(set), slots.live_key(set.other())) {
+        (None, None) => Err(Taken::NotKeyed),
+        (None, Some(_)) => Err(Taken::Fail(FailCause::Key)),
+        (Some(key), _) if fits => Ok(key),
+        (Some(_), _) => Err(Taken::Fail(FailCause::Unit)),
+    }
+}
+
 impl Rx {
-    ghost use Rattle.sub_stream.specs.Receivers.{new_receiver, early_of, receiver_outcome, receiver_after};
+    ghost use Rattle.sub_stream.specs.Receivers.{new_receiver, receiver_outcome, receiver_after};
     ghost use Rattle.sub_stream.specs.Receivers.{dropped_receiver, programmed_receiver, gone_receiver};
     ghost use Rattle.sub_stream.specs.Receivers.{stopped_receiver, LaneUnitsAtMost};
 
@@ -201,22 +219,8 @@ impl Rx {
             one: 0,
             slots: Slots::make(alloc, false)?,
             holds: Holds::Nothing,
-            unit: UnitPackets::new(buf),
+            unit: ReceivedPackets::new(buf),
         })
-    }
-
-    // The answer that needs no look at the tag, if there is one.
-    fn early(&self, packet: &PacketView) -> Option<Taken>
-        ensures { result ≡ early_of self.now (packet_of_view packet.now) }
-    {
-        let k = packet.prefix.k;
-        let set = KeySet::of_bit(k);
-        match (self.slots.live_key(set), self.slots.live_key(set.other())) {
-            (None, None) => Some(Taken::NotKeyed),
-            (None, Some(_)) => Some(Taken::Fail(FailCause::Key)),
-            (Some(_), _) if fits(self.holds, &self.unit, self.aggregation, packet) => None,
-            (Some(_), _) => Some(Taken::Fail(FailCause::Unit)),
-        }
     }
 
     /// Takes a packet of this sub-stream that `cut` gave, and answers what became of it. `allowed` is the most that the
@@ -231,35 +235,22 @@ impl Rx {
         ensures receiver { self.new ≡ receiver_after self.old allowed (lent_totals total.entry)
             (packet_of_view packet.now) }
     {
-        match self.early(packet) {
-            Some(taken) => {
+        let k = packet.prefix.k;
+        let fits = fits(self.holds, &self.unit, self.aggregation, packet);
+        match key_if_fits(&self.slots, k, fits) {
+            Err(taken) => {
                 self.holds = self.holds.unless_failed(&taken);
                 taken
             }
-            None => self.take_keyed(packet, allowed, total),
+            Ok((cipher, draw)) => {
+                let units = units_in(k, self.zero, self.one);
+                keep_held(&mut self.unit, self.holds);
+                let taken = take_under(cipher, draw, units, packet, allowed, total, &mut self.unit);
+                count_accepted(&taken, k, &mut self.slots, &mut self.zero, &mut self.one);
+                self.holds = Holds::after(k, &taken);
+                taken
+            }
         }
-    }
-
-    // Takes a packet under its Live key, if it fits what is held.
-    fn take_keyed(&mut self, packet: &PacketView, allowed: u64, total: Option<&[u8; 8]>) -> Taken
-        requires view { IsView packet.now }
-        requires few { LaneUnitsAtMost (2 ^ 40) self.old.slots }
-        requires early { early_of self.old (packet_of_view packet.now) ≡ None }
-        ensures answer { Some result ≡ answer_taken (receiver_outcome self.old allowed (lent_totals total.entry)
-            (packet_of_view packet.now)) }
-        ensures receiver { self.new ≡ receiver_after self.old allowed (lent_totals total.entry)
-            (packet_of_view packet.now) }
-    {
-        let k = packet.prefix.k;
-        let Some((cipher, draw)) = self.slots.live_key(KeySet::of_bit(k)) else {
-            unreachable!()
-        };
-        let units = units_in(k, self.zero, self.one);
-        keep_held(&mut self.unit, self.holds);
-        let taken = take_under(cipher, draw, units, packet, allowed, total, &mut self.unit);
-        count_accepted(&taken, k, &mut self.slots, &mut self.zero, &mut self.one);
-        self.holds = Holds::after(k, &taken);
-        taken
     }
 
     /// Drops what is held, and lends no packet any more.
@@ -285,7 +276,7 @@ impl Rx {
         ensures few { result ≤ 2040 }
     {
         match self.holds {
-            Holds::Delivered => self.unit.posted(),
+            Holds::Delivered => self.unit.packets().posted(),
             _ => 0,
         }
     }
@@ -357,7 +348,7 @@ impl Rx {
 // ---- the checks of a packet under a Live key
 
 // Leaves the held packets alone.
-fn keep_held(unit: &mut UnitPackets, holds: Holds)
+fn keep_held(unit: &mut ReceivedPackets, holds: Holds)
     ensures { unit.new ≡ (if holds_some holds then unit.old else no_packets unit.old.aggregation) }
 {
     if !holds.some() {
@@ -366,12 +357,12 @@ fn keep_held(unit: &mut UnitPackets, holds: Holds)
 }
 
 // Whether there is a tag, and it is that of the unit.
-fn is_tagged(cipher: &Gcm, iv: &[u8; 12], unit: &UnitPackets, tag: Option<&[u8; 12]>) -> bool
+fn is_tagged(cipher: &Gcm, iv: &[u8; 12], unit: &ReceivedPackets, tag: Option<&[u8; 12]>) -> bool
     ensures { result ≡ verifies cipher.now iv.now (clear_of unit.now) (encrypted_bytes unit.now.packets)
         (lent_tag tag.entry) }
 {
     match tag {
-        Some(tag) => cipher.verify(iv, unit.clear_bytes(), unit.body(), tag),
+        Some(tag) => cipher.verify(iv, unit.packets().clear_bytes(), unit.packets().body(), tag),
         None => false,
     }
 }
@@ -385,7 +376,7 @@ fn take_under(
     packet: &PacketView,
     allowed: u64,
     total: Option<&[u8; 8]>,
-    unit: &mut UnitPackets,
+    unit: &mut ReceivedPackets,
 ) -> Taken
     requires view { IsView packet.now }
     requires few { units ≤ 2 ^ 40 }
@@ -401,8 +392,8 @@ fn take_under(
 {
     carried_head();
     let n = units + 1;
-    begin_where_empty(unit, total, n);
-    unit.push(&packet.prefix, packet.head, packet.body);
+    unit.begin_where_empty(total, n);
+    unit.push(packet);
     if !packet.prefix.m {
         return Taken::Held { draw, unit: n };
     }
@@ -410,14 +401,14 @@ fn take_under(
     if !is_tagged(cipher, &iv, unit, packet.tag) {
         return Taken::Fail(FailCause::Tag);
     }
-    if unit.posted() > allowed {
+    if unit.packets().posted() > allowed {
         return Taken::Fail(FailCause::Order);
     }
     unit.open(cipher, &iv);
     Taken::Accepted {
         draw,
         unit: n,
-        count: unit.count() as u8,
+        count: unit.packets().count() as u8,
     }
 }
 
@@ -454,12 +445,12 @@ fn count_accepted(taken: &Taken, k: bool, slots: &mut Slots, zero: &mut u64, one
 // ---- what is seen of it
 
 // How many of these packets are held in a key set.
-fn held_count(holds: Holds, k: bool, unit: &UnitPackets) -> u8
+fn held_count(holds: Holds, k: bool, unit: &ReceivedPackets) -> u8
     ensures { result ≡ length (if k then held_one holds unit.now.packets else held_zero holds unit.now.packets) }
 {
     match holds {
-        Holds::HeldZero if !k => unit.count() as u8,
-        Holds::HeldOne if k => unit.count() as u8,
+        Holds::HeldZero if !k => unit.packets().count() as u8,
+        Holds::HeldOne if k => unit.packets().count() as u8,
         _ => 0,
     }
 }

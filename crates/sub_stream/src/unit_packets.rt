@@ -1,16 +1,15 @@
 //! The packets of one unit, each with its prefix.
 
-ghost use Rattle.std.specs.Prelude.{◌≡◌, [], ◌+◌, ◌<◌, ◌≤◌, ◌++◌, Some, length, slice_get, slice_index, map};
+ghost use Rattle.std.specs.Prelude.{◌≡◌, [], ◌+◌, ◌<◌, ◌≤◌, ◌++◌, Some, length, slice_get};
 ghost use Rattle.gcm_seal.specs.Gcm.{masked_bytes};
-ghost use Rattle.ide_prefix.specs.Packet.{prefix_bytes, begins_sync};
+ghost use Rattle.ide_prefix.specs.Packet.{prefix_bytes};
 ghost use Rattle.ide_prefix.specs.Units.{encrypted_bytes};
 ghost use Rattle.spec_stream.specs.Stream.{posted_sum};
 ghost use Rattle.ide_prefix.specs.{with_bodies, body_of};
 
-use crate::answer::PacketMark;
 use crate::sender::{PAYLOAD_BYTES, TLP_HEAD_BYTES};
 use gcm_seal::{Gcm, MAX_BYTES};
-use ide_prefix::{Prefix, SYNC_FIRST, UnitBuf, write_prefix};
+use ide_prefix::{Prefix, UnitBuf, write_prefix};
 use ide_types::SubKind;
 use std::marker::Model;
 
@@ -62,19 +61,9 @@ fn posted_in(prefix: Prefix) -> u64
     u64::from(prefix.posted)
 }
 
-// What is looked at in a packet of this prefix, whose bytes in clear these are.
-fn mark_in(prefix: &Prefix, clear: &[u8]) -> PacketMark
-    ensures { result ≡ record { t = prefix.now.t; sync = begins_sync prefix.now.sub (slice_index clear.now 4) } }
-{
-    PacketMark {
-        t: prefix.t,
-        sync: prefix.sub != SubKind::Pr && clear.get(4) == Some(&SYNC_FIRST),
-    }
-}
-
 impl UnitPackets {
     ghost use Rattle.sub_stream.specs.Gathered.{no_packets, begun_unit, with_packet, clear_of, lent_totals};
-    ghost use Rattle.sub_stream.specs.Gathered.{opened_packets, lent_parts, mark_of};
+    ghost use Rattle.sub_stream.specs.Gathered.{opened_packets};
 
     /// No packets, in a buffer for at most 8; what it holds is not used.
     pub fn new(mut buf: UnitBuf) -> UnitPackets
@@ -165,21 +154,17 @@ impl UnitPackets {
         mask_bodies(&mut self.buf, cipher, iv);
     }
 
-    /// The header and the body of packet `i`, counted from 0.
-    pub fn packet(&self, i: usize) -> (&[u8], &[u8])
+    /// The prefix, the header and the body of packet `i`, counted from 0.
+    pub fn packet(&self, i: usize) -> (Prefix, &[u8], &[u8])
         requires { i < length self.now.packets }
-        ensures { slice_get (map lent_parts self.now.packets) i ≡ Some (result.0.now, result.1.now) }
+        ensures { slice_get self.now.packets i ≡ Some (record {
+          prefix = result.0;
+          head = result.1.now;
+          body = result.2.now;
+          tag = [];
+        }) }
     {
         let (clear, body) = self.buf.packet(i);
-        (&clear[4..], body)
-    }
-
-    /// Whether packet `i`, counted from 0, is trusted, and whether it is a sync packet.
-    pub fn mark(&self, i: usize) -> PacketMark
-        requires { i < length self.now.packets }
-        ensures { slice_get (map mark_of self.now.packets) i ≡ Some result }
-    {
-        let (clear, _) = self.buf.packet(i);
-        mark_in(&self.prefixes[i], clear)
+        (self.prefixes[i], &clear[4..], body)
     }
 }

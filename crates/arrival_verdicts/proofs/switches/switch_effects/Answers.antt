@@ -12,8 +12,8 @@ pub loop-i-preserved : goal.loop-i-preserved
 loop-i-preserved c = (
   rw c.push.ensures
       (one_more c.args.packets.now c.args.unit.sub c.args.direction c.args.queues.now c.loop-i.i c.loop-i.list
-      c.loop-i.queues c.switched.new.queues c.mark-mark.result c.packet.result.0.now c.packet.result.1.now
-      c.switched.result c.loop-i.invariant.0 c.mark-mark.ensures c.packet.ensures c.switched.ensures.effect
+      c.loop-i.queues c.switched.new.queues _
+      c.switched.result c.loop-i.invariant.0 c.packet-packet.ensures.packet c.switched.ensures.effect
       c.switched.ensures.queues),
   rw c.push.ensures (omega (arith, length-append c.loop-i.list (c.switched.result ∷ []), c.loop-i.invariant.1)),
 )

@@ -1,16 +1,15 @@
-use Rattle.std.proofs.Common.{◌≡◌, ◌∙◌, ap, sym, subst, List, ◌+◌, ◌++◌, [], ◌∷◌, arith, drop, add-one, ℕ, length}
+use Rattle.std.proofs.Common.{◌≡◌, ◌∙◌, ap, sym, subst, List, ◌+◌, ◌++◌, [], ◌∷◌, arith, drop, ℕ, length}
 use Rattle.std.proofs.Common.{length-append}
 use Rattle.std.proofs.lemmas.List.{append-nil, append_assoc}
 use Rattle.ide_types.specs.declared.plan.Region.{Region}
+use Rattle.ide_prefix.specs.Cut.{packet_of_view}
 use Rattle.ide_prefix.specs.Packet.{Packet}
 use Rattle.link_verdicts.specs.declared.verdict.Effect.{Effect}
-use Rattle.sub_stream.specs.{mark_of}
 use Rattle.std.proofs.Math.Seq.{drop-length}
 use Rattle.guarded_memory.specs.declared.status.InterfaceStatus.{InterfaceStatus}
 use Rattle.link_stores.specs.{device_statuses}
-use Rattle.sub_stream.specs.declared.answer.PacketMark.{PacketMark}
 use Rattle.arrival_verdicts.specs.Verdicts.{grants_in, UnitCame, PacketCame}
-use Rattle.arrival_verdicts.proofs.Effects.{none_came, more_came, packet_there, IsThere}
+use Rattle.arrival_verdicts.proofs.Effects.{none_came, more_came, packet_there}
 use Rattle.arrival_verdicts.proofs.verdicts.effects.Goals as goal
 
 pub loop-i-preserved : goal.loop-i-preserved
@@ -30,22 +29,14 @@ loop-i-preserved c =
     let ws1 = c.effect.new.access.reads in
     let m1 = c.effect.new.memory.contents in
     let g1 = c.effect.new.access.guarded in
-    let t : IsThere ps c.loop-i.i c.mark-mark.result c.packet.result.0.now c.packet.result.1.now = packet_there ps
-    c.loop-i.i c.mark-mark.result c.packet.result.0.now c.packet.result.1.now c.mark-mark.ensures c.packet.ensures in
-    let p : Packet = t.packet in
-    let here : drop c.loop-i.i ps ≡ p ∷ drop (c.loop-i.i + 1) ps = rw add-one t.here in
+    let p : Packet = packet_of_view c.packet-packet.result in
+    let here : drop c.loop-i.i ps ≡ p ∷ drop (c.loop-i.i + 1) ps =
+    packet_there ps c.loop-i.i p c.packet-packet.ensures.packet in
     let first = subst (λ (rs : List Region). PacketCame rs grants
-    (device_statuses c.loop-i.access.floors c.args.at.now.interfaces.now) port unit c.mark-mark.result
-    c.packet.result.0.now c.packet.result.1.now ws m g e ws1 m1 g1) same c.effect.ensures.came in
-    let second = subst (λ (fs : List ℕ). PacketCame regions grants (device_statuses fs c.args.at.now.interfaces.now)
-    port
-    unit c.mark-mark.result c.packet.result.0.now c.packet.result.1.now ws m g e ws1 m1 g1) floors first in
-    let third = subst (λ (k : PacketMark). PacketCame regions grants xs port unit k c.packet.result.0.now
-    c.packet.result.1.now ws m g e ws1 m1 g1) (sym t.mark_is) second in
-    let fourth = subst (λ (head : List ℕ). PacketCame regions grants xs port unit (mark_of p) head
-    c.packet.result.1.now ws m g e ws1 m1 g1) (sym t.head_is) third in
-    let one = subst (λ (body : List ℕ). PacketCame regions grants xs port unit (mark_of p) p.head body ws m g e ws1 m1
-    g1) (sym t.body_is) fourth in (
+    (device_statuses c.loop-i.access.floors c.args.at.now.interfaces.now) port unit p ws m g e ws1 m1 g1) same
+    c.effect.ensures.came in
+    let one = subst (λ (fs : List ℕ). PacketCame regions grants (device_statuses fs c.args.at.now.interfaces.now) port
+    unit p ws m g e ws1 m1 g1) floors first in (
       λ es ws' m' g' came.
           let all = more_came regions grants xs port unit p (drop (c.loop-i.i + 1) ps) ws ws1 ws' m m1 m' g g1 g' e es
           one came in

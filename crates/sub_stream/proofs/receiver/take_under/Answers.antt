@@ -48,7 +48,7 @@ returns-then-posted-allowed-clause-answer c =
     let tag : is_tagged_behind begun.ahead x p ≡ true = tagged-in begun _ x p _ _ refl c.unit_iv-iv.ensures joined
     c.is_tagged.ensures ∙ c.if-not-is_tagged.false in
     let posted : posted_sum (x.packets ++ p ∷ []) ≡ c.posted.result = posted-in begun _ x p _ refl joined
-    c.posted.ensures.value in
+    (c.posted.ensures.value ∙ ap (λ (u : Gathered). posted_sum u.packets) c.packets.ensures) in
     let order = rw (← posted) at (le-false c.posted.result c.args.allowed c.if-posted-allowed.true) in
     sym (ap answer_taken (judged-order begun.ahead c.args.allowed x p c.if-not-packet.false tag order))
 
@@ -63,11 +63,12 @@ returns-clause-answer c =
     let tag : is_tagged_behind begun.ahead x p ≡ true = tagged-in begun _ x p _ _ refl c.unit_iv-iv.ensures joined
     c.is_tagged.ensures ∙ c.if-not-is_tagged.false in
     let posted : posted_sum (x.packets ++ p ∷ []) ≡ c.posted.result = posted-in begun _ x p _ refl joined
-    c.posted.ensures.value in
+    (c.posted.ensures.value ∙ ap (λ (u : Gathered). posted_sum u.packets) c.packets.ensures) in
     let order = rw (← posted) at (le-true c.posted.result c.args.allowed c.if-posted-allowed.false) in
     let packets = opened_packets-in begun _ _ x p _ refl c.unit_iv-iv.ensures joined c.open.ensures in
     let count : c.count.result ≡ length (x.packets ++ p ∷ []) =
-    c.count.ensures.count ∙ ap (λ (u : Gathered). length u.packets) packets ∙ length-opened_packets _ _
+    c.count.ensures.count ∙ ap (λ (u : Gathered). length u.packets) (c.packets-2.ensures ∙ packets) ∙
+    length-opened_packets _ _
     (x.packets ++ p ∷ []) in
     ap (λ (n : ℕ). Some (answers.Accepted c.args.draw (c.args.units + 1) n)) count
     ∙ sym (ap answer_taken (judged-accepted begun.ahead c.args.allowed x p c.if-not-packet.false tag order))
@@ -83,7 +84,7 @@ returns-clause-buffer c =
     let tag : is_tagged_behind begun.ahead x p ≡ true = tagged-in begun _ x p _ _ refl c.unit_iv-iv.ensures joined
     c.is_tagged.ensures ∙ c.if-not-is_tagged.false in
     let posted : posted_sum (x.packets ++ p ∷ []) ≡ c.posted.result = posted-in begun _ x p _ refl joined
-    c.posted.ensures.value in
+    (c.posted.ensures.value ∙ ap (λ (u : Gathered). posted_sum u.packets) c.packets.ensures) in
     let order = rw (← posted) at (le-true c.posted.result c.args.allowed c.if-posted-allowed.false) in
     subst (λ t. BufferAfter begun x p t c.open.new.self)
     (sym (judged-accepted begun.ahead c.args.allowed x p c.if-not-packet.false tag order))

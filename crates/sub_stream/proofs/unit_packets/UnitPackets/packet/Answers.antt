@@ -1,7 +1,7 @@
-use Rattle.std.proofs.Common.{map, Some, ap, sym, ◌∙◌}
+use Rattle.std.proofs.Common.{◌≡◌, length, ap, sym, ◌∙◌, arith}
 use Rattle.std.specs.List.{slice_get}
-use Rattle.sub_stream.specs.Gathered.{Gathered, lent_parts}
-use Rattle.sub_stream.proofs.Packets.{lent_at, clear_long, whole_rest}
+use Rattle.sub_stream.specs.Gathered.{Gathered, packets_of_prefixes}
+use Rattle.sub_stream.proofs.Packets.{packet_at, clear_long, length-packets_of_prefixes}
 use Rattle.sub_stream.proofs.unit_packets.UnitPackets.packet.Goals as goal
 
 pub slice_bounds-result-count : goal.slice_bounds-result-count
@@ -10,8 +10,22 @@ slice_bounds-result-count c = clear_long _ _ _ _ _ c.self.invariant.parts c.pack
 pub slice_bounds-result-start : goal.slice_bounds-result-start
 slice_bounds-result-start c = clear_long _ _ _ _ _ c.self.invariant.parts c.packet.ensures
 
+pub offset_bounds-self-inside-i : goal.offset_bounds-self-inside-i
+offset_bounds-self-inside-i c =
+    let count : length (packets_of_prefixes c.self.inside.buf.packets c.self.inside.prefixes)
+    ≡ length c.args.self.now.packets =
+    ap (λ (u : Gathered). length u.packets) c.self.view_is in
+    omega (
+      arith,
+      count,
+      length-packets_of_prefixes _ _ c.self.invariant.parts,
+      c.self.invariant.fits,
+      c.self.invariant.small_aggregation,
+      c.self.invariant.places,
+      c.requires,
+    )
+
 pub returns : goal.returns
 returns c =
-    ap (λ (u : Gathered). slice_get (map lent_parts u.packets) c.args.i) (sym c.self.view_is)
-    ∙ lent_at _ _ _ _ _ c.self.invariant.parts c.packet.ensures
-    ∙ ap (λ x. Some (x, c.packet.result.1.now)) (sym (whole_rest c.packet.result.0.now))
+    ap (λ (u : Gathered). slice_get u.packets c.args.i) (sym c.self.view_is)
+    ∙ packet_at _ _ _ _ _ _ c.self.invariant.parts c.packet.ensures
