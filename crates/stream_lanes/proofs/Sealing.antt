@@ -3,7 +3,7 @@
 -- open unit. A packet joins its unit, with room for one more, or ends it; a call of key management leaves the open unit
 -- as it is, or none open (`Moved`), by the states of both slots.
 use Rattle.std.proofs.Common.{◌≡◌, ℕ, ◌+◌, ◌<◌, ◌≤◌, Bool, true, false, not, ◌&&◌, ◌||◌, ◌==◌, if◌then◌else◌, List, []}
-use Rattle.std.proofs.Common.{◌∷◌, ◌++◌, length, Option, Some, None, Ok, Err, unwrap_or, refl, sym, ap, ◌∙◌, subst}
+use Rattle.std.proofs.Common.{◌∷◌, ◌++◌, length, Option, Some, None, Ok, unwrap_or, refl, sym, ap, ◌∙◌, subst}
 use Rattle.std.proofs.Common.{arith, inl, inr, ◌⊎◌, length-append}
 use Rattle.std.specs.Int.{w64, to_be_bytes}
 use Rattle.std.proofs.lemmas.Grind.{common_steps}
@@ -15,16 +15,17 @@ use Rattle.gcm_seal.proofs.Sealing.{length-tag_of}
 use Rattle.ide_prefix.specs.Packet.{Packet, packet_bytes, sync_head}
 use Rattle.ide_prefix.specs.Iv.{iv_of}
 use Rattle.ide_prefix.specs.Units.{authenticated_bytes, encrypted_bytes}
-use Rattle.spec_stream.specs.Sending.{is_posted, no_key, total_ahead, begins_unit, prefix_of}
+use Rattle.spec_stream.specs.Sending.{is_posted, no_key, total_ahead, prefix_of}
 use Rattle.spec_stream.specs.Stream.{LaneSlot, Empty, Programmed, Armed, Live, LiveKey, LaneSlots, with_slot}
 use Rattle.spec_stream.specs.Stream.{live_sender}
 use Rattle.spec_stream.specs.Stream.{lane_of, packet_under, tagged_under, untagged_under, sealed_slots, ended_slots}
-use Rattle.spec_stream.specs.Slots.{is_live_slot, any_live, is_busy, both_slots, slot_gone}
+use Rattle.spec_stream.specs.Slots.{is_live_slot, is_busy, both_slots, slot_gone}
 use Rattle.key_slots.specs.{is_only_live}
-use Rattle.sub_stream.specs.{Sender, Content, packets_under, ready_of, ready_key, sealing_of, sealing_if_ready}
+use Rattle.sub_stream.specs.declared.sender.ReadyKey.{ReadyKey}
+use Rattle.sub_stream.specs.{Sender, Content, ready_of, ready_key, key_in_use, ends, sealing_by_key, sealing_of}
 use Rattle.sub_stream.specs.{sender_ahead, unit_ahead, Sealing, slot_pair, gone_slots, gone_sender, programmed_sender}
-use Rattle.stream_lanes.specs.Lanes.{SendEnd, IsSendLane, open_unit_number, open_in, sealing_lane, described_packet}
-use Rattle.stream_lanes.specs.Lanes.{is_spent, packet_said, measured_packet, sync_said}
+use Rattle.stream_lanes.specs.Lanes.{SendEnd, IsSendLane, open_in, sealing_lane, described_packet, packet_said}
+use Rattle.stream_lanes.specs.Lanes.{measured_packet, sync_said}
 
 abbrev pub one_live : LaneSlots → Bool
 one_live s = is_live_slot s.first && is_live_slot s.second
@@ -42,24 +43,11 @@ and_false : (b : Bool) → (b && false) ≡ false
 and_false true = refl
 and_false false = refl
 
-pub live-some : (s : LaneSlots) → any_live s ≡ true → (x : Bool × LiveKey) × (live_sender s ≡ Some x)
-live-some s = by_slots s.first s.second
-  where
-    by_slots : (a b : LaneSlot) → (is_live_slot a || is_live_slot b) ≡ true → (x : Bool × LiveKey)
-        × (live_sender (record { first = a; second = b }) ≡ Some x)
-    by_slots (Live x) b e = ((false, x), refl)
-    by_slots Empty (Live y) e = ((true, y), refl)
-    by_slots (Programmed i k) (Live y) e = ((true, y), refl)
-    by_slots (Armed i k) (Live y) e = ((true, y), refl)
-    by_slots Empty Empty e = absurd (cc)
-    by_slots Empty (Programmed j l) e = absurd (cc)
-    by_slots Empty (Armed j l) e = absurd (cc)
-    by_slots (Programmed i k) Empty e = absurd (cc)
-    by_slots (Programmed i k) (Programmed j l) e = absurd (cc)
-    by_slots (Programmed i k) (Armed j l) e = absurd (cc)
-    by_slots (Armed i k) Empty e = absurd (cc)
-    by_slots (Armed i k) (Programmed j l) e = absurd (cc)
-    by_slots (Armed i k) (Armed j l) e = absurd (cc)
+-- the key that a sender is ready with is its Live key
+pub ready-some : (limit : ℕ) (o : Option (Bool × LiveKey)) (key : ReadyKey) → ready_key limit o ≡ Ok key
+    → (x : Bool × LiveKey) × (o ≡ Some x)
+ready-some limit None key e = absurd (cc)
+ready-some limit (Some x) key e = (x, refl)
 
 -- what is open stays, or nothing is open
 abbrev pub Moved : LaneSlots → LaneSlots → Type 0
@@ -68,21 +56,21 @@ Moved old new = ((live_sender new ≡ live_sender old) ⊎ (open_in new ≡ []))
 none_open : (ps : List Packet) → ps ≡ [] → (length ps == 0) ≡ false → ⊥
 none_open ps e f = let g : true ≡ false = ap (λ (qs : List Packet). length qs == 0) (sym e) ∙ f in cc
 
-pub moved-kept : (tx : Sender) (limit : ℕ) (closed : Bool) (posted total : ℕ) (slots : LaneSlots)
-    → IsSendLane tx limit closed posted total → Moved tx.slots slots
-    → IsSendLane (record tx { slots = slots }) limit closed posted total
-moved-kept tx limit closed posted total slots inv moved =
+pub moved-kept : (tx : Sender) (closed : Bool) (posted total : ℕ) (slots : LaneSlots)
+    → IsSendLane tx closed posted total → Moved tx.slots slots
+    → IsSendLane (record tx { slots = slots }) closed posted total
+moved-kept tx closed posted total slots inv moved =
     elim moved.0 [
       | inl same ↦ record {
-        same_limit = inv.same_limit;
         some_aggregation = inv.some_aggregation;
         one_live = moved.1;
-        fits = rw same inv.fits;
-        ahead = rw same inv.ahead;
+        fits = subst (λ (o : Option (Bool × LiveKey)). length (key_in_use o).1.packets < tx.aggregation) (sym same)
+            inv.fits;
+        ahead = subst (λ (o : Option (Bool × LiveKey)). (length (key_in_use o).1.packets == 0) ≡ false → tx.ahead
+            ≡ total_ahead closed ((key_in_use o).1.units + 1) total) (sym same) inv.ahead;
         no_count = inv.no_count;
       }
       | inr none ↦ record {
-        same_limit = inv.same_limit;
         some_aggregation = inv.some_aggregation;
         one_live = moved.1;
         fits = rw none inv.some_aggregation;
@@ -112,13 +100,13 @@ go-moved k Empty other e = (inl refl, e)
 go-moved k (Armed j key) other e = (inl refl, e)
 go-moved k (Live x) other e = (inl refl, e)
 
-pub gone-kept : (k : Bool) (tx : Sender) (limit : ℕ) (closed : Bool) (posted total : ℕ)
-    → IsSendLane tx limit closed posted total → IsSendLane (gone_sender tx k) limit closed posted total
-gone-kept true tx limit closed posted total inv =
-    moved-kept tx limit closed posted total (gone_slots tx.slots true) inv
+pub gone-kept : (k : Bool) (tx : Sender) (closed : Bool) (posted total : ℕ)
+    → IsSendLane tx closed posted total → IsSendLane (gone_sender tx k) closed posted total
+gone-kept true tx closed posted total inv =
+    moved-kept tx closed posted total (gone_slots tx.slots true) inv
     (go-moved true tx.slots.second tx.slots.first inv.one_live)
-gone-kept false tx limit closed posted total inv =
-    moved-kept tx limit closed posted total (gone_slots tx.slots false) inv
+gone-kept false tx closed posted total inv =
+    moved-kept tx closed posted total (gone_slots tx.slots false) inv
     (go-moved false tx.slots.first tx.slots.second inv.one_live)
 
 -- a key that is put in if the slot is not Live
@@ -144,9 +132,9 @@ put_first (Live x) (Programmed i l) j key one e = absurd (cc)
 put_first (Live x) (Armed i l) j key one e = absurd (cc)
 put_first (Live x) (Live y) j key one e = absurd (cc)
 
-pub programmed-kept : (k : Bool) (tx : Sender) (key : List ℕ) (draw limit : ℕ) (closed : Bool) (posted total : ℕ)
-    → IsSendLane tx limit closed posted total → IsSendLane (programmed_sender tx k key draw) limit closed posted total
-programmed-kept k tx key draw limit closed posted total inv = by_answer (is_only_live (slot_pair true tx.slots) k) refl
+pub programmed-kept : (k : Bool) (tx : Sender) (key : List ℕ) (draw : ℕ) (closed : Bool) (posted total : ℕ)
+    → IsSendLane tx closed posted total → IsSendLane (programmed_sender tx k key draw) closed posted total
+programmed-kept k tx key draw closed posted total inv = by_answer (is_only_live (slot_pair true tx.slots) k) refl
   where
     moved : (k : Bool) → is_only_live (slot_pair true tx.slots) k ≡ false
         → Moved tx.slots (with_slot tx.slots k (Programmed draw key))
@@ -154,10 +142,10 @@ programmed-kept k tx key draw limit closed posted total inv = by_answer (is_only
     moved false e = put_first tx.slots.first tx.slots.second draw key inv.one_live e
 
     by_answer : (b : Bool) → is_only_live (slot_pair true tx.slots) k ≡ b
-        → IsSendLane (if b then tx else record tx { slots = with_slot tx.slots k (Programmed draw key) }) limit closed
+        → IsSendLane (if b then tx else record tx { slots = with_slot tx.slots k (Programmed draw key) }) closed
         posted total
     by_answer true e = inv
-    by_answer false e = moved-kept tx limit closed posted total (with_slot tx.slots k (Programmed draw key)) inv
+    by_answer false e = moved-kept tx closed posted total (with_slot tx.slots k (Programmed draw key)) inv
         (moved k e)
 
 -- ---- a sealed packet
@@ -246,41 +234,28 @@ count_said : (b : Bool) (n : ℕ) → (b ≡ true → n ≡ 0) → n ≡ (if b t
 count_said true n h = h refl
 count_said false n h = refl
 
-ready_live : (limit : ℕ) (b : Bool) (x : Bool × LiveKey) → b ≡ false
-    → (if b then Err (Rattle.sub_stream.specs.declared.answer.TxRefusal.TheVariants.Worn limit) else Ok x) ≡ Ok x
-ready_live limit true x e = absurd (cc)
-ready_live limit false x e = refl
-
-pub sealing-is : (tx : Sender) (limit : ℕ) (closed : Bool) (posted total : ℕ) (lent : List ℕ) (c : Content)
-    (more : Bool)
-    → IsSendLane tx limit closed posted total
-    → any_live tx.slots ≡ true → is_spent (view tx closed posted total) ≡ false
+pub sealing-is : (tx : Sender) (closed : Bool) (posted total : ℕ) (lent : List ℕ) (c : Content) (more : Bool)
+    (key : ReadyKey)
+    → IsSendLane tx closed posted total → ready_of tx ≡ Ok key
     → lent ≡ (if closed then to_be_bytes w64 total else []) → c.posted ≡ posted
-    → sealing_of tx lent c more ≡ Ok (sealing_right tx closed posted total c more)
-sealing-is tx limit closed posted total lent c more inv live unspent is_lent is_posted_count =
-    let some = live-some tx.slots live in
+    → sealing_of tx lent c more ≡ sealing_right tx closed posted total c more
+sealing-is tx closed posted total lent c more key inv ready is_lent is_posted_count =
+    let some = ready-some tx.limit (live_sender tx.slots) key ready in
     under some.0 some.1
   where
-    e : SendEnd
-    e = view tx closed posted total
-
     under : (x : Bool × LiveKey) → live_sender tx.slots ≡ Some x → sealing_of tx lent c more
-        ≡ Ok (sealing_right tx closed posted total c more)
+        ≡ sealing_right tx closed posted total c more
     under x is =
-        let spent : ((length x.1.packets == 0) && (x.1.units == tx.limit)) ≡ false =
-        ap (λ (o : Option (Bool × LiveKey)). begins_unit (lane_of posted o) && ((lane_of posted o).units == tx.limit))
-        (sym is) ∙ unspent in
-        let ready : ready_of tx ≡ Ok x = ap (ready_key tx.limit) is ∙ ready_live tx.limit _ x spent in
         let open_ahead : (length x.1.packets == 0) ≡ false → tx.ahead ≡ total_ahead closed (x.1.units + 1) total =
-        subst (λ (o : Option (Bool × LiveKey)). (length (packets_under o) == 0) ≡ false → tx.ahead
-        ≡ total_ahead closed (open_unit_number o) total) is inv.ahead in
+        subst (λ (o : Option (Bool × LiveKey)). (length (key_in_use o).1.packets == 0) ≡ false → tx.ahead
+        ≡ total_ahead closed ((key_in_use o).1.units + 1) total) is inv.ahead in
         let ahead : sender_ahead tx x.1 lent ≡ total_ahead closed (x.1.units + 1) total =
         ahead-right (length x.1.packets == 0) tx.ahead closed total (x.1.units + 1) lent is_lent open_ahead in
         let count : c.posted ≡ (if is_posted tx.sub then 0 else posted) = is_posted_count ∙ count_said
         (is_posted tx.sub) posted inv.no_count in
-        ap (sealing_if_ready tx lent c more) ready
-        ∙ (λ i. Ok (sealed_with x (ahead i) (count i)))
-        ∙ ap (λ (o : Option (Bool × LiveKey)). Ok (sealing_with tx closed posted total c more o)) (sym is)
+        ap (λ (o : Option (Bool × LiveKey)). sealing_by_key tx lent (key_in_use o) c (ends tx (key_in_use o).1 more)) is
+        ∙ (λ i. sealed_with x (ahead i) (count i))
+        ∙ ap (λ (o : Option (Bool × LiveKey)). sealing_with tx closed posted total c more o) (sym is)
       where
         sealed_with : (x : Bool × LiveKey) → List ℕ → ℕ → Sealing
         sealed_with x ahead n =
@@ -408,17 +383,18 @@ goes_on-live p s x is = by_slots s.first s.second ∙ ap (joined p) is
     by_slots (Armed g l) (Live h) = refl
 
 -- a posted packet joins, or ends its unit
-pub room-sealed : (aggregation n : ℕ) (m : Bool) (p : Packet) (s : LaneSlots) → any_live s ≡ true
+pub room-sealed : (aggregation n limit : ℕ) (m : Bool) (p : Packet) (s : LaneSlots) (key : ReadyKey)
+    → ready_key limit (live_sender s) ≡ Ok key
     → n + aggregation ≤ 255 + length (open_in s)
     → (length (open_in (sealed_slots m p s)) == 0) ≡ false → n + 1 + aggregation ≤ 255 + length
     (open_in (sealed_slots m p s))
-room-sealed aggregation n true p s live le e = absurd (none_open _ (ended_open s) e)
-room-sealed aggregation n false p s live le e =
-    let some = live-some s live in
-    let on = ap packets_under (goes_on-live p s some.0 some.1) in
+room-sealed aggregation n limit true p s key ready le e = absurd (none_open _ (ended_open s) e)
+room-sealed aggregation n limit false p s key ready le e =
+    let some = ready-some limit (live_sender s) key ready in
+    let on = ap (λ (o : Option (Bool × LiveKey)). (key_in_use o).1.packets) (goes_on-live p s some.0 some.1) in
     let now : length (open_in (sealed_slots false p s)) ≡ length (open_in s) + 1 =
     ap length on ∙ length-append some.0.1.packets (p ∷ []) ∙ ap
-    (λ (o : Option (Bool × LiveKey)). length (packets_under o) + 1) (sym some.1) in
+    (λ (o : Option (Bool × LiveKey)). length (key_in_use o).1.packets + 1) (sym some.1) in
     omega (arith, now, le)
 
 not_last : (more b : Bool) → (not more || b) ≡ false → b ≡ false
@@ -428,16 +404,17 @@ not_last false b e = absurd (cc)
 room_left : (n aggregation : ℕ) → n < aggregation → (n + 1 == aggregation) ≡ false → n + 1 < aggregation
 room_left n aggregation less e = grind (arith, common_steps)
 
-pub sealed-kept : (tx : Sender) (limit : ℕ) (closed : Bool) (posted total : ℕ) (more : Bool) (p : Packet) (m : Bool)
-    → IsSendLane tx limit closed posted total → any_live tx.slots ≡ true
+pub sealed-kept : (tx : Sender) (closed : Bool) (posted total : ℕ) (more : Bool) (p : Packet) (m : Bool)
+    (key : ReadyKey)
+    → IsSendLane tx closed posted total → ready_of tx ≡ Ok key
     → m ≡ (not more || (length (lane_of posted (live_sender tx.slots)).unfinished + 1 == tx.aggregation))
     → IsSendLane (record tx {
       ahead = (if m then [] else total_ahead closed ((lane_of posted (live_sender tx.slots)).units + 1) total);
       slots
           = sealed_slots m p tx.slots;
-    }) limit closed 0 (if m then total + 1 else total)
-sealed-kept tx limit closed posted total more p m inv live is_m =
-    let some = live-some tx.slots live in
+    }) closed 0 (if m then total + 1 else total)
+sealed-kept tx closed posted total more p m key inv ready is_m =
+    let some = ready-some tx.limit (live_sender tx.slots) key ready in
     under m is_m some.0 some.1
   where
     under : (m : Bool) → m ≡
@@ -446,9 +423,8 @@ sealed-kept tx limit closed posted total more p m inv live is_m =
         → IsSendLane (record tx {
           ahead = (if m then [] else total_ahead closed ((lane_of posted (live_sender tx.slots)).units + 1) total);
           slots = sealed_slots m p tx.slots;
-        }) limit closed 0 (if m then total + 1 else total)
+        }) closed 0 (if m then total + 1 else total)
     under true is_m x is = record {
-      same_limit = inv.same_limit;
       some_aggregation = inv.some_aggregation;
       one_live = sealed-one_live true p tx.slots inv.one_live;
       fits = rw (ended_open tx.slots) inv.some_aggregation;
@@ -457,7 +433,7 @@ sealed-kept tx limit closed posted total more p m inv live is_m =
     }
     under false is_m x is =
         let fits : length x.1.packets < tx.aggregation = subst
-        (λ (o : Option (Bool × LiveKey)). length (packets_under o) < tx.aggregation) is inv.fits in
+        (λ (o : Option (Bool × LiveKey)). length (key_in_use o).1.packets < tx.aggregation) is inv.fits in
         let low : (length x.1.packets + 1 == tx.aggregation) ≡ false =
         not_last more _ (ap (λ (o : Option (Bool × LiveKey)). not more
         || (length (lane_of posted o).unfinished + 1 == tx.aggregation)) (sym is) ∙ sym is_m) in
@@ -465,12 +441,12 @@ sealed-kept tx limit closed posted total more p m inv live is_m =
         (room_left (length x.1.packets) tx.aggregation fits low) in
         let on = goes_on-live p tx.slots x is in
         record {
-          same_limit = inv.same_limit;
           some_aggregation = inv.some_aggregation;
           one_live = sealed-one_live false p tx.slots inv.one_live;
-          fits = subst (λ (o : Option (Bool × LiveKey)). length (packets_under o) < tx.aggregation) (sym on) more_fits;
+          fits = subst (λ (o : Option (Bool × LiveKey)). length (key_in_use o).1.packets < tx.aggregation) (sym on)
+              more_fits;
           ahead = λ e. (λ i. total_ahead closed ((lane_of posted (is i)).units + 1) total) ∙
-              (λ i. total_ahead closed (open_unit_number (sym on i)) total);
+              (λ i. total_ahead closed ((key_in_use (sym on i)).1.units + 1) total);
           no_count = λ e. refl;
         }
 

@@ -2,20 +2,17 @@
 -- Sync packets go only before a posted TLP, so it goes by class and, for a posted one, by which of the two go first.
 -- Each packet is that of the rules, as neither its number nor its port is in it and a sync packet has nothing of the
 -- TLP; after sync packets the TLP's own sender is as before, and the joined bytes are only grouped anew.
-use Rattle.std.proofs.Common.{◌≡◌, ℕ, ◌+◌, Bool, true, false, ◌&&◌, ◌||◌, if◌then◌else◌, List, [], ◌∷◌, ◌++◌}
-use Rattle.std.proofs.Common.{length, is_none, map, Option, Some, None, refl, sym, ap, ◌∙◌, subst, arith}
-use Rattle.std.proofs.Common.{append_assoc, append-nil}
+use Rattle.std.proofs.Common.{◌≡◌, ℕ, ◌+◌, Bool, true, false, if◌then◌else◌, List, [], ◌∷◌, ◌++◌, length, map, Option}
+use Rattle.std.proofs.Common.{Some, None, refl, sym, ap, ◌∙◌, subst, arith, append_assoc, append-nil}
 use Rattle.ide_types.specs.declared.sub.SubKind.{SubKind}
 use Rattle.ide_types.specs.declared.sub.SubKind.TheVariants.{Pr, Npr, Cpl}
 use Rattle.ide_types.specs.declared.port.PortName.{PortName}
-use Rattle.link_verdicts.specs.declared.verdict.Verdict.{Verdict}
 use Rattle.link_verdicts.specs.declared.verdict.SealedPacket.{SealedPacket as Described}
 use Rattle.ide_prefix.specs.Packet.{Packet, packet_bytes}
-use Rattle.spec_stream.specs.Sending.{Sending, Lanes, total_ahead, is_keyless, is_worn, needs_sync, refusals}
-use Rattle.spec_stream.specs.Sending.{first_that_holds, described_seal, ends_unit, sets_trusted, sealed_with_syncs}
-use Rattle.spec_stream.specs.Stream.{LaneSlot, Empty, Programmed, Armed, Live, LaneSlots, LiveKey, TxSub, lane_of}
+use Rattle.spec_stream.specs.Sending.{Sending, Lanes, total_ahead, needs_sync}
+use Rattle.spec_stream.specs.Sending.{described_seal, ends_unit, sets_trusted, sealed_with_syncs}
+use Rattle.spec_stream.specs.Stream.{LiveKey, TxSub}
 use Rattle.spec_stream.specs.Stream.{at_sub, each_sub, live_sender, packet_under, sealed_sub, sealed_one, sealed_all}
-use Rattle.spec_stream.specs.Slots.{is_live_slot, any_live}
 use Rattle.sub_stream.specs.declared.answer.MeasuredPacket.{MeasuredPacket}
 use Rattle.stream_lanes.specs.Sends.{numbered_from, joined_packets, packet_lengths, IsSealed}
 use Rattle.stream_lanes.specs.declared.fixed.Fixed.{Fixed}
@@ -23,70 +20,7 @@ use Rattle.stream_lanes.specs.Lanes.{SendEnd, SendEnds, send_end_at, sealing_lan
 use Rattle.stream_lanes.specs.Lanes.{sealed_ends, measured_packet, ends_after_sync, sync_packets, sync_bytes}
 use Rattle.stream_lanes.proofs.Sealing.{sync-same}
 
--- ---- what is not refused
-
-pub record IsClear (x : SendEnds) (sub : SubKind) : Type 0 where
-  pub keyed : is_keyless (sealing_lanes x) sub ≡ false
-  pub npr_keyed : (needs_sync (sealing_lanes x) sub Npr && is_keyless (sealing_lanes x) Npr) ≡ false
-  pub cpl_keyed : (needs_sync (sealing_lanes x) sub Cpl && is_keyless (sealing_lanes x) Cpl) ≡ false
-  pub unworn : is_worn (sealing_lanes x) sub ≡ false
-  pub npr_unworn : (needs_sync (sealing_lanes x) sub Npr && is_worn (sealing_lanes x) Npr) ≡ false
-  pub cpl_unworn : (needs_sync (sealing_lanes x) sub Cpl && is_worn (sealing_lanes x) Cpl) ≡ false
-
-not_first : (b : Bool) (v : Verdict) (rest : Option Verdict) → (if b then Some v else rest) ≡ None → (b ≡ false)
-    × (rest ≡ None)
-not_first true v rest e = absurd (cc)
-not_first false v rest e = (refl, e)
-
-pub clear-facts : (x : SendEnds) (sub : SubKind) → first_that_holds (refusals (sealing_lanes x) sub) ≡ None
-    → IsClear x sub
-clear-facts x sub e =
-    let a = not_first (is_keyless (sealing_lanes x) sub) _ _ e in
-    let b = not_first _ _ _ a.1 in
-    let c = not_first _ _ _ b.1 in
-    let d = not_first _ _ _ c.1 in
-    let f = not_first _ _ _ d.1 in
-    let g = not_first _ _ _ f.1 in
-    let h = not_first _ _ _ g.1 in
-    record {
-      keyed = a.0;
-      npr_keyed = c.0;
-      cpl_keyed = d.0;
-      unworn = f.0;
-      npr_unworn = g.0;
-      cpl_unworn = h.0;
-    }
-
--- a sub-stream with a key has a Live slot
-pub keyed-live : (s : LaneSlots) (posted : ℕ) → is_none (lane_of posted (live_sender s)).key ≡ false → any_live s
-    ≡ true
-keyed-live s posted = by_slots s.first s.second
-  where
-    by_slots : (a b : LaneSlot) → is_none (lane_of posted (live_sender (record { first = a; second = b }))).key ≡ false
-        → (is_live_slot a || is_live_slot b) ≡ true
-    by_slots (Live x) b e = refl
-    by_slots Empty (Live y) e = refl
-    by_slots (Programmed i k) (Live y) e = refl
-    by_slots (Armed i k) (Live y) e = refl
-    by_slots Empty Empty e = absurd (cc)
-    by_slots Empty (Programmed j l) e = absurd (cc)
-    by_slots Empty (Armed j l) e = absurd (cc)
-    by_slots (Programmed i k) Empty e = absurd (cc)
-    by_slots (Programmed i k) (Programmed j l) e = absurd (cc)
-    by_slots (Programmed i k) (Armed j l) e = absurd (cc)
-    by_slots (Armed i k) Empty e = absurd (cc)
-    by_slots (Armed i k) (Programmed j l) e = absurd (cc)
-    by_slots (Armed i k) (Armed j l) e = absurd (cc)
-
-pub when-needed : (a b : Bool) → (a && b) ≡ false → a ≡ true → b ≡ false
-when-needed true b e f = e
-when-needed false b e f = absurd (cc)
-
 -- ---- what a sync packet leaves
-
-pub ends_after_sync-cpl : (b : Bool) (x : SendEnds) → (ends_after_sync b Npr x).tx.cpl ≡ x.tx.cpl
-ends_after_sync-cpl true x = refl
-ends_after_sync-cpl false x = refl
 
 pub end-cpl : (b : Bool) (x : SendEnds) → send_end_at (ends_after_sync b Npr x) Cpl ≡ send_end_at x Cpl
 end-cpl true x = refl

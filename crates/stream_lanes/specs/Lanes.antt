@@ -1,20 +1,23 @@
 -- The senders of a stream, each with the counts beside it, and what a sealed packet makes of them.
 use Rattle.std.specs.Prelude.{◌≡◌, ℕ, ◌+◌, ◌≤◌, ◌<◌, Bool, true, false, not, ◌&&◌, ◌||◌, ◌==◌, if◌then◌else◌, List, []}
-use Rattle.std.specs.Prelude.{◌∷◌, length, Option, Some, None, unwrap_or}
+use Rattle.std.specs.Prelude.{◌∷◌, length, Option, Result, Ok, is_some, IfSome, unwrap_or}
 use Rattle.ide_types.specs.declared.sub.SubKind.{SubKind}
 use Rattle.ide_types.specs.declared.sub.SubKind.TheVariants.{Pr, Npr, Cpl}
 use Rattle.ide_types.specs.declared.port.Side.TheVariants.{Host}
 use Rattle.link_verdicts.specs.declared.verdict.SealedPacket.{SealedPacket as Described}
 use Rattle.ide_prefix.specs.Packet.{Packet, packet_bytes}
-use Rattle.spec_stream.specs.Sending.{Lane, Lanes, is_posted, begins_unit, no_key, total_ahead}
-use Rattle.spec_stream.specs.Stream.{LiveKey, LaneSlots, TxSub, Three, at_sub, set_sub, each_sub, live_sender, lane_of}
+use Rattle.spec_stream.specs.Sending.{Lane, Lanes, is_posted, needs_sync, no_key, total_ahead}
+use Rattle.spec_stream.specs.Stream.{LaneSlots, TxSub, Three, at_sub, set_sub, each_sub, live_sender, lane_of}
 use Rattle.spec_stream.specs.Stream.{packet_under, sealed_slots, sealed_one}
 use Rattle.spec_stream.specs.Slots.{is_live_slot, any_live}
 use Rattle.key_slots.specs.{KeyCall}
-use Rattle.sub_stream.specs.{Sender, no_slots, open_packets, packets_under, with_length}
+use Rattle.sub_stream.specs.{Sender, no_slots, ready_key, key_in_use, open_packets, with_length}
 use Rattle.sub_stream.specs.declared.answer.MeasuredPacket.{MeasuredPacket}
+use Rattle.sub_stream.specs.declared.answer.TxRefusal.{TxRefusal}
+use Rattle.sub_stream.specs.declared.sender.ReadyKey.{ReadyKey}
 use Rattle.sub_stream.specs.Calls.{slots_called_out}
 use Rattle.stream_lanes.specs.declared.fixed.Fixed.{Fixed}
+use Rattle.stream_lanes.specs.declared.send_lanes.SendKeys.{SendKeys}
 
 -- ---- one sub-stream
 
@@ -34,9 +37,9 @@ new_send_end fixed sub = record { fixed = fixed; sub = sub; kept = no_tx }
 abbrev pub sealing_lane : SendEnd → Lane
 sealing_lane e = lane_of e.kept.posted (live_sender e.kept.slots)
 
--- its key has sealed as many units as it may, and another would begin
-abbrev pub is_spent : SendEnd → Bool
-is_spent e = begins_unit (sealing_lane e) && ((sealing_lane e).units == e.fixed.limit)
+-- the key that seals its next packet, or why there is none
+abbrev pub ready_end : SendEnd → Result ReadyKey TxRefusal
+ready_end e = ready_key e.fixed.limit (live_sender e.kept.slots)
 
 -- what is said of a packet, but for its port and its number
 abbrev pub described_packet : SendEnd → Bool → Bool → Bool → Described
@@ -88,19 +91,13 @@ forgotten_end e = record e { kept = record { slots = e.kept.slots; posted = 0; t
 abbrev pub called_send_end : SendEnd → KeyCall → SendEnd
 called_send_end e call = record e { kept = record e.kept { slots = slots_called_out call e.kept.slots } }
 
--- the number of the open unit
-abbrev pub open_unit_number : Option (Bool × LiveKey) → ℕ
-open_unit_number None = 0
-open_unit_number (Some x) = x.1.units + 1
-
 -- what comes before an open unit is what the rules say; a posted packet has no posted count
-pub record IsSendLane (tx : Sender) (limit : ℕ) (closed : Bool) (posted total : ℕ) : Type 0 where
-  pub same_limit : limit ≡ tx.limit
+pub record IsSendLane (tx : Sender) (closed : Bool) (posted total : ℕ) : Type 0 where
   pub some_aggregation : 0 < tx.aggregation
   pub one_live : (is_live_slot tx.slots.first && is_live_slot tx.slots.second) ≡ false
   pub fits : length (open_packets tx) < tx.aggregation
   pub ahead : (length (open_packets tx) == 0) ≡ false → tx.ahead
-      ≡ total_ahead closed (open_unit_number (live_sender tx.slots)) total
+      ≡ total_ahead closed ((key_in_use (live_sender tx.slots)).1.units + 1) total
   pub no_count : is_posted tx.sub ≡ true → posted ≡ 0
 
 -- ---- three sub-streams
@@ -139,7 +136,7 @@ measured_packet d p = with_length d (length (packet_bytes p))
 
 -- the packets of an open unit of these slots
 abbrev pub open_in : LaneSlots → List Packet
-open_in slots = packets_under (live_sender slots)
+open_in slots = (key_in_use (live_sender slots)).1.packets
 
 -- the posted packets that may still join an open unit of this aggregation leave the count within a byte
 abbrev pub HasPostedRoom : ℕ → TxSub → TxSub → Type 0
@@ -184,6 +181,20 @@ called_ends x u call =
     record x { tx = set_sub x.tx u (record tx { slots = slots_called_out call tx.slots }) }
 
 -- ---- a send
+
+-- the key of the sync packet that goes first in a sub-stream, if a TLP of this class is sent; then the posted packets
+-- of the unit that goes on, or begins, leave the count within a byte
+pub record IsSyncKey (x : SendEnds) (class u : SubKind) (key : Option ReadyKey) : Type 0 where
+  pub needed : is_some key ≡ needs_sync (sealing_lanes x) class u
+  pub ready : IfSome key (λ k. ready_end (send_end_at x u) ≡ Ok k)
+  pub room : is_posted class ≡ true → (if is_some key then 0 else (at_sub x.tx u).posted) + x.fixed.aggregation
+      ≤ 255 + length (open_in x.tx.pr.slots)
+
+-- the keys of a send, with which its senders are ready
+pub record AreSendKeys (x : SendEnds) (class : SubKind) (keys : SendKeys) : Type 0 where
+  pub own : ready_end (send_end_at x class) ≡ Ok keys.own
+  pub npr : IsSyncKey x class Npr keys.npr
+  pub cpl : IsSyncKey x class Cpl keys.cpl
 
 -- a sync packet goes first in this sub-stream, if one is needed
 abbrev pub ends_after_sync : Bool → SubKind → SendEnds → SendEnds

@@ -1,5 +1,7 @@
 -- What becomes of a send at the senders of a stream: its answer, and the packets' bytes.
-use Rattle.std.specs.Prelude.{ℕ, ◌≡◌, ◌+◌, List, [], ◌∷◌, ◌++◌, length, map, Some, None, Result, Ok, Err}
+use Rattle.std.specs.Prelude.{ℕ, ◌≡◌, ◌+◌, Bool, true, false, List, [], ◌∷◌, ◌++◌, length, map, Some, None, Result, Ok}
+use Rattle.std.specs.Prelude.{Err}
+use Rattle.ide_types.specs.declared.sub.SubKind.{SubKind}
 use Rattle.ide_types.specs.declared.port.PortName.{PortName}
 use Rattle.link_verdicts.specs.declared.verdict.Verdict.{Verdict}
 use Rattle.link_verdicts.specs.declared.verdict.Verdict.TheVariants as v
@@ -11,7 +13,8 @@ use Rattle.sub_stream.specs.{numbered_packet}
 use Rattle.sub_stream.specs.declared.answer.MeasuredPacket.{MeasuredPacket}
 use Rattle.stream_lanes.specs.declared.refusal.SendRefusal.{SendRefusal}
 use Rattle.stream_lanes.specs.declared.refusal.SendRefusal.TheVariants.{NoKey, Worn, Unfinished, Insecure}
-use Rattle.stream_lanes.specs.Lanes.{SendEnds, sealing_lanes}
+use Rattle.stream_lanes.specs.declared.send_lanes.SendKeys.{SendKeys}
+use Rattle.stream_lanes.specs.Lanes.{SendEnds, sealing_lanes, AreSendKeys}
 
 -- the verdict of a refusal
 abbrev pub refusal_verdict : SendRefusal → Verdict
@@ -19,6 +22,21 @@ refusal_verdict (NoKey u) = v.RefusedNoKey u
 refusal_verdict (Worn u units) = v.RefusedWorn u units
 refusal_verdict Unfinished = v.RefusedUnfinished
 refusal_verdict Insecure = v.RefusedInsecure
+
+-- a key that a send asks for: a missing one is refused at once, and a worn one after all that are missing
+abbrev pub IsAsked : {K : Type 0} → SubKind → ℕ → Bool → Bool → (K → Type 0)
+    → Result (Result K SendRefusal) SendRefusal → Type 0
+IsAsked u limit keyless worn IsKey (Err refusal) = (refusal ≡ NoKey u) × (keyless ≡ true)
+IsAsked u limit keyless worn IsKey (Ok (Err refusal)) =
+    (refusal ≡ Worn u limit) × (keyless ≡ false) × (worn ≡ true)
+IsAsked u limit keyless worn IsKey (Ok (Ok key)) = (keyless ≡ false) × (worn ≡ false) × IsKey key
+
+-- the keys of a send, or why a TLP of this sub-stream is refused
+abbrev pub AreSendKeysOrRefused : SendEnds → SubKind → Result SendKeys SendRefusal → Type 0
+AreSendKeysOrRefused x class (Ok keys) =
+    (first_that_holds (refusals (sealing_lanes x) class) ≡ None) × AreSendKeys x class keys
+AreSendKeysOrRefused x class (Err refusal) =
+    first_that_holds (refusals (sealing_lanes x) class) ≡ Some (refusal_verdict refusal)
 
 -- sealed packets as a port describes them, numbered from this number on
 abbrev pub numbered_from : PortName → ℕ → List MeasuredPacket → List Described

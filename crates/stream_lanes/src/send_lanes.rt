@@ -1,25 +1,26 @@
 //! The senders of a stream, and of each of its sub-streams.
 
-ghost use Rattle.std.specs.Prelude.{◌≡◌, ◌==◌, ◌&&◌, ◌||◌, ◌+◌, ◌*◌, ◌<◌, ◌≤◌, ◌^◌, ◌++◌, [], ℕ, nat_lt, None, IfOk};
-ghost use Rattle.std.specs.Prelude.{true, false, not, length, is_ok, vec_len, vec_capacity, if◌then◌else◌, is_none};
-ghost use Rattle.std.specs.Option.{option_map};
+ghost use Rattle.std.specs.Prelude.{◌≡◌, ◌==◌, ◌&&◌, ◌||◌, ◌+◌, ◌*◌, ◌<◌, ◌≤◌, ◌^◌, ◌++◌, [], ℕ, nat_lt, Ok, IfOk};
+ghost use Rattle.std.specs.Prelude.{true, false, not, length, is_ok, vec_len, vec_capacity, if◌then◌else◌, is_some};
+ghost use Rattle.std.specs.Prelude.{IfSome};
 ghost use Rattle.ide_types.specs.declared.sub.SubKind.{SubKind};
 ghost use Rattle.ide_types.specs.declared.sub.SubKind.TheVariants.{Pr, Npr, Cpl};
 ghost use Rattle.ide_prefix.specs.Packet.{packet_bytes};
 ghost use Rattle.key_slots.specs.{is_one, is_empty, program_answer, live_set, slot_in as key_slot_in, Program, Go};
 ghost use Rattle.key_slots.specs.{Stop};
 ghost use Rattle.spec_stream.specs.Sending.{Sending, is_posted, is_keyless, is_worn, begins_unit, needs_sync};
-ghost use Rattle.spec_stream.specs.Sending.{refusals, first_that_holds, sets_trusted};
+ghost use Rattle.spec_stream.specs.Sending.{sets_trusted};
 ghost use Rattle.spec_stream.specs.Stream.{at_sub};
 ghost use Rattle.spec_stream.specs.Slots.{any_live, sealing_draw};
 ghost use Rattle.sub_stream.specs.{slot_pair};
 ghost use Rattle.sub_stream.specs.Facts.{sender_facts};
-ghost use Rattle.stream_lanes.specs.Sends.{refusal_verdict, IsSealed, IsSealedOrRefused};
-ghost use Rattle.stream_lanes.specs.Lanes.{new_send_ends, send_end_at, sealing_lanes, sealing_lane, is_spent, tlp_said};
-ghost use Rattle.stream_lanes.specs.Lanes.{packet_said_at, sealed_ends, measured_packet, open_in, any_out, all_out};
-ghost use Rattle.stream_lanes.specs.Lanes.{settled_senders, called_ends, ends_after_sync, sync_packets, sync_bytes};
-ghost use Rattle.stream_lanes.specs.Lanes.{new_send_end, sync_said, packet_said, sealed_end, posted_end, forgotten_end};
-ghost use Rattle.stream_lanes.specs.Lanes.{called_send_end, KeepsUnit, SealedAtMost};
+ghost use Rattle.stream_lanes.specs.Sends.{IsSealed, IsSealedOrRefused, IsAsked, AreSendKeysOrRefused};
+ghost use Rattle.stream_lanes.specs.Lanes.{new_send_ends, send_end_at, sealing_lanes, sealing_lane, ready_end};
+ghost use Rattle.stream_lanes.specs.Lanes.{tlp_said, packet_said_at, sealed_ends, measured_packet, open_in, any_out};
+ghost use Rattle.stream_lanes.specs.Lanes.{all_out, settled_senders, called_ends, ends_after_sync, sync_packets};
+ghost use Rattle.stream_lanes.specs.Lanes.{sync_bytes, new_send_end, sync_said, packet_said, sealed_end, posted_end};
+ghost use Rattle.stream_lanes.specs.Lanes.{forgotten_end, called_send_end, KeepsUnit, SealedAtMost, IsSyncKey};
+ghost use Rattle.stream_lanes.specs.Lanes.{AreSendKeys};
 
 use crate::fixed::{Fixed, lent_total};
 use crate::list::MeasuredPackets;
@@ -29,13 +30,12 @@ use ide_types::{KeySet, OutOfMemory, SubKind};
 use key_slots::{Key, OnlyLive, SlotEmpty};
 use std::alloc::Global;
 use std::marker::Model;
-use sub_stream::{MeasuredPacket, PACKET_ROOM, SYNC_ROOM, SenderFacts, Tx, TxRefusal};
+use sub_stream::{MeasuredPacket, PACKET_ROOM, ReadyKey, SYNC_ROOM, SenderFacts, Tx, TxRefusal};
 
 /// A sender of one sub-stream with its posted count and its total.
 #[derive(Drop)]
 pub struct SendLane {
     tx: Tx,
-    limit: u64,
     closed: bool,
     // the posted packets that were sealed since this sub-stream's last packet; 0 in the posted one
     posted: u8,
@@ -64,7 +64,7 @@ impl Model for SendLane {
       };
     } };
 
-    ghost invariant = { λ s. IsSendLane s.tx s.limit s.closed s.posted s.total };
+    ghost invariant = { λ s. IsSendLane s.tx s.closed s.posted s.total };
 }
 
 // A packet was sealed: the posted count begins again, and a finished unit counts.
@@ -101,7 +101,6 @@ impl SendLane {
                 fixed.limit,
                 buf,
             )?,
-            limit: fixed.limit,
             closed: fixed.closed,
             posted: 0,
             total: 0,
@@ -136,15 +135,12 @@ impl SendLane {
         !self.tx.unfinished()
     }
 
-    /// Whether a unit would begin, and the key has sealed as many as it may. Without a key none was sealed.
-    pub fn is_worn(&self) -> bool
-        ensures { result ≡ is_spent self.now }
+    /// The key that seals the next packet. Returns `NoKey` if no slot is Live, and `Worn` if a unit would begin and the
+    /// Live key has sealed as many as it may.
+    pub fn ready(&self) -> Result<ReadyKey, TxRefusal>
+        ensures { result ≡ ready_end self.now }
     {
-        match self.tx.ready() {
-            Ok(()) => false,
-            Err(TxRefusal::Worn(_)) => true,
-            Err(TxRefusal::NoKey) => self.limit == 0,
-        }
+        self.tx.ready()
     }
 
     /// The posted count of the next packet.
@@ -154,18 +150,18 @@ impl SendLane {
         self.posted
     }
 
-    /// Seals a TLP's header and payload under the Live key, and appends its packet to `out`. `more` says that
+    /// Seals a TLP's header and payload under the key that is ready, and appends its packet to `out`. `more` says that
     /// the unit goes on if it has room, `t` that the TLP is trusted.
     pub fn seal(
         &mut self,
+        key: ReadyKey,
         head: &[u8],
         payload: &[u8],
         more: bool,
         t: bool,
         out: &mut Vec<u8>,
     ) -> MeasuredPacket
-        requires live { any_live self.old.kept.slots ≡ true }
-        requires unworn { is_spent self.old ≡ false }
+        requires ready { ready_end self.old ≡ Ok key }
         requires few { self.old.kept.total ≤ 2 ^ 40 }
         requires head_short { length head.now ≤ 16 }
         requires payload_short { length payload.now ≤ 4096 }
@@ -180,17 +176,16 @@ impl SendLane {
     {
         let total = self.total.to_be_bytes();
         let lent = lent_total(self.closed, &total);
-        let Ok(packet) = self.tx.seal(head, payload, self.posted, more, t, lent, out) else {
-            unreachable!()
-        };
+        let packet = self
+            .tx
+            .seal(key, head, payload, self.posted, more, t, lent, out);
         count(packet.m, &mut self.posted, &mut self.total);
         packet
     }
 
-    /// Seals a sync packet under the Live key, which ends its unit, and appends it to `out`.
-    pub fn sync(&mut self, out: &mut Vec<u8>) -> MeasuredPacket
-        requires live { any_live self.old.kept.slots ≡ true }
-        requires unworn { is_spent self.old ≡ false }
+    /// Seals a sync packet under the key that is ready, which ends its unit, and appends it to `out`.
+    pub fn sync(&mut self, key: ReadyKey, out: &mut Vec<u8>) -> MeasuredPacket
+        requires ready { ready_end self.old ≡ Ok key }
         requires few { self.old.kept.total ≤ 2 ^ 40 }
         requires room { vec_len out.old + SYNC_ROOM ≤ vec_capacity out.old }
         ensures answer { let d = sync_said self.old in result ≡ measured_packet d (packet_said self.old [] [] d) }
@@ -202,9 +197,7 @@ impl SendLane {
     {
         let total = self.total.to_be_bytes();
         let lent = lent_total(self.closed, &total);
-        let Ok(packet) = self.tx.sync(self.posted, lent, out) else {
-            unreachable!()
-        };
+        let packet = self.tx.sync(key, self.posted, lent, out);
         count(packet.m, &mut self.posted, &mut self.total);
         packet
     }
@@ -290,6 +283,17 @@ impl Model for SendLanes {
     ghost invariant = { λ s. IsSendLanes s.fixed s.pr s.npr s.cpl };
 }
 
+// The keys of a send: of the TLP, and of the sync packets that go first.
+#[derive(Clone, Copy)]
+struct SendKeys {
+    own: ReadyKey,
+    npr: Option<ReadyKey>,
+    cpl: Option<ReadyKey>,
+}
+
+// A key that is asked for. A missing key is refused at once, and a worn one after all that are missing.
+type Asked<K> = Result<Result<K, SendRefusal>, SendRefusal>;
+
 // Whether a posted count passes what a byte holds within one unit.
 fn may_overflow(posted: u8, aggregation: u8) -> bool
     ensures { result ≡ nat_lt 255 (posted + aggregation) }
@@ -374,18 +378,30 @@ impl SendLanes {
         class == SubKind::Pr && begins && many
     }
 
-    // Whether a sub-stream has no Live key.
-    fn keyless(&self, sub: SubKind) -> bool
-        ensures { result ≡ is_keyless (sealing_lanes self.now) sub }
+    // The key of a sub-stream.
+    fn key(&self, sub: SubKind) -> Asked<ReadyKey>
+        ensures { IsAsked sub self.now.fixed.limit (is_keyless (sealing_lanes self.now) sub)
+            (is_worn (sealing_lanes self.now) sub) (λ key. ready_end (send_end_at self.now sub) ≡ Ok key) result }
     {
-        !self.lane(sub).is_live()
+        match self.lane(sub).ready() {
+            Err(TxRefusal::NoKey) => Err(SendRefusal::NoKey(sub)),
+            Err(TxRefusal::Worn(limit)) => Ok(Err(SendRefusal::Worn(sub, limit))),
+            Ok(key) => Ok(Ok(key)),
+        }
     }
 
-    // Whether the key of a sub-stream may begin no further unit.
-    fn worn(&self, sub: SubKind) -> bool
-        ensures { result ≡ is_worn (sealing_lanes self.now) sub }
+    // The key of the sync packet that goes first in sub-stream `sub`, NPR or CPL, before a TLP of this class; `None` if
+    // none does.
+    fn sync_key(&self, class: SubKind, sub: SubKind) -> Asked<Option<ReadyKey>>
+        requires { is_posted sub ≡ false }
+        ensures { let needed = needs_sync (sealing_lanes self.now) class sub in
+            IsAsked sub self.now.fixed.limit (needed && is_keyless (sealing_lanes self.now) sub)
+            (needed && is_worn (sealing_lanes self.now) sub) (λ key. IsSyncKey self.now class sub key) result }
     {
-        self.lane(sub).is_worn()
+        if !self.needs_sync(class, sub) {
+            return Ok(Ok(None));
+        }
+        Ok(self.key(sub)?.map(Some))
     }
 
     // Whether a TLP of this class waits for the end of the posted unit.
@@ -395,72 +411,57 @@ impl SendLanes {
         class != SubKind::Pr && !self.pr.begins()
     }
 
-    // Why a TLP of this sub-stream is not sealed; `None` if it is. `npr` and `cpl` say which sync packets go first.
-    fn refusal(&self, sub: SubKind, npr: bool, cpl: bool) -> Option<SendRefusal>
-        requires npr { npr ≡ needs_sync (sealing_lanes self.now) sub Npr }
-        requires cpl { cpl ≡ needs_sync (sealing_lanes self.now) sub Cpl }
-        ensures { option_map refusal_verdict result ≡ first_that_holds (refusals (sealing_lanes self.now) sub) }
+    // The keys of a send in this sub-stream, or why the TLP is refused.
+    fn keys(&self, sub: SubKind) -> Result<SendKeys, SendRefusal>
+        ensures { AreSendKeysOrRefused self.now sub result }
     {
-        if self.keyless(sub) {
-            return Some(SendRefusal::NoKey(sub));
-        }
+        let own = self.key(sub)?;
         if self.waits(sub) {
-            return Some(SendRefusal::Unfinished);
+            return Err(SendRefusal::Unfinished);
         }
-        if npr && self.keyless(SubKind::Npr) {
-            return Some(SendRefusal::NoKey(SubKind::Npr));
-        }
-        if cpl && self.keyless(SubKind::Cpl) {
-            return Some(SendRefusal::NoKey(SubKind::Cpl));
-        }
-        if self.worn(sub) {
-            return Some(SendRefusal::Worn(sub, self.fixed.limit));
-        }
-        if npr && self.worn(SubKind::Npr) {
-            return Some(SendRefusal::Worn(SubKind::Npr, self.fixed.limit));
-        }
-        if cpl && self.worn(SubKind::Cpl) {
-            return Some(SendRefusal::Worn(SubKind::Cpl, self.fixed.limit));
-        }
-        None
+        let npr = self.sync_key(sub, SubKind::Npr)?;
+        let cpl = self.sync_key(sub, SubKind::Cpl)?;
+        Ok(SendKeys {
+            own: own?,
+            npr: npr?,
+            cpl: cpl?,
+        })
     }
 
-    // Seals a sync packet in the non-posted sub-stream, if one is needed.
-    fn sync_npr(&mut self, needed: bool, sealed: &mut MeasuredPackets, out: &mut Vec<u8>)
-        requires live { needed ≡ true → any_live self.old.tx.npr.slots ≡ true }
-        requires unworn { needed ≡ true → is_spent (send_end_at self.old Npr) ≡ false }
+    // Seals a sync packet in the non-posted sub-stream, if there is a key for one.
+    fn sync_npr(&mut self, key: Option<ReadyKey>, sealed: &mut MeasuredPackets, out: &mut Vec<u8>)
+        requires ready { IfSome key (λ k. ready_end (send_end_at self.old Npr) ≡ Ok k) }
         requires few { self.old.tx.npr.total ≤ 2 ^ 40 }
         requires count { length sealed.old < 3 }
         requires room { vec_len out.old + SYNC_ROOM ≤ vec_capacity out.old }
-        ensures lanes { self.new ≡ ends_after_sync needed Npr self.old }
-        ensures sealed { sealed.new ≡ sealed.old ++ sync_packets needed Npr self.old }
-        ensures bytes { out.new.items ≡ out.old.items ++ sync_bytes needed Npr self.old }
+        ensures lanes { self.new ≡ ends_after_sync (is_some key) Npr self.old }
+        ensures sealed { sealed.new ≡ sealed.old ++ sync_packets (is_some key) Npr self.old }
+        ensures bytes { out.new.items ≡ out.old.items ++ sync_bytes (is_some key) Npr self.old }
         ensures count { length sealed.new ≤ length sealed.old + 1 }
         ensures len { vec_len out.new ≤ vec_len out.old + SYNC_ROOM }
         ensures capacity { vec_capacity out.old ≤ vec_capacity out.new }
     {
-        if needed {
-            let packet = self.npr.sync(out);
+        if let Some(key) = key {
+            let packet = self.npr.sync(key, out);
             sealed.push(packet);
         }
     }
 
-    // Seals a sync packet in the completion sub-stream, if one is needed.
-    fn sync_cpl(&mut self, needed: bool, sealed: &mut MeasuredPackets, out: &mut Vec<u8>)
-        requires live { needed ≡ true → any_live self.old.tx.cpl.slots ≡ true }
-        requires unworn { needed ≡ true → is_spent (send_end_at self.old Cpl) ≡ false }
+    // Seals a sync packet in the completion sub-stream, if there is a key for one.
+    fn sync_cpl(&mut self, key: Option<ReadyKey>, sealed: &mut MeasuredPackets, out: &mut Vec<u8>)
+        requires ready { IfSome key (λ k. ready_end (send_end_at self.old Cpl) ≡ Ok k) }
         requires few { self.old.tx.cpl.total ≤ 2 ^ 40 }
         requires count { length sealed.old < 3 }
         requires room { vec_len out.old + SYNC_ROOM ≤ vec_capacity out.old }
-        ensures lanes { self.new ≡ ends_after_sync needed Cpl self.old }
-        ensures sealed { sealed.new ≡ sealed.old ++ sync_packets needed Cpl self.old }
-        ensures bytes { out.new.items ≡ out.old.items ++ sync_bytes needed Cpl self.old }
+        ensures lanes { self.new ≡ ends_after_sync (is_some key) Cpl self.old }
+        ensures sealed { sealed.new ≡ sealed.old ++ sync_packets (is_some key) Cpl self.old }
+        ensures bytes { out.new.items ≡ out.old.items ++ sync_bytes (is_some key) Cpl self.old }
         ensures count { length sealed.new ≤ length sealed.old + 1 }
         ensures len { vec_len out.new ≤ vec_len out.old + SYNC_ROOM }
         ensures capacity { vec_capacity out.old ≤ vec_capacity out.new }
     {
-        if needed {
-            let packet = self.cpl.sync(out);
+        if let Some(key) = key {
+            let packet = self.cpl.sync(key, out);
             sealed.push(packet);
         }
     }
@@ -468,14 +469,14 @@ impl SendLanes {
     // Seals a posted TLP, which counts in the other two sub-streams.
     fn seal_posted(
         &mut self,
+        key: ReadyKey,
         head: &[u8],
         payload: &[u8],
         more: bool,
         t: bool,
         out: &mut Vec<u8>,
     ) -> MeasuredPacket
-        requires live { any_live self.old.tx.pr.slots ≡ true }
-        requires unworn { is_spent (send_end_at self.old Pr) ≡ false }
+        requires ready { ready_end (send_end_at self.old Pr) ≡ Ok key }
         requires few { self.old.tx.pr.total ≤ 2 ^ 40 }
         requires npr_room { self.old.tx.npr.posted + self.old.fixed.aggregation ≤ 255 + length
             (open_in self.old.tx.pr.slots) }
@@ -492,7 +493,7 @@ impl SendLanes {
             (tlp_said (send_end_at self.old Pr) more t)) }
         ensures capacity { vec_capacity out.old ≤ vec_capacity out.new }
     {
-        let packet = self.pr.seal(head, payload, more, t, out);
+        let packet = self.pr.seal(key, head, payload, more, t, out);
         self.npr.count_posted();
         self.cpl.count_posted();
         packet
@@ -502,14 +503,14 @@ impl SendLanes {
     fn seal(
         &mut self,
         sub: SubKind,
+        key: ReadyKey,
         head: &[u8],
         payload: &[u8],
         more: bool,
         t: bool,
         out: &mut Vec<u8>,
     ) -> MeasuredPacket
-        requires live { any_live (at_sub self.old.tx sub).slots ≡ true }
-        requires unworn { is_spent (send_end_at self.old sub) ≡ false }
+        requires ready { ready_end (send_end_at self.old sub) ≡ Ok key }
         requires few { (at_sub self.old.tx sub).total ≤ 2 ^ 40 }
         requires npr_room { is_posted sub ≡ true → self.old.tx.npr.posted + self.old.fixed.aggregation ≤ 255 + length
             (open_in self.old.tx.pr.slots) }
@@ -527,31 +528,24 @@ impl SendLanes {
         ensures capacity { vec_capacity out.old ≤ vec_capacity out.new }
     {
         match sub {
-            SubKind::Pr => self.seal_posted(head, payload, more, t, out),
-            SubKind::Npr => self.npr.seal(head, payload, more, t, out),
-            SubKind::Cpl => self.cpl.seal(head, payload, more, t, out),
+            SubKind::Pr => self.seal_posted(key, head, payload, more, t, out),
+            SubKind::Npr => self.npr.seal(key, head, payload, more, t, out),
+            SubKind::Cpl => self.cpl.seal(key, head, payload, more, t, out),
         }
     }
 
-    // Seals a TLP that `refusal` does not refuse, after the sync packets that go first.
+    // Seals a TLP after the sync packets that go first, under these keys.
     fn seal_with_syncs(
         &mut self,
         sub: SubKind,
-        npr: bool,
-        cpl: bool,
+        keys: SendKeys,
         head: &[u8],
         payload: &[u8],
         more: bool,
         t: bool,
         out: &mut Vec<u8>,
     ) -> MeasuredPackets
-        requires npr { npr ≡ needs_sync (sealing_lanes self.old) sub Npr }
-        requires cpl { cpl ≡ needs_sync (sealing_lanes self.old) sub Cpl }
-        requires npr_room { is_posted sub ≡ true → (if npr then 0 else (at_sub self.old.tx Npr).posted)
-            + self.old.fixed.aggregation ≤ 255 + length (open_in self.old.tx.pr.slots) }
-        requires cpl_room { is_posted sub ≡ true → (if cpl then 0 else (at_sub self.old.tx Cpl).posted)
-            + self.old.fixed.aggregation ≤ 255 + length (open_in self.old.tx.pr.slots) }
-        requires clear { first_that_holds (refusals (sealing_lanes self.old) sub) ≡ None }
+        requires keys { AreSendKeys self.old sub keys }
         requires few { SealedAtMost (2 ^ 40) self.old.tx }
         requires head_short { length head.now ≤ 16 }
         requires payload_short { length payload.now ≤ 4096 }
@@ -562,9 +556,9 @@ impl SendLanes {
         ensures capacity { vec_capacity out.old ≤ vec_capacity out.new }
     {
         let mut sealed = MeasuredPackets::new();
-        self.sync_npr(npr, &mut sealed, out);
-        self.sync_cpl(cpl, &mut sealed, out);
-        let packet = self.seal(sub, head, payload, more, t, out);
+        self.sync_npr(keys.npr, &mut sealed, out);
+        self.sync_cpl(keys.cpl, &mut sealed, out);
+        let packet = self.seal(sub, keys.own, head, payload, more, t, out);
         sealed.push(packet);
         sealed
     }
@@ -591,12 +585,8 @@ impl SendLanes {
             → IsSealedOrRefused self.old head.now payload.now s number result out.old.items out.new.items self.new }
         ensures capacity { vec_capacity out.old ≤ vec_capacity out.new }
     {
-        let npr = self.needs_sync(sub, SubKind::Npr);
-        let cpl = self.needs_sync(sub, SubKind::Cpl);
-        match self.refusal(sub, npr, cpl) {
-            Some(refusal) => Err(refusal),
-            None => Ok(self.seal_with_syncs(sub, npr, cpl, head, payload, more, t, out)),
-        }
+        let keys = self.keys(sub)?;
+        Ok(self.seal_with_syncs(sub, keys, head, payload, more, t, out))
     }
 
     /// Lets them count from 0 again if none has a Live slot.

@@ -3,7 +3,22 @@
 -- tried for all pairs of slot states. The hard part is the limit of a key: a unit that begins has passed the test for a
 -- worn key, and of an open one the invariant says that it is within the limit.
 use Rattle.std.proofs.Common.{◌≡◌, ℕ, ◌+◌, ◌<◌, ◌≤◌, Bool, true, false, not, ◌&&◌, ◌||◌, ◌==◌, if◌then◌else◌, List, []}
-use Rattle.std.proofs.Common.{◌∷◌, ◌++◌, length, Ok, Err, refl, sym, ap, ◌∙◌, arith, append_assoc, append-nil}
+use Rattle.std.proofs.Common.{
+  ◌∷◌,
+  ◌++◌,
+  length,
+  Some,
+  Ok,
+  Err,
+  refl,
+  sym,
+  ap,
+  ◌∙◌,
+  subst,
+  arith,
+  append_assoc,
+  append-nil,
+}
 use Rattle.std.proofs.Common.{drop, length-append}
 use Rattle.std.proofs.lemmas.Grind.{common_steps}
 use Rattle.gcm_seal.specs.Gcm.{masked_bytes, tag_of}
@@ -14,17 +29,13 @@ use Rattle.ide_prefix.specs.Units.{authenticated_bytes, encrypted_bytes}
 use Rattle.spec_stream.specs.Stream.{LaneSlots, LiveKey, live_sender, sealed_slots, ended_slots}
 use Rattle.key_slots.specs.declared.slot.Slot.{Slot as KeySlot}
 use Rattle.key_slots.specs.declared.slot.Slot.TheVariants.{Empty, Programmed, Armed, Live}
-use Rattle.key_slots.specs.{SlotPair}
+use Rattle.key_slots.specs.{SlotPair, DrawnKey, slot_in, live_held}
 use Rattle.sub_stream.specs.declared.answer.TxRefusal.TheVariants.{Worn}
-use Rattle.sub_stream.specs.Seen.{sender_slots_seen, has_live, both_live}
+use Rattle.sub_stream.specs.declared.sender.ReadyKey.{ReadyKey}
+use Rattle.sub_stream.specs.Seen.{sender_slots_seen, live_key_seen, has_live, both_live}
 use Rattle.sub_stream.specs.Gathered.{Gathered, with_packet, clear_of, no_packets}
 use Rattle.sub_stream.specs.Masked.{masked_packet, packet_with_tag}
-use Rattle.sub_stream.specs.Senders.{Sender, Content, ready_of, ready_key, sealing_of, sealing_if_ready, sealing_by_key}
-use Rattle.sub_stream.specs.Senders.{tagged_packet, ends, sender_ahead, IsSender}
-
-pub sealing_with : (tx : Sender) (total : List ℕ) (c : Content) (more : Bool) (x : Bool × LiveKey) → Ok x ≡ ready_of tx
-    → sealing_of tx total c more ≡ Ok (sealing_by_key tx total x c (ends tx x.1 more))
-sealing_with tx total c more x e = ap (sealing_if_ready tx total c more) (sym e)
+use Rattle.sub_stream.specs.Senders.{Sender, Content, ready_key, tagged_packet, sender_ahead, IsSender}
 
 -- it is the rules' packet
 pub packet-tagged : (tx : Sender) (total : List ℕ) (x : Bool × LiveKey) (c : Content) (m : Bool) (unit : Gathered)
@@ -180,85 +191,79 @@ ahead-sealed false unit2 unit' front is same = ap (λ (u : Gathered). u.ahead) i
 
 -- ---- what always holds
 
-not_worn : (a b : Bool) (x y : Bool × LiveKey) (n : ℕ) → Ok x ≡ (if a && b then Err (Worn n) else Ok y) → a ≡ true → b
-    ≡ false
-not_worn true true x y n e h = absurd (cc)
-not_worn true false x y n e h = refl
-not_worn false b x y n e h = absurd (cc)
+-- the key that a sender is ready with: it is Live, and a unit that begins is one of those that it may seal
+pub record IsReady (pair : SlotPair) (units limit : ℕ) (ps : List Packet) (key : ReadyKey) : Type 0 where
+  pub held : DrawnKey
+  pub is_held : live_held (slot_in pair key.k) ≡ Some held
+  pub draw : key.draw ≡ held.draw
+  pub seen : live_sender (sender_slots_seen pair units ps) ≡ Some (key.k, live_key_seen units ps held)
+  pub live : has_live pair ≡ true
+  pub unworn : ((length ps == 0) && (units == limit)) ≡ false
 
--- a unit that begins is one of those that the key may seal
-begins_within : (pair : SlotPair) (units limit : ℕ) (ps : List Packet) (x : Bool × LiveKey)
-    → Ok x ≡ ready_key limit (live_sender (sender_slots_seen pair units ps)) → (length ps == 0) ≡ true
-    → (units == limit)
-    ≡ false
-begins_within pair units limit ps x = by_slots pair.zero pair.one
-  where
-    by_slots : (a b : KeySlot) → Ok x ≡ ready_key limit
-        (live_sender (sender_slots_seen (record { sender = true; zero = a; one = b }) units ps))
-        → (length ps == 0) ≡ true → (units == limit) ≡ false
-    by_slots (Live g) b e h = not_worn (length ps == 0) (units == limit) x _ limit e h
-    by_slots Empty (Live g) e h = not_worn (length ps == 0) (units == limit) x _ limit e h
-    by_slots (Programmed f) (Live g) e h = not_worn (length ps == 0) (units == limit) x _ limit e h
-    by_slots (Armed f) (Live g) e h = not_worn (length ps == 0) (units == limit) x _ limit e h
-    by_slots Empty Empty e h = absurd (cc)
-    by_slots Empty (Programmed g) e h = absurd (cc)
-    by_slots Empty (Armed g) e h = absurd (cc)
-    by_slots (Programmed f) Empty e h = absurd (cc)
-    by_slots (Programmed f) (Programmed g) e h = absurd (cc)
-    by_slots (Programmed f) (Armed g) e h = absurd (cc)
-    by_slots (Armed f) Empty e h = absurd (cc)
-    by_slots (Armed f) (Programmed g) e h = absurd (cc)
-    by_slots (Armed f) (Armed g) e h = absurd (cc)
+ready_if : (b : Bool) (limit : ℕ) (x key : ReadyKey) → (if b then Err (Worn limit) else Ok x) ≡ Ok key
+    → (b ≡ false) × (x ≡ key)
+ready_if true limit x key e = absurd (cc)
+ready_if false limit x key e = (refl, cc)
 
--- a key that seals is Live
-pub keyed_live : (pair : SlotPair) (units limit : ℕ) (ps : List Packet) (x : Bool × LiveKey)
-    → Ok x ≡ ready_key limit (live_sender (sender_slots_seen pair units ps)) → has_live pair ≡ true
-keyed_live pair units limit ps x = by_slots pair.zero pair.one
+pub ready-is : (pair : SlotPair) (units limit : ℕ) (ps : List Packet) (key : ReadyKey)
+    → ready_key limit (live_sender (sender_slots_seen pair units ps)) ≡ Ok key → IsReady pair units limit ps key
+ready-is pair units limit ps key = by_slots pair.zero pair.one
   where
-    by_slots : (a b : KeySlot) → Ok x ≡ ready_key limit
-        (live_sender (sender_slots_seen (record { sender = true; zero = a; one = b }) units ps))
-        → has_live (record { sender = true; zero = a; one = b }) ≡ true
-    by_slots (Live g) b e = refl
-    by_slots Empty (Live g) e = refl
-    by_slots (Programmed f) (Live g) e = refl
-    by_slots (Armed f) (Live g) e = refl
+    of_slots : KeySlot → KeySlot → SlotPair
+    of_slots a b = record { sender = pair.sender; zero = a; one = b }
+
+    under : (pair : SlotPair) (k : Bool) (x : DrawnKey) → live_held (slot_in pair k) ≡ Some x
+        → live_sender (sender_slots_seen pair units ps) ≡ Some (k, live_key_seen units ps x) → has_live pair ≡ true
+        → ready_key limit (Some (k, live_key_seen units ps x)) ≡ Ok key → IsReady pair units limit ps key
+    under pair k x is_held seen live e =
+        let r = ready_if _ limit _ key e in
+        subst (IsReady pair units limit ps) r.1
+        (record { held = x; is_held = is_held; draw = refl; seen = seen; live = live; unworn = r.0 })
+
+    by_slots : (a b : KeySlot) → ready_key limit (live_sender (sender_slots_seen (of_slots a b) units ps)) ≡ Ok key
+        → IsReady (of_slots a b) units limit ps key
+    by_slots (Live x) b e = under (of_slots (Live x) b) false x refl refl refl e
+    by_slots Empty (Live x) e = under (of_slots Empty (Live x)) true x refl refl refl e
+    by_slots (Programmed y) (Live x) e = under (of_slots (Programmed y) (Live x)) true x refl refl refl e
+    by_slots (Armed y) (Live x) e = under (of_slots (Armed y) (Live x)) true x refl refl refl e
     by_slots Empty Empty e = absurd (cc)
-    by_slots Empty (Programmed g) e = absurd (cc)
-    by_slots Empty (Armed g) e = absurd (cc)
-    by_slots (Programmed f) Empty e = absurd (cc)
-    by_slots (Programmed f) (Programmed g) e = absurd (cc)
-    by_slots (Programmed f) (Armed g) e = absurd (cc)
-    by_slots (Armed f) Empty e = absurd (cc)
-    by_slots (Armed f) (Programmed g) e = absurd (cc)
-    by_slots (Armed f) (Armed g) e = absurd (cc)
+    by_slots Empty (Programmed x) e = absurd (cc)
+    by_slots Empty (Armed x) e = absurd (cc)
+    by_slots (Programmed y) Empty e = absurd (cc)
+    by_slots (Programmed y) (Programmed x) e = absurd (cc)
+    by_slots (Programmed y) (Armed x) e = absurd (cc)
+    by_slots (Armed y) Empty e = absurd (cc)
+    by_slots (Armed y) (Programmed x) e = absurd (cc)
+    by_slots (Armed y) (Armed x) e = absurd (cc)
 
-within_limit : (aggregation limit units : ℕ) (pair : SlotPair) (unit : Gathered) (x : Bool × LiveKey)
-    → IsSender aggregation limit units pair unit → has_live pair ≡ true
-    → Ok x ≡ ready_key limit (live_sender (sender_slots_seen pair units unit.packets)) → units < limit
-within_limit aggregation limit units pair unit x inv live e = by_open (length unit.packets == 0) refl
+not_worn : (a b : Bool) → (a && b) ≡ false → a ≡ true → b ≡ false
+not_worn true b e h = e
+not_worn false b e h = absurd (cc)
+
+within_limit : (aggregation limit units : ℕ) (pair : SlotPair) (unit : Gathered) (key : ReadyKey)
+    → IsSender aggregation limit units pair unit → IsReady pair units limit unit.packets key → units < limit
+within_limit aggregation limit units pair unit key inv ready = by_open (length unit.packets == 0) refl
   where
     by_open : (b : Bool) → (length unit.packets == 0) ≡ b → units < limit
     by_open false h = inv.room h
     by_open true h =
-        let most : units ≤ limit = inv.worn live in
-        let other : (units == limit) ≡ false = begins_within pair units limit unit.packets x e h in
+        let most : units ≤ limit = inv.worn ready.live in
+        let other : (units == limit) ≡ false = not_worn _ _ ready.unworn h in
         grind (arith, common_steps)
 
 pub sender-sealed : (aggregation limit units units' : ℕ) (pair pair' : SlotPair) (unit unit2 unit' : Gathered)
-    (m more : Bool)
-    (x : Bool × LiveKey)
-    → IsSender aggregation limit units pair unit
-    → Ok x ≡ ready_key limit (live_sender (sender_slots_seen pair units unit.packets))
+    (m more : Bool) (key : ReadyKey)
+    → IsSender aggregation limit units pair unit → IsReady pair units limit unit.packets key
     → m ≡ (not more || (length unit.packets + 1 == aggregation))
     → (m ≡ false → length unit2.packets ≡ length unit.packets + 1) → unit2.aggregation ≡ unit.aggregation
     → unit' ≡ (if m then no_packets unit2.aggregation else unit2)
     → pair'.sender ≡ pair.sender → has_live pair' ≡ true → (both_live pair ≡ false → both_live pair' ≡ false)
     → units' ≤ (if m then units + 1 else units) → IsSender aggregation limit units' pair' unit'
-sender-sealed aggregation limit units units' pair pair' unit unit2 unit' true more x inv e is_m more_packets same is
+sender-sealed aggregation limit units units' pair pair' unit unit2 unit' true more key inv ready is_m more_packets same
+    is
     sender
     live' one few =
-    let less : units < limit = within_limit aggregation limit units pair unit x inv
-    (keyed_live pair units limit unit.packets x e) e in
+    let less : units < limit = within_limit aggregation limit units pair unit key inv ready in
     let none : unit'.packets ≡ [] = ap (λ (u : Gathered). u.packets) is in
     record {
       sender = sender ∙ inv.sender;
@@ -271,11 +276,11 @@ sender-sealed aggregation limit units units' pair pair' unit unit2 unit' true mo
       room = rw none (λ no. absurd (cc));
       closed = λ no. absurd (cc);
     }
-sender-sealed aggregation limit units units' pair pair' unit unit2 unit' false more x inv e is_m more_packets same is
+sender-sealed aggregation limit units units' pair pair' unit unit2 unit' false more key inv ready is_m more_packets same
+    is
     sender
     live' one few =
-    let less : units < limit = within_limit aggregation limit units pair unit x inv
-    (keyed_live pair units limit unit.packets x e) e in
+    let less : units < limit = within_limit aggregation limit units pair unit key inv ready in
     let count : length unit'.packets ≡ length unit.packets + 1 = ap (λ (u : Gathered). length u.packets) is ∙
     more_packets refl in
     let not_full : (length unit.packets + 1 == aggregation) ≡ false = last_false (not more) _ (sym is_m) in

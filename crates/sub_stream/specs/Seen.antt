@@ -1,7 +1,5 @@
 -- The two key slots with what is kept beside them.
 use Rattle.std.specs.Prelude.{ℕ, Bool, true, false, ◌&&◌, ◌||◌, List, Option, Some, None}
-use Rattle.std.specs.Option.{option_map}
-use denote.Ref.{Bor}
 use Rattle.ide_prefix.specs.Packet.{Packet}
 use Rattle.spec_stream.specs.Stream.{LaneSlot, Empty, Programmed, Armed, Live, LiveKey, LaneSlots}
 use Rattle.key_slots.specs.declared.slot.Slot.{Slot as KeySlot}
@@ -59,10 +57,6 @@ in_use pair = first_of (live_held pair.zero) (live_held pair.one)
     first_of None (Some y) = Some (true, y)
     first_of None None = None
 
--- a lent key, with its set and its draw, as a value
-abbrev pub shown_in_use : Option (Bool × Bor (List ℕ) × ℕ) → Option (Bool × DrawnKey)
-shown_in_use shown = option_map (λ x. (x.0, record { key = x.1.now; draw = x.2 })) shown
-
--- with the units and the packets that are kept beside it
+-- a Live key with the units and the packets that are kept beside it
 abbrev pub live_key_seen : ℕ → List Packet → DrawnKey → LiveKey
 live_key_seen units packets held = record { draw = held.draw; key = held.key; units = units; packets = packets }

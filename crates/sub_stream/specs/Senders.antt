@@ -2,7 +2,6 @@
 -- profile).
 use Rattle.std.specs.Prelude.{◌≡◌, ℕ, ◌+◌, ◌≤◌, ◌<◌, Bool, true, false, not, ◌&&◌, ◌||◌, ◌==◌, List, [], length, Option}
 use Rattle.std.specs.Prelude.{Some, None, Result, Ok, Err, if◌then◌else◌}
-use Rattle.std.specs.Result.{result_map_both}
 use Rattle.ide_types.specs.declared.sub.SubKind.{SubKind}
 use Rattle.ide_types.specs.declared.port.Side.TheVariants.{Host}
 use Rattle.link_verdicts.specs.declared.verdict.SealedPacket.{SealedPacket as Described}
@@ -15,6 +14,7 @@ use Rattle.sub_stream.specs.declared.answer.MeasuredPacket.{MeasuredPacket}
 use Rattle.sub_stream.specs.declared.answer.TxRefusal.{TxRefusal}
 use Rattle.sub_stream.specs.declared.answer.TxRefusal.TheVariants.{NoKey, Worn}
 use Rattle.sub_stream.specs.declared.sender.PacketParts.{PacketParts}
+use Rattle.sub_stream.specs.declared.sender.ReadyKey.{ReadyKey}
 use Rattle.sub_stream.specs.Seen.{slot_pair, has_live, both_live}
 use Rattle.sub_stream.specs.Gathered.{Gathered}
 
@@ -49,20 +49,23 @@ pub record IsSender (aggregation limit units : ℕ) (pair : SlotPair) (unit : Ga
 
 -- ---- sealing
 
--- a key that may seal a packet, with its set, or why there is none
-abbrev pub ready_key : ℕ → Option (Bool × LiveKey) → Result (Bool × LiveKey) TxRefusal
+-- the key that seals the next packet, or why there is none
+abbrev pub ready_key : ℕ → Option (Bool × LiveKey) → Result ReadyKey TxRefusal
 ready_key limit None = Err NoKey
-ready_key limit (Some x) = if (length x.1.packets == 0) && (x.1.units == limit) then Err (Worn limit) else Ok x
+ready_key limit (Some x) =
+    if (length x.1.packets == 0) && (x.1.units == limit) then Err (Worn limit)
+    else Ok (record { k = x.0; draw = x.1.draw })
 
-abbrev pub ready_of : Sender → Result (Bool × LiveKey) TxRefusal
+abbrev pub ready_of : Sender → Result ReadyKey TxRefusal
 ready_of tx = ready_key tx.limit (live_sender tx.slots)
 
-abbrev pub packets_under : Option (Bool × LiveKey) → List Packet
-packets_under None = []
-packets_under (Some x) = x.1.packets
+-- the Live key of a sender with its set; with no slot Live a key under which nothing was sealed
+abbrev pub key_in_use : Option (Bool × LiveKey) → Bool × LiveKey
+key_in_use None = (false, record { draw = 0; key = []; units = 0; packets = [] })
+key_in_use (Some x) = x
 
 abbrev pub open_packets : Sender → List Packet
-open_packets tx = packets_under (live_sender tx.slots)
+open_packets tx = (key_in_use (live_sender tx.slots)).1.packets
 
 abbrev pub is_unfinished : Sender → Bool
 is_unfinished tx = not (length (open_packets tx) == 0)
@@ -151,25 +154,11 @@ sealing_by_key tx total x c m =
       sender = record tx { ahead = (if m then [] else sender_ahead tx x.1 total); slots = sealed_slots m p tx.slots };
     }
 
-abbrev pub sealing_if_ready : Sender → List ℕ → Content → Bool → Result (Bool × LiveKey) TxRefusal
-    → Result Sealing TxRefusal
-sealing_if_ready tx total c more (Err e) = Err e
-sealing_if_ready tx total c more (Ok x) = Ok (sealing_by_key tx total x c (ends tx x.1 more))
-
--- what becomes of sealing; `more` says that the unit goes on if it has room
-abbrev pub sealing_of : Sender → List ℕ → Content → Bool → Result Sealing TxRefusal
-sealing_of tx total c more = sealing_if_ready tx total c more (ready_of tx)
-
-abbrev pub sealing_answer : Result Sealing TxRefusal → Result MeasuredPacket TxRefusal
-sealing_answer r = result_map_both (λ (s : Sealing). s.description) (λ (e : TxRefusal). e) r
-
-abbrev pub sealing_bytes : Result Sealing TxRefusal → List ℕ
-sealing_bytes (Err e) = []
-sealing_bytes (Ok s) = packet_bytes s.packet
-
-abbrev pub sender_after : Sender → Result Sealing TxRefusal → Sender
-sender_after tx (Err e) = tx
-sender_after tx (Ok s) = s.sender
+-- the next packet of a sender that is ready; `more` says that the unit goes on if it has room
+abbrev pub sealing_of : Sender → List ℕ → Content → Bool → Sealing
+sealing_of tx total c more =
+    let x = key_in_use (live_sender tx.slots) in
+    sealing_by_key tx total x c (ends tx x.1 more)
 
 -- ---- keys
 

@@ -15,4 +15,4 @@ pub use answer::{MeasuredPacket, Taken, TxRefusal};
 pub use facts::{LaneFacts, ReceiverFacts, SenderFacts, SetFacts, SlotFacts, StreamFacts};
 pub use lent::Delivered;
 pub use receiver::Rx;
-pub use sender::{PACKET_ROOM, PAYLOAD_BYTES, SYNC_ROOM, TLP_HEAD_BYTES, Tx};
+pub use sender::{PACKET_ROOM, PAYLOAD_BYTES, ReadyKey, SYNC_ROOM, TLP_HEAD_BYTES, Tx};

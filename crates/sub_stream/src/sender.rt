@@ -1,22 +1,22 @@
 //! The sender of one sub-stream, and the bytes of the packets that it seals.
 
 ghost use Rattle.std.specs.Prelude.{◌≡◌, ◌==◌, ◌&&◌, ◌||◌, ◌^◌, false, ℕ, ◌+◌, ◌<◌, ◌≤◌, List, ◌++◌, [], length};
-ghost use Rattle.std.specs.Prelude.{vec_len, vec_capacity, is_ok, not, true, if◌then◌else◌, IfOk};
-ghost use Rattle.std.specs.Result.{result_map_both};
+ghost use Rattle.std.specs.Prelude.{vec_len, vec_capacity, is_ok, not, true, if◌then◌else◌, IfOk, Some, Ok};
+ghost use Rattle.std.specs.Option.{option_map};
 ghost use Rattle.gcm_seal.specs.Gcm.{masked_bytes, tag_of};
 ghost use Rattle.ide_prefix.specs.Packet.{packet_bytes, prefix_bytes, sync_head};
 ghost use Rattle.ide_prefix.specs.Units.{encrypted_bytes};
 ghost use Rattle.key_slots.specs.{slot_in as key_slot_in, is_one, is_empty, is_live, is_armed as is_armed_key};
-ghost use Rattle.key_slots.specs.{program_answer};
+ghost use Rattle.key_slots.specs.{program_answer, DrawnKey, live_held};
 ghost use Rattle.spec_stream.specs.Slots.{sealing_draw};
-ghost use Rattle.spec_stream.specs.Stream.{ended_slots, live_sender, slot_in_set};
+ghost use Rattle.spec_stream.specs.Stream.{ended_slots, slot_in_set};
 ghost use Rattle.sub_stream.specs.Facts.{set_facts};
 ghost use Rattle.sub_stream.specs.Gathered.{clear_of, lent_totals, with_packet};
 ghost use Rattle.sub_stream.specs.Masked.{masked_packet, packet_with_tag};
 ghost use Rattle.sub_stream.specs.Gathered as gathered;
-ghost use Rattle.sub_stream.specs.Seen.{shown_in_use, in_use, live_key_seen, sender_slots_seen, has_live, both_live};
+ghost use Rattle.sub_stream.specs.Seen.{in_use, sender_slots_seen, has_live, both_live};
 ghost use Rattle.sub_stream.specs.Seen.{has_armed, is_programmed, slot_pair, key_slot};
-ghost use Rattle.sub_stream.specs.Senders.{ready_key, begun_where_empty, carried_content, tlp_content, sync_content};
+ghost use Rattle.sub_stream.specs.Senders.{begun_where_empty, carried_content, tlp_content, sync_content};
 
 use crate::answer::{MeasuredPacket, TxRefusal};
 use crate::facts::{SetFacts, slot_facts};
@@ -82,31 +82,32 @@ impl Model for Tx {
     ghost invariant = { λ s. IsSender s.aggregation s.limit s.units s.slots s.unit };
 }
 
-// The Live key of a sender: its set, its prepared form, lent, and its draw.
-fn live_of(slots: &Slots) -> Option<(bool, &Gcm, u32)>
-    ensures { shown_in_use result ≡ in_use slots.now }
+/// The key that seals a sender's next packet, by its key set (1 if true) and its draw: `Tx::ready` gives it.
+#[derive(Clone, Copy)]
+pub struct ReadyKey {
+    k: bool,
+    draw: u32,
+}
+
+// The Live key of a sender.
+fn live_of(slots: &Slots) -> Option<ReadyKey>
+    ensures { result ≡ option_map (λ x. record { k = x.0; draw = x.1.draw }) (in_use slots.now) }
 {
     match (slots.live_key(KeySet::Zero), slots.live_key(KeySet::One)) {
-        (Some((cipher, draw)), _) => Some((false, cipher, draw)),
-        (None, Some((cipher, draw))) => Some((true, cipher, draw)),
+        (Some((_, draw)), _) => Some(ReadyKey { k: false, draw }),
+        (None, Some((_, draw))) => Some(ReadyKey { k: true, draw }),
         (None, None) => None,
     }
 }
 
-// The key that may seal a packet, which begins a unit if no unit is open; or why there is none.
-fn sealing_key<'a>(
-    slots: &'a Slots,
-    units: u64,
-    unit: &UnitPackets,
-    limit: u64,
-) -> Result<(bool, &'a Gcm, u32), TxRefusal>
-    ensures { result_map_both (λ x. (x.0, live_key_seen units unit.now.packets (record { key = x.1.now; draw = x.2 })))
-        (λ e. e) result ≡ ready_key limit (live_sender (sender_slots_seen slots.now units unit.now.packets)) }
+// The prepared form of the Live key of this set, lent.
+fn cipher_of(slots: &Slots, k: bool) -> &Gcm
+    requires { is_live (key_slot_in slots.now k) ≡ true }
+    ensures { (x : DrawnKey) → live_held (key_slot_in slots.now k) ≡ Some x → result.now ≡ x.key }
 {
-    match live_of(slots) {
-        None => Err(TxRefusal::NoKey),
-        Some(_) if unit.count() == 0 && units == limit => Err(TxRefusal::Worn(limit)),
-        Some(key) => Ok(key),
+    match slots.live_key(KeySet::of_bit(k)) {
+        Some((cipher, _)) => cipher,
+        None => unreachable!(),
     }
 }
 
@@ -185,8 +186,7 @@ fn drop_unit(slots: &Slots, set: KeySet, unit: &mut UnitPackets)
 
 impl Tx {
     ghost use Rattle.sub_stream.specs.Senders.{Content, new_sender, ready_of, is_unfinished, sealing_of};
-    ghost use Rattle.sub_stream.specs.Senders.{sealing_answer, sealing_bytes, sender_after, programmed_sender};
-    ghost use Rattle.sub_stream.specs.Senders.{gone_sender, stopped_sender};
+    ghost use Rattle.sub_stream.specs.Senders.{programmed_sender, gone_sender, stopped_sender};
 
     /// A sender with no key. `aggregation` is 1, 2, 4 or 8, with which `buf` was reserved; `limit` is how many units
     /// one key may seal.
@@ -214,13 +214,16 @@ impl Tx {
         })
     }
 
-    /// Whether the next packet would be sealed, and if not, why.
-    pub fn ready(&self) -> Result<(), TxRefusal>
-        ensures { result ≡ result_map_both (λ _. tt) (λ e. e) (ready_of self.now) }
+    /// The key that seals the next packet. Returns `NoKey` if no slot is Live, and `Worn` if a unit would begin and the
+    /// Live key has sealed as many as it may.
+    pub fn ready(&self) -> Result<ReadyKey, TxRefusal>
+        ensures { result ≡ ready_of self.now }
     {
-        match sealing_key(&self.slots, self.units, &self.unit, self.limit) {
-            Ok(_) => Ok(()),
-            Err(refusal) => Err(refusal),
+        let worn = self.unit.count() == 0 && self.units == self.limit;
+        match live_of(&self.slots) {
+            None => Err(TxRefusal::NoKey),
+            Some(_) if worn => Err(TxRefusal::Worn(self.limit)),
+            Some(key) => Ok(key),
         }
     }
 
@@ -234,34 +237,33 @@ impl Tx {
     // Seals what is carried, and appends its packet.
     fn seal_carried(
         &mut self,
+        key: ReadyKey,
         carried: &PacketParts,
         more: bool,
         total: Option<&[u8; 8]>,
         out: &mut Vec<u8>,
-    ) -> Result<MeasuredPacket, TxRefusal>
+    ) -> MeasuredPacket
+        requires ready { ready_of self.old ≡ Ok key }
         requires head { (if carried.now.sync then sync_head else carried.now.head.now) ≡ carried.now.head.now }
         requires payload { (if carried.now.sync then [] else carried.now.payload.now) ≡ carried.now.payload.now }
         requires head_short { length carried.now.head.now ≤ TLP_HEAD_BYTES }
         requires payload_short { length carried.now.payload.now ≤ PAYLOAD_BYTES }
         requires room { vec_len out.old + PREFIX_BYTES + length carried.now.head.now + length carried.now.payload.now
             + TAG_BYTES ≤ vec_capacity out.old }
-        ensures answer { result ≡ sealing_answer (sealing_of self.old (lent_totals total.entry)
-            (carried_content carried.now) more) }
-        ensures sender { self.new ≡ sender_after self.old (sealing_of self.old (lent_totals total.entry)
-            (carried_content carried.now) more) }
-        ensures bytes { out.new.items ≡ out.old.items ++ sealing_bytes (sealing_of self.old (lent_totals total.entry)
-            (carried_content carried.now) more) }
+        ensures answer { result ≡ (sealing_of self.old (lent_totals total.entry)
+            (carried_content carried.now) more).description }
+        ensures sender { self.new ≡ (sealing_of self.old (lent_totals total.entry)
+            (carried_content carried.now) more).sender }
+        ensures bytes { out.new.items ≡ out.old.items ++ packet_bytes (sealing_of self.old (lent_totals total.entry)
+            (carried_content carried.now) more).packet }
         ensures capacity { vec_capacity out.old ≤ vec_capacity out.new }
     {
-        let (k, cipher, draw) = match sealing_key(&self.slots, self.units, &self.unit, self.limit) {
-            Ok(key) => key,
-            Err(refusal) => return Err(refusal),
-        };
+        let cipher = cipher_of(&self.slots, key.k);
         let m = is_last(&self.unit, self.aggregation, more);
         let unit = self.units + 1;
         let prefix = Prefix {
             m,
-            k,
+            k: key.k,
             t: carried.t,
             sub: self.sub,
             stream: self.stream,
@@ -280,26 +282,28 @@ impl Tx {
             &mut self.unit,
         );
         end_unit(&mut self.slots, &mut self.units, &mut self.unit, m);
-        Ok(MeasuredPacket {
+        MeasuredPacket {
             stream: self.stream,
             sub: self.sub,
-            draw,
+            draw: key.draw,
             unit,
             m,
-            k,
+            k: key.k,
             t: carried.t,
             posted: carried.posted,
             sync: carried.sync,
             length: out.len() - start,
-        })
+        }
     }
 
     /// Seals a TLP's header and payload, and appends its packet to `out`, which has room for `PACKET_ROOM` bytes more.
-    /// `posted` is the posted count, 0 in the posted sub-stream; `more` says that the unit goes on if it has room, and
-    /// `t` that the TLP is trusted. `total` is that of a closed stream (8 bytes): it is authenticated before the
-    /// packets of unit 1 under a key, and is the same for all packets of one unit.
+    /// `key` is what `ready` answers of this sender. `posted` is the posted count, 0 in the posted sub-stream; `more`
+    /// says that the unit goes on if it has room, and `t` that the TLP is trusted. `total` is that of a closed stream
+    /// (8 bytes): it is authenticated before the packets of unit 1 under a key, and is the same for all packets of one
+    /// unit.
     pub fn seal(
         &mut self,
+        key: ReadyKey,
         head: &[u8],
         payload: &[u8],
         posted: u8,
@@ -307,16 +311,17 @@ impl Tx {
         t: bool,
         total: Option<&[u8; 8]>,
         out: &mut Vec<u8>,
-    ) -> Result<MeasuredPacket, TxRefusal>
+    ) -> MeasuredPacket
+        requires ready { ready_of self.old ≡ Ok key }
         requires head_short { length head.now ≤ TLP_HEAD_BYTES }
         requires payload_short { length payload.now ≤ PAYLOAD_BYTES }
         requires room { vec_len out.old + PACKET_ROOM ≤ vec_capacity out.old }
-        ensures answer { result ≡ sealing_answer (sealing_of self.old (lent_totals total.entry)
-            (tlp_content head.now payload.now posted t) more) }
-        ensures sender { self.new ≡ sender_after self.old (sealing_of self.old (lent_totals total.entry)
-            (tlp_content head.now payload.now posted t) more) }
-        ensures bytes { out.new.items ≡ out.old.items ++ sealing_bytes (sealing_of self.old (lent_totals total.entry)
-            (tlp_content head.now payload.now posted t) more) }
+        ensures answer { result ≡ (sealing_of self.old (lent_totals total.entry)
+            (tlp_content head.now payload.now posted t) more).description }
+        ensures sender { self.new ≡ (sealing_of self.old (lent_totals total.entry)
+            (tlp_content head.now payload.now posted t) more).sender }
+        ensures bytes { out.new.items ≡ out.old.items ++ packet_bytes (sealing_of self.old (lent_totals total.entry)
+            (tlp_content head.now payload.now posted t) more).packet }
         ensures capacity { vec_capacity out.old ≤ vec_capacity out.new }
     {
         let carried = PacketParts {
@@ -326,24 +331,26 @@ impl Tx {
             t,
             sync: false,
         };
-        self.seal_carried(&carried, more, total, out)
+        self.seal_carried(key, &carried, more, total, out)
     }
 
     /// Seals a sync packet, which ends its unit, and appends it to `out`, which has room for `SYNC_ROOM` bytes more.
-    /// `posted` and `total` are as for `seal`.
+    /// `key`, `posted` and `total` are as for `seal`.
     pub fn sync(
         &mut self,
+        key: ReadyKey,
         posted: u8,
         total: Option<&[u8; 8]>,
         out: &mut Vec<u8>,
-    ) -> Result<MeasuredPacket, TxRefusal>
-        requires { vec_len out.old + SYNC_ROOM ≤ vec_capacity out.old }
-        ensures answer { result ≡ sealing_answer (sealing_of self.old (lent_totals total.entry)
-            (sync_content posted) false) }
-        ensures sender { self.new ≡ sender_after self.old (sealing_of self.old (lent_totals total.entry)
-            (sync_content posted) false) }
-        ensures bytes { out.new.items ≡ out.old.items ++ sealing_bytes (sealing_of self.old (lent_totals total.entry)
-            (sync_content posted) false) }
+    ) -> MeasuredPacket
+        requires ready { ready_of self.old ≡ Ok key }
+        requires room { vec_len out.old + SYNC_ROOM ≤ vec_capacity out.old }
+        ensures answer { result ≡ (sealing_of self.old (lent_totals total.entry)
+            (sync_content posted) false).description }
+        ensures sender { self.new ≡ (sealing_of self.old (lent_totals total.entry)
+            (sync_content posted) false).sender }
+        ensures bytes { out.new.items ≡ out.old.items ++ packet_bytes (sealing_of self.old (lent_totals total.entry)
+            (sync_content posted) false).packet }
         ensures capacity { vec_capacity out.old ≤ vec_capacity out.new }
     {
         let carried = PacketParts {
@@ -353,7 +360,7 @@ impl Tx {
             t: false,
             sync: true,
         };
-        self.seal_carried(&carried, false, total, out)
+        self.seal_carried(key, &carried, false, total, out)
     }
 
     /// Puts a key of this draw into the slot. Returns `OnlyLive` exactly if this slot is Live and the other holds no
@@ -398,10 +405,7 @@ impl Tx {
     pub fn sealing_draw(&self) -> Option<u32>
         ensures { result ≡ sealing_draw self.now.slots }
     {
-        match live_of(&self.slots) {
-            None => None,
-            Some((_, _, draw)) => Some(draw),
-        }
+        live_of(&self.slots).map(|key| key.draw)
     }
 
     /// The slots, lent.

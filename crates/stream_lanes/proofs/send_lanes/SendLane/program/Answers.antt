@@ -7,7 +7,7 @@ use Rattle.stream_lanes.proofs.send_lanes.SendLane.program.Goals as goal
 
 pub invariant_of-self : goal.invariant_of-self
 invariant_of-self c =
-    subst (λ (tx : Sender). IsSendLane tx c.self.inside.limit c.self.inside.closed c.self.inside.posted
+    subst (λ (tx : Sender). IsSendLane tx c.self.inside.closed c.self.inside.posted
     c.self.inside.total) (sym c.program.ensures.sender)
-    (programmed-kept (is_one c.args.set) c.self.inside.tx c.args.key c.args.draw c.self.inside.limit
-    c.self.inside.closed c.self.inside.posted c.self.inside.total c.self.invariant)
+    (programmed-kept (is_one c.args.set) c.self.inside.tx c.args.key c.args.draw c.self.inside.closed
+    c.self.inside.posted c.self.inside.total c.self.invariant)

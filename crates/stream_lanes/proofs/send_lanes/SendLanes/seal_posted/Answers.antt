@@ -1,7 +1,7 @@
-use Rattle.std.proofs.Common.{◌≡◌, ◌+◌, ◌≤◌, true, length, sym, subst}
+use Rattle.std.proofs.Common.{◌≡◌, ◌+◌, ◌≤◌, length, Ok, sym, ap, ◌∙◌, subst}
 use Rattle.ide_types.specs.declared.sub.SubKind.TheVariants.{Pr, Npr, Cpl}
-use Rattle.spec_stream.specs.Slots.{any_live}
-use Rattle.stream_lanes.specs.Lanes.{SendEnd, SendEnds, HasPostedRoom, open_in, tlp_said, packet_said}
+use Rattle.stream_lanes.specs.Lanes.{SendEnd, SendEnds, HasPostedRoom, send_end_at, ready_end, open_in, tlp_said}
+use Rattle.stream_lanes.specs.Lanes.{packet_said}
 use Rattle.stream_lanes.proofs.Sealing.{room-sealed}
 use Rattle.stream_lanes.proofs.Sent.{lane-kept}
 use Rattle.stream_lanes.proofs.send_lanes.SendLanes.seal_posted.Goals as goal
@@ -11,8 +11,9 @@ invariant_of-self c =
     let inside = c.self.inside in
     let d = tlp_said inside.pr c.args.more c.args.t in
     let p = packet_said inside.pr c.args.head.now c.args.payload.now d in
-    let live : any_live inside.pr.kept.slots ≡ true = subst (λ (x : SendEnds). any_live x.tx.pr.slots ≡ true)
-    (sym c.self.view_is) c.requires.live in
+    let ready : ready_end inside.pr ≡ Ok c.args.key =
+    ap ready_end c.self.invariant.is_pr ∙ ap (λ (x : SendEnds). ready_end (send_end_at x Pr)) c.self.view_is
+    ∙ c.requires.ready in
     let npr : inside.npr.kept.posted + inside.fixed.aggregation ≤ 255 + length (open_in inside.pr.kept.slots) =
     subst (λ (x : SendEnds). x.tx.npr.posted + x.fixed.aggregation ≤ 255 + length (open_in x.tx.pr.slots))
     (sym c.self.view_is)
@@ -32,9 +33,11 @@ invariant_of-self c =
       npr_room =
           subst (λ (y : SendEnd × SendEnd). HasPostedRoom inside.fixed.aggregation y.0.kept y.1.kept)
           (λ i. (sym c.seal-packet.ensures.lane i, sym c.count_posted.ensures i))
-          (room-sealed inside.fixed.aggregation inside.npr.kept.posted d.m p inside.pr.kept.slots live npr);
+          (room-sealed inside.fixed.aggregation inside.npr.kept.posted _ d.m p inside.pr.kept.slots c.args.key ready
+          npr);
       cpl_room =
           subst (λ (y : SendEnd × SendEnd). HasPostedRoom inside.fixed.aggregation y.0.kept y.1.kept)
           (λ i. (sym c.seal-packet.ensures.lane i, sym c.count_posted-2.ensures i))
-          (room-sealed inside.fixed.aggregation inside.cpl.kept.posted d.m p inside.pr.kept.slots live cpl);
+          (room-sealed inside.fixed.aggregation inside.cpl.kept.posted _ d.m p inside.pr.kept.slots c.args.key ready
+          cpl);
     }

@@ -1,14 +1,14 @@
-use Rattle.std.proofs.Common.{◌≡◌, ℕ, ◌+◌, ◌-◌, Bool, false, List, [], ◌∷◌, ◌++◌, if◌then◌else◌, length, Ok, refl}
-use Rattle.std.proofs.Common.{sym, ap, ◌∙◌, arith, length-append}
+use Rattle.std.proofs.Common.{◌≡◌, ℕ, ◌+◌, ◌-◌, Bool, false, List, [], ◌∷◌, ◌++◌, if◌then◌else◌, length, Option, Some}
+use Rattle.std.proofs.Common.{refl, sym, ap, ◌∙◌, arith, length-append}
 use Rattle.ide_prefix.specs.declared.packet.Prefix.{Prefix}
 use Rattle.ide_prefix.specs.Packet.{Packet, packet_bytes}
-use Rattle.spec_stream.specs.Stream.{LiveKey, sealed_slots}
+use Rattle.spec_stream.specs.Stream.{LiveKey, live_sender, sealed_slots}
 use Rattle.sub_stream.specs.Gathered.{Gathered, lent_totals}
 use Rattle.sub_stream.specs.Masked.{masked_packet, packet_with_tag}
 use Rattle.sub_stream.specs.Seen.{sender_slots_seen, live_key_seen}
-use Rattle.sub_stream.specs.Senders.{Sender, Content, carried_content, sealing_of, sealing_by_key, sealing_answer}
-use Rattle.sub_stream.specs.Senders.{sealing_bytes, sender_after, tagged_packet, sender_ahead}
-use Rattle.sub_stream.proofs.Sealed.{sealing_with, packet-tagged, slots-sealed, ahead-sealed, sender-sealed}
+use Rattle.sub_stream.specs.Senders.{Sender, Content, Sealing, ready_of, carried_content, key_in_use, ends, sealing_of}
+use Rattle.sub_stream.specs.Senders.{sealing_by_key, tagged_packet, sender_ahead}
+use Rattle.sub_stream.proofs.Sealed.{IsReady, ready-is, packet-tagged, slots-sealed, ahead-sealed, sender-sealed}
 use Rattle.sub_stream.proofs.sender.Tx.seal_carried.Goals as goal
 
 -- the sender as it was, the key that it seals under, and what it seals
@@ -22,17 +22,37 @@ tx c = record {
   slots = sender_slots_seen c.self.inside.slots c.self.inside.units c.self.inside.unit.packets;
 }
 
+ready : (c : goal.After-len) → IsReady c.self.inside.slots c.self.inside.units c.self.inside.limit
+    c.self.inside.unit.packets c.args.key
+ready c =
+    ready-is c.self.inside.slots c.self.inside.units c.self.inside.limit c.self.inside.unit.packets c.args.key
+    (ap ready_of c.self.view_is ∙ c.requires.ready)
+
 key : goal.After-len → Bool × LiveKey
 key c = (
-  c.in-Ok.key.0,
+  c.args.key.k,
   live_key_seen c.self.inside.units c.self.inside.unit.packets
-      (record { key = c.in-Ok.key.1.now; draw = c.in-Ok.key.2 }),
+      (record { key = c.cipher_of-cipher.result.now; draw = c.args.key.draw }),
 )
+
+live : (c : goal.After-len) → live_sender (tx c).slots ≡ Some (key c)
+unfolding tx key
+live c =
+    (ready c).seen
+    ∙ (λ i. Some (
+      c.args.key.k,
+      live_key_seen c.self.inside.units c.self.inside.unit.packets
+          (record {
+            key = sym (c.cipher_of-cipher.ensures (ready c).held (ready c).is_held) i;
+            draw = sym (ready c).draw
+                i;
+          }),
+    ))
 
 prefix : goal.After-len → Prefix
 prefix c = record {
   m = c.is_last-m.result;
-  k = c.in-Ok.key.0;
+  k = c.args.key.k;
   t = c.args.carried.now.t;
   sub = c.self.inside.sub;
   stream = c.self.inside.stream;
@@ -49,16 +69,18 @@ unit : goal.After-len → Gathered
 unit c = c.begin_where_empty.new.unit
 
 sealing : (c : goal.After-len) → sealing_of c.args.self.now (total c) (content c) c.args.more
-    ≡ Ok (sealing_by_key (tx c) (total c) (key c) (content c) c.is_last-m.result)
+    ≡ sealing_by_key (tx c) (total c) (key c) (content c) c.is_last-m.result
 unfolding tx key total content
 sealing c =
     ap (λ (s : Sender). sealing_of s (total c) (content c) c.args.more) (sym c.self.view_is)
-    ∙ sealing_with (tx c) (total c) (content c) c.args.more (key c) c.in-Ok.ensures
-    ∙ ap (λ m. Ok (sealing_by_key (tx c) (total c) (key c) (content c) m)) (sym c.is_last-m.ensures)
+    ∙ ap (λ (o : Option (Bool × LiveKey)). sealing_by_key (tx c) (total c) (key_in_use o) (content c)
+    (ends (tx c) (key_in_use o).1 c.args.more)) (live c)
+    ∙ ap (sealing_by_key (tx c) (total c) (key c) (content c)) (sym c.is_last-m.ensures)
 
 packet : (c : goal.After-len) → Packet
-packet c = packet_with_tag c.is_last-m.result c.in-Ok.key.1.now c.unit_iv-iv.result (unit c)
-    (masked_packet c.in-Ok.key.1.now c.unit_iv-iv.result (unit c).packets (prefix c) c.args.carried.now.head.now
+packet c = packet_with_tag c.is_last-m.result c.cipher_of-cipher.result.now c.unit_iv-iv.result (unit c)
+    (masked_packet c.cipher_of-cipher.result.now c.unit_iv-iv.result (unit c).packets (prefix c)
+    c.args.carried.now.head.now
     c.args.carried.now.payload.now)
 
 packet_is : (c : goal.After-len) → packet c ≡ tagged_packet (tx c) (total c) (key c) (content c) c.is_last-m.result
@@ -77,7 +99,7 @@ pub returns-clause-bytes : goal.returns-clause-bytes
 unfolding total content
 returns-clause-bytes c =
     bytes c ∙ ap (λ p. c.args.out.now.items ++ packet_bytes p) (packet_is c)
-    ∙ ap (λ r. c.args.out.now.items ++ sealing_bytes r) (sym (sealing c))
+    ∙ ap (λ (s : Sealing). c.args.out.now.items ++ packet_bytes s.packet) (sym (sealing c))
 
 pub returns-clause-answer : goal.returns-clause-answer
 unfolding tx key total content
@@ -92,20 +114,21 @@ returns-clause-answer c =
       c.append_packet.new.out.ok.0,
       c.args.out.now.ok.0,
     ) in
-    ap (λ (l : ℕ). Ok (record (sealing_by_key (tx c) (total c) (key c) (content c) c.is_last-m.result).description
-    { length = l })) (n ∙ ap (λ p. length (packet_bytes p)) (packet_is c))
-    ∙ ap sealing_answer (sym (sealing c))
+    ap (λ (l : ℕ). record (sealing_by_key (tx c) (total c) (key c) (content c) c.is_last-m.result).description
+    { length = l }) (n ∙ ap (λ p. length (packet_bytes p)) (packet_is c))
+    ∙ ap (λ (s : Sealing). s.description) (sym (sealing c))
 
 -- the packet before its tag is the last of a unit that goes on
 open_packets : (c : goal.After-len) → List Packet
-open_packets c = c.self.inside.unit.packets ++ masked_packet c.in-Ok.key.1.now c.unit_iv-iv.result (unit c).packets
+open_packets c = c.self.inside.unit.packets ++ masked_packet c.cipher_of-cipher.result.now c.unit_iv-iv.result
+    (unit c).packets
     (prefix c) c.args.carried.now.head.now c.args.carried.now.payload.now ∷ []
 
 more_packets : (c : goal.After-len) → c.is_last-m.result ≡ false → c.append_packet.new.unit.packets ≡ open_packets c
 unfolding prefix unit open_packets
 more_packets c e =
     ap (λ (u : Gathered). u.packets) (c.append_packet.ensures.unit e)
-    ∙ ap (λ ps. ps ++ masked_packet c.in-Ok.key.1.now c.unit_iv-iv.result (unit c).packets (prefix c)
+    ∙ ap (λ ps. ps ++ masked_packet c.cipher_of-cipher.result.now c.unit_iv-iv.result (unit c).packets (prefix c)
     c.args.carried.now.head.now c.args.carried.now.payload.now ∷ [])
     (ap (λ (u : Gathered). u.packets) c.begin_where_empty.ensures)
 
@@ -135,7 +158,7 @@ returns-clause-sender c =
       slots = sealed_slots
           c.is_last-m.result p (tx c).slots;
     }) (packet_is c)
-    ∙ ap (sender_after c.args.self.now) (sym (sealing c))
+    ∙ ap (λ (s : Sealing). s.sender) (sym (sealing c))
 
 pub invariant_of-self : goal.invariant_of-self
 unfolding open_packets key
@@ -143,7 +166,7 @@ invariant_of-self c =
     let count : c.is_last-m.result ≡ false → length c.append_packet.new.unit.packets
     ≡ length c.self.inside.unit.packets + 1 =
     λ e. ap length (more_packets c e) ∙ length-append c.self.inside.unit.packets _ in
-    sender-sealed _ _ _ _ _ _ _ _ _ c.is_last-m.result c.args.more (key c) c.self.invariant c.in-Ok.ensures
+    sender-sealed _ _ _ _ _ _ _ _ _ c.is_last-m.result c.args.more c.args.key c.self.invariant (ready c)
     c.is_last-m.ensures count
     (c.append_packet.ensures.aggregation ∙ ap (λ (u : Gathered). u.aggregation) c.begin_where_empty.ensures)
     c.end_unit.ensures.unit c.end_unit.ensures.sender c.end_unit.ensures.live c.end_unit.ensures.one_live
