@@ -4,6 +4,7 @@ pub mod Sends
 pub mod Resets
 mod Operations
 pub mod Asked
+mod Places
 mod Settled
 pub mod BesideAfter
 pub use Rattle.line_arrivals.proofs.{find_at, port_is, wired, there, set_read, machine_found}

@@ -3,7 +3,6 @@
 ghost use Rattle.std.specs.Prelude.{◌≡◌, ◌+◌, ◌<◌, ◌≤◌, ◌^◌, ◌&&◌, ℕ, Some, None, [], IfOk, IfSome, IsSome};
 ghost use Rattle.std.specs.Prelude.{true, List, length, nat_lt, if◌then◌else◌};
 ghost use Rattle.ide_types.specs.Lines.{is_peer_line};
-ghost use Rattle.link_events.specs.Interfaces.{IsAllowedInterface};
 ghost use Rattle.ide_types.specs.RegisterNames.{width_of};
 
 use crate::links::Links;
@@ -95,8 +94,8 @@ impl Links {
             .operate_on(at.0, &mut self.keeper, interface, op, loss)
     }
 
-    /// An operation on an interface, which is found at this place, that reads no report, of any event that has its
-    /// verdict. It has none if a reply is bad, or if an exchange is lost none of whose messages is lost.
+    /// An operation on an interface, which is found at this place, and stays there, that reads no report, of any event
+    /// that has its verdict. It has none if a reply is bad, or if an exchange is lost none of whose messages is lost.
     pub fn operate_interface(
         &mut self,
         alloc: Global,
@@ -113,6 +112,7 @@ impl Links {
             → answer_of_links self.old event ≡ op_verdict self.old number op loss
             → EndsAs plan result self.old self.new (Event.Interface event) }
         ensures sides { IfSome result (λ v. BesideAsking number op loss self.old self.new) }
+        ensures place { interface_named self.new.keeper.interfaces self.new.ends.links number ≡ at }
     {
         match at {
             None => Some(self.only(Verdict::Nothing)),
@@ -123,6 +123,32 @@ impl Links {
                 asked_verdict(number as u8, loss, outcome, none)
             }
         }
+    }
+
+    /// Locks the interface of a number (TDISP section 11.3, in this profile). It has no verdict where
+    /// `operate_interface` has none.
+    pub fn lock(&mut self, alloc: Global, number: u64, loss: Option<Loss>) -> Option<Verdict>
+        requires steps { self.old.steps < 2 ^ 28 }
+        requires bounded { IsBounded self.old.ends self.old.packets.packets self.old.steps }
+        ensures ends { (plan : PlanView) → EndsAs plan result self.old self.new
+            (Event.Interface (InterfaceEvent.Lock number loss)) }
+        ensures sides { IfSome result (λ v. BesideInterface (InterfaceEvent.Lock number loss) self.old self.new) }
+    {
+        let at = self.interface(number);
+        self.operate_interface(alloc, InterfaceOperation::Lock, number, at, loss)
+    }
+
+    /// Asks for the state of the interface of a number (TDISP section 11.3, in this profile). It has no verdict where
+    /// `operate_interface` has none.
+    pub fn state(&mut self, alloc: Global, number: u64, loss: Option<Loss>) -> Option<Verdict>
+        requires steps { self.old.steps < 2 ^ 28 }
+        requires bounded { IsBounded self.old.ends self.old.packets.packets self.old.steps }
+        ensures ends { (plan : PlanView) → EndsAs plan result self.old self.new
+            (Event.Interface (InterfaceEvent.State number loss)) }
+        ensures sides { IfSome result (λ v. BesideInterface (InterfaceEvent.State number loss) self.old self.new) }
+    {
+        let at = self.interface(number);
+        self.operate_interface(alloc, InterfaceOperation::State, number, at, loss)
     }
 
     // The stream between devices as the manager has it, by its line and its ID, if the device of the interface at this
@@ -151,8 +177,9 @@ impl Links {
         }
     }
 
-    // Binds an interface to a stream between devices, which is named by its line and its ID.
-    fn bind(
+    /// Binds the interface of a number to a stream between devices, which is named by its line, 24 to 31, and its ID
+    /// (TDISP section 11.3, in this profile). It has no verdict where `operate_interface` has none.
+    pub fn bind(
         &mut self,
         alloc: Global,
         number: u64,
@@ -181,8 +208,9 @@ impl Links {
         }
     }
 
-    // Ends that binding.
-    fn unbind(
+    /// Ends the binding of the interface of a number to a stream between devices, which is named as in `bind` (TDISP
+    /// section 11.3, in this profile). It has no verdict where `operate_interface` has none.
+    pub fn unbind(
         &mut self,
         alloc: Global,
         number: u64,
@@ -211,8 +239,10 @@ impl Links {
         }
     }
 
-    // Reads a report; the room for the longest is taken first.
-    fn report(
+    /// Reads the report of the interface of a number (TDISP section 11.3, in this profile). It has no verdict where
+    /// `operate_interface` has none. Room for the longest report, 1,140 bytes, is taken first: for want of memory
+    /// nothing changes.
+    pub fn report(
         &mut self,
         alloc: Global,
         number: u64,
@@ -240,7 +270,8 @@ impl Links {
         }
     }
 
-    fn view(&mut self, number: u64) -> Verdict
+    /// The manager's view of the interface of a number (this profile).
+    pub fn view(&mut self, number: u64) -> Verdict
         requires steps { self.old.steps < 2 ^ 28 }
         requires bounded { IsBounded self.old.ends self.old.packets.packets self.old.steps }
         ensures ends { (plan : PlanView) → EndsWith plan result self.old self.new
@@ -257,7 +288,8 @@ impl Links {
         }
     }
 
-    fn write(&mut self, number: u64, register: Register, value: u64) -> Verdict
+    /// Writes a value, of the register's width in bits, to a register of the interface of a number (this profile).
+    pub fn write(&mut self, number: u64, register: Register, value: u64) -> Verdict
         requires steps { self.old.steps < 2 ^ 28 }
         requires bounded { IsBounded self.old.ends self.old.packets.packets self.old.steps }
         requires width { value < 2 ^ width_of register }
@@ -299,7 +331,8 @@ impl Links {
         }
     }
 
-    fn firmware(&mut self, number: u64) -> Verdict
+    /// A firmware update of the interface of a number (this profile).
+    pub fn firmware(&mut self, number: u64) -> Verdict
         requires steps { self.old.steps < 2 ^ 28 }
         requires bounded { IsBounded self.old.ends self.old.packets.packets self.old.steps }
         ensures ends { (plan : PlanView) → EndsWith plan result self.old self.new
@@ -316,8 +349,14 @@ impl Links {
         }
     }
 
-    // Bytes of trusted memory, if one region has them all.
-    fn memory(&mut self, alloc: Global, address: u64, length: u64) -> Result<Verdict, OutOfMemory>
+    /// Shows so many bytes of trusted memory from an address on, if one region has them all (this profile). For want of
+    /// memory nothing changes.
+    pub fn memory(
+        &mut self,
+        alloc: Global,
+        address: u64,
+        length: u64,
+    ) -> Result<Verdict, OutOfMemory>
         requires steps { self.old.steps < 2 ^ 28 }
         requires bounded { IsBounded self.old.ends self.old.packets.packets self.old.steps }
         ensures ends { (plan : PlanView) → EndsOr plan result self.old self.new
@@ -330,65 +369,6 @@ impl Links {
             Ok(self.shows(InterfaceVerdict::Memory { bytes }))
         } else {
             Ok(self.only(Verdict::Nothing))
-        }
-    }
-
-    /// The verdict of an event on an interface or on trusted memory, if it has one. For want of memory nothing changes.
-    pub fn ask(
-        &mut self,
-        alloc: Global,
-        event: &InterfaceEvent,
-    ) -> Result<Option<Verdict>, OutOfMemory>
-        requires steps { self.old.steps < 2 ^ 28 }
-        requires bounded { IsBounded self.old.ends self.old.packets.packets self.old.steps }
-        requires allowed { IsAllowedInterface event.now }
-        ensures ends { (plan : PlanView) → EndsAsOr plan result self.old self.new (Event.Interface event.now) }
-        ensures sides { IfOk result (λ o. IfSome o (λ v. BesideInterface event.now self.old self.new)) }
-    {
-        match event {
-            InterfaceEvent::Lock { interface, lose } => {
-                let at = self.interface(*interface);
-                Ok(self.operate_interface(alloc, InterfaceOperation::Lock, *interface, at, *lose))
-            }
-            InterfaceEvent::Report { interface, lose } => self.report(alloc, *interface, *lose),
-            InterfaceEvent::Start { interface, lose } => {
-                let at = self.interface(*interface);
-                Ok(self.operate_interface(alloc, InterfaceOperation::Start, *interface, at, *lose))
-            }
-            InterfaceEvent::Halt { interface, lose } => {
-                let at = self.interface(*interface);
-                Ok(self.operate_interface(alloc, InterfaceOperation::Halt, *interface, at, *lose))
-            }
-            InterfaceEvent::State { interface, lose } => {
-                let at = self.interface(*interface);
-                Ok(self.operate_interface(alloc, InterfaceOperation::State, *interface, at, *lose))
-            }
-            InterfaceEvent::Bind {
-                interface,
-                line,
-                stream,
-                lose,
-            } => Ok(self.bind(alloc, *interface, *line, *stream, *lose)),
-            InterfaceEvent::Unbind {
-                interface,
-                line,
-                stream,
-                lose,
-            } => Ok(self.unbind(alloc, *interface, *line, *stream, *lose)),
-            InterfaceEvent::View { interface } => Ok(Some(self.view(*interface))),
-            InterfaceEvent::Write {
-                interface,
-                register,
-                value,
-            } => Ok(Some(self.write(*interface, *register, *value))),
-            InterfaceEvent::Flr { interface } => {
-                let at = self.interface(*interface);
-                Ok(Some(self.flr(*interface, at)))
-            }
-            InterfaceEvent::Firmware { interface } => Ok(Some(self.firmware(*interface))),
-            InterfaceEvent::Memory { address, length } => {
-                Ok(Some(self.memory(alloc, *address, *length)?))
-            }
         }
     }
 }

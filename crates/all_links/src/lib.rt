@@ -8,5 +8,5 @@ mod links;
 mod packets;
 mod streams;
 
-pub use line_arrivals::{Arriving, land};
+pub use line_arrivals::{Arriving, Packets, land};
 pub use links::Links;

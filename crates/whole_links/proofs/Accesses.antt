@@ -31,9 +31,7 @@ use Rattle.all_links.specs.Interfaces.{interface_named}
 use Rattle.all_links.specs.Accesses.{is_sending, AccessesTurn, carried_on_link, same_reads, same_floors, same_carried}
 use Rattle.all_links.specs.Accesses.{device_draw, nothing_happens}
 use Rattle.ide_types.specs.declared.memory.OutOfMemory.{OutOfMemory}
-use Rattle.link_events.specs.declared.event.Loss.{Loss}
 use Rattle.link_events.specs.declared.event.InterfaceEvent.{InterfaceEvent}
-use Rattle.link_events.specs.declared.event.InterfaceEvent.TheVariants as ie
 use Rattle.all_links.specs.{IsThere}
 use Rattle.whole_links.specs.declared.whole.WholeLinks.{WholeLinks}
 use Rattle.whole_links.specs.Whole.{HasAllAccesses}
@@ -316,27 +314,10 @@ forward_takes xs link way a a' w is after sealed =
 
 -- ---- events on interfaces that leave accesses
 
--- none of the three that do not
-quiet_at : (e : InterfaceEvent) (verdict : Verdict) (old new : WholeLinks)
-    → ((i : ℕ) (loss : Option Loss) → e ≡ ie.Start i loss → ⊥) → ((i : ℕ) (loss : Option Loss) → e ≡ ie.Halt i loss → ⊥)
-    → ((i : ℕ) → e ≡ ie.Flr i → ⊥) → new.accesses ≡ old.accesses → AccessesInterface e verdict old new
-quiet_at (ie.Start i loss) verdict old new start halt flr same = absurd (start i loss refl)
-quiet_at (ie.Halt i loss) verdict old new start halt flr same = absurd (halt i loss refl)
-quiet_at (ie.Flr i) verdict old new start halt flr same = absurd (flr i refl)
-quiet_at (ie.Lock i loss) verdict old new start halt flr same = same
-quiet_at (ie.Report i loss) verdict old new start halt flr same = same
-quiet_at (ie.State i loss) verdict old new start halt flr same = same
-quiet_at (ie.Bind i line stream loss) verdict old new start halt flr same = same
-quiet_at (ie.Unbind i line stream loss) verdict old new start halt flr same = same
-quiet_at (ie.View i) verdict old new start halt flr same = same
-quiet_at (ie.Write i register value) verdict old new start halt flr same = same
-quiet_at (ie.Firmware i) verdict old new start halt flr same = same
-quiet_at (ie.Memory at len) verdict old new start halt flr same = same
-
-pub quiet_or : (r : Result (Option Verdict) OutOfMemory) (e : InterfaceEvent) (old new : WholeLinks)
-    → ((i : ℕ) (loss : Option Loss) → e ≡ ie.Start i loss → ⊥) → ((i : ℕ) (loss : Option Loss) → e ≡ ie.Halt i loss → ⊥)
-    → ((i : ℕ) → e ≡ ie.Flr i → ⊥) → new.accesses ≡ old.accesses
-    → IfOk r (λ o. IfSome o (λ verdict. AccessesInterface e verdict old new))
-quiet_or (Ok (Some verdict)) e old new start halt flr same = quiet_at e verdict old new start halt flr same
-quiet_or (Ok None) e old new start halt flr same = tt
-quiet_or (Err memory) e old new start halt flr same = tt
+pub quiet_or : (r : Result (Option Verdict) OutOfMemory) (event e : InterfaceEvent) (old new : WholeLinks) → event ≡ e
+    → ((verdict : Verdict) → AccessesInterface e verdict old new)
+    → IfOk r (λ o. IfSome o (λ verdict. AccessesInterface event verdict old new))
+quiet_or (Ok (Some verdict)) event e old new is quiet =
+    subst (λ (y : InterfaceEvent). AccessesInterface y verdict old new) (sym is) (quiet verdict)
+quiet_or (Ok None) event e old new is quiet = tt
+quiet_or (Err memory) event e old new is quiet = tt

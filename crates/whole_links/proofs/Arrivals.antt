@@ -2,6 +2,7 @@
 use Rattle.std.proofs.Common.{◌≡◌, ℕ, ◌+◌, Bool, true, false, List, refl, ap, sym, ◌∙◌, subst, arith}
 use Rattle.std.specs.Prelude.{Option, Some, None, option_map, if◌then◌else◌}
 use Rattle.std.specs.Option.{option_and_then}
+use Rattle.std.proofs.lemmas.Option.{none-some, same_Some}
 use Rattle.ide_types.specs.declared.port.PortName.{PortName}
 use Rattle.ide_types.specs.declared.plan.Plan.{Plan}
 use Rattle.link_events.specs.declared.event.Event.{Event}
@@ -28,8 +29,10 @@ use Rattle.all_links.specs.declared.links.Links.{Links}
 use Rattle.all_links.proofs.{sealed_there}
 use Rattle.whole_links.specs.Accesses.{AccessesArriveAt}
 use Rattle.whole_links.specs.Besides.{beside_whole}
-use Rattle.whole_links.specs.Packets.{bytes_left, packet_event}
+use Rattle.whole_links.specs.Packets.{altered_bytes, bytes_left, packet_event, incoming_event, passed_on, brought_in}
 use Rattle.whole_links.specs.Whole.{IsBoundedWhole, WholeEnds}
+use Rattle.whole_links.specs.declared.packets.Incoming.{Incoming}
+use Rattle.whole_links.specs.declared.packets.Incoming.TheVariants.{Given, Sent}
 use Rattle.whole_links.specs.declared.packets.Passage.{Passage}
 use Rattle.whole_links.specs.declared.packets.Passage.TheVariants.{Whole, Altered, Cut}
 use Rattle.whole_links.specs.declared.whole.WholeLinks.{WholeLinks}
@@ -44,90 +47,132 @@ pub record IsBrought (plan : Plan) (old : Links) (e : Event) (end : PortName) (b
   pub step : (b : BesidePorts) → step_of plan b (links_state plan old) e
       ≡ stepped_arrival plan b (links_state plan old) (arrival_on plan end bytes)
 
-pub brought_port : (plan : Plan) (old : Links) (port : PortName) (bytes : List ℕ) → has_port plan port ≡ true
-    → IsBrought plan old (Arrive port bytes) port bytes
-unfolding step_of
-brought_port plan old port bytes has = record {
-  quiet = λ w k. refl;
-  has = λ h links stands. has;
-  arrival = ap (λ (t : Bool). if t then Some (arrival_at plan port bytes) else None) has;
-  step = λ b.
-      ap (λ (t : Bool). if t then stepped_arrival plan b (links_state plan old) (Some (arrival_at plan port bytes))
-      else (v.Nothing, links_state plan old)) has;
-}
+-- ---- what an event brings
 
-pub no_port : (plan : Plan) (b : BesidePorts) (st : LinkState) (port : PortName) (bytes : List ℕ)
-    → has_port plan port ≡ false → step_of plan b st (Arrive port bytes) ≡ (v.Nothing, st)
-unfolding step_of
-no_port plan b st port bytes has =
-    ap (λ (t : Bool). if t then stepped_arrival plan b st (Some (arrival_at plan port bytes)) else (v.Nothing, st)) has
+-- it arrives
+abbrev arrival_by : Plan → Option LinkPacket → Option Arrival
+arrival_by plan o = option_and_then (λ (x : LinkPacket). arrival_on plan x.port x.bytes) o
 
--- ---- packets by number
-
--- what is left of a packet arrives at the port of the other end of its line
-abbrev left_of : Plan → Passage → LinkPacket → Option Arrival
-left_of plan p x = option_map (brought_to plan x) (bytes_left p x.bytes)
-
-module _ (plan : Plan) (st : LinkState) (n : ℕ) where
-  packet_arrival : (p : Passage) → arrival_of plan st (packet_event n p)
-      ≡ option_and_then (left_of plan p) (packet_numbered st.packets n)
-  packet_arrival Whole = refl
-  packet_arrival (Altered at mask) = by (packet_numbered st.packets n)
+module _ (plan : Plan) (st : LinkState) where
+  -- a packet of a number
+  packet_arrival : (n : ℕ) (p : Passage) → arrival_of plan st (packet_event n p)
+      ≡ option_and_then (λ (x : LinkPacket). option_map (brought_to plan x) (bytes_left p x.bytes))
+      (packet_numbered st.packets n)
+  packet_arrival n Whole = refl
+  packet_arrival n (Altered at mask) = by (packet_numbered st.packets n)
     where
       by : (o : Option LinkPacket) → option_and_then (altered_to plan at mask) o
-          ≡ option_and_then (left_of plan (Altered at mask)) o
+          ≡ option_and_then (λ (x : LinkPacket). option_map (brought_to plan x) (altered_bytes at mask x.bytes)) o
       by None = refl
       by (Some x) = grind arith
-  packet_arrival (Cut len) = by (packet_numbered st.packets n)
+  packet_arrival n (Cut len) = by (packet_numbered st.packets n)
     where
       by : (o : Option LinkPacket) → option_and_then (cut_short plan len) o
-          ≡ option_and_then (left_of plan (Cut len)) o
+          ≡ option_and_then (λ (x : LinkPacket). option_map (brought_to plan x) (bytes_left (Cut len) x.bytes)) o
       by None = refl
       by (Some x) = grind arith
 
-  packet_step : (p : Passage) (b : BesidePorts) → step_of plan b st (packet_event n p)
+  left_by : (x : LinkPacket) (o : Option (List ℕ)) → option_map (brought_to plan x) o
+      ≡ arrival_by plan (option_map (λ (bytes : List ℕ). record { port = partner x.port; bytes = bytes }) o)
+  left_by x None = refl
+  left_by x (Some bytes) = refl
+
+  left_of : (p : Passage) (o : Option LinkPacket)
+      → option_and_then (λ (x : LinkPacket). option_map (brought_to plan x) (bytes_left p x.bytes)) o
+      ≡ arrival_by plan (option_and_then (passed_on p) o)
+  left_of p None = refl
+  left_of p (Some x) = left_by x (bytes_left p x.bytes)
+
+  incoming_arrival : (i : Incoming) → arrival_of plan st (incoming_event i)
+      ≡ arrival_by plan (brought_in plan st.packets i)
+  incoming_arrival (Given port bytes) = by (has_port plan port)
+    where
+      by : (b : Bool) → (if b then Some (arrival_at plan port bytes.now) else None)
+          ≡ arrival_by plan (if b then Some (record { port = port; bytes = bytes.now }) else None)
+      by true = refl
+      by false = refl
+  incoming_arrival (Sent n p) = packet_arrival n p ∙ left_of p (packet_numbered st.packets n)
+
+  packet_step : (n : ℕ) (p : Passage) (b : BesidePorts) → step_of plan b st (packet_event n p)
       ≡ stepped_arrival plan b st (arrival_of plan st (packet_event n p))
   unfolding step_of
-  packet_step Whole b = refl
-  packet_step (Altered at mask) b = refl
-  packet_step (Cut len) b = refl
+  packet_step n Whole b = refl
+  packet_step n (Altered at mask) b = refl
+  packet_step n (Cut len) b = refl
 
-  pub no_packet : (p : Passage) → None ≡ packet_numbered st.packets n → (b : BesidePorts)
-      → step_of plan b st (packet_event n p) ≡ (v.Nothing, st)
-  no_packet p none b =
-      packet_step p b ∙ ap (λ (a : Option Arrival). stepped_arrival plan b st a)
-      (packet_arrival p ∙ ap (λ (o : Option LinkPacket). option_and_then (left_of plan p) o) (sym none))
+  given_step : (port : PortName) (bytes : List ℕ) (b : BesidePorts) → step_of plan b st (Arrive port bytes)
+      ≡ stepped_arrival plan b st (arrival_of plan st (Arrive port bytes))
+  unfolding step_of
+  given_step port bytes b = either (has_port plan port)
+    where
+      either : (has : Bool)
+          → (if has then stepped_arrival plan b st (Some (arrival_at plan port bytes)) else (v.Nothing, st))
+          ≡ stepped_arrival plan b st (if has then Some (arrival_at plan port bytes) else None)
+      either true = refl
+      either false = refl
 
-  pub too_short : (p : Passage) (x : LinkPacket) → Some x ≡ packet_numbered st.packets n
-      → None ≡ bytes_left p x.bytes → (b : BesidePorts) → step_of plan b st (packet_event n p) ≡ (v.Nothing, st)
-  too_short p x is none b =
-      packet_step p b ∙ ap (λ (a : Option Arrival). stepped_arrival plan b st a)
-      (packet_arrival p ∙ ap (λ (o : Option LinkPacket). option_and_then (left_of plan p) o) (sym is)
-      ∙ ap (λ (o : Option (List ℕ)). option_map (brought_to plan x) o) (sym none))
+  incoming_step : (i : Incoming) (b : BesidePorts) → step_of plan b st (incoming_event i)
+      ≡ stepped_arrival plan b st (arrival_by plan (brought_in plan st.packets i))
+  incoming_step (Given port bytes) b =
+      given_step port bytes.now b
+      ∙ ap (λ (a : Option Arrival). stepped_arrival plan b st a) (incoming_arrival (Given port bytes))
+  incoming_step (Sent n p) b =
+      packet_step n p b ∙ ap (λ (a : Option Arrival). stepped_arrival plan b st a) (incoming_arrival (Sent n p))
 
-packet_quiet : (plan : Plan) (n : ℕ) (p : Passage) → IsQuiet plan (packet_event n p)
-packet_quiet plan n Whole = λ w k. refl
-packet_quiet plan n (Altered at mask) = λ w k. refl
-packet_quiet plan n (Cut len) = λ w k. refl
+  pub nothing_brought : (i : Incoming) → None ≡ brought_in plan st.packets i → (b : BesidePorts)
+      → step_of plan b st (incoming_event i) ≡ (v.Nothing, st)
+  nothing_brought i none b =
+      incoming_step i b
+      ∙ ap (λ (o : Option LinkPacket). stepped_arrival plan b st (arrival_by plan o)) (sym none)
 
-pub brought_packet : (plan : Plan) (old : Links) (n : ℕ) (p : Passage) (x : LinkPacket) (end : PortName)
-    (bytes : List ℕ) → end ≡ partner x.port → Some x ≡ packet_numbered old.packets.packets n
-    → Some bytes ≡ bytes_left p x.bytes → IsBrought plan old (packet_event n p) end bytes
-brought_packet plan old n p x end bytes end_is is some =
-    subst (λ (at : PortName). IsBrought plan old (packet_event n p) at bytes) (sym end_is) (record {
-      quiet = packet_quiet plan n p;
-      has = λ h links stands. sealed_there plan st h n x stands (sym is);
-      arrival = arrives;
-      step = λ b. packet_step plan st n p b ∙ ap (λ (a : Option Arrival). stepped_arrival plan b st a) arrives;
-    })
-  where
-    st : LinkState
-    st = links_state plan old
+incoming_quiet : (plan : Plan) (i : Incoming) → IsQuiet plan (incoming_event i)
+incoming_quiet plan (Given port bytes) = λ w k. refl
+incoming_quiet plan (Sent n Whole) = λ w k. refl
+incoming_quiet plan (Sent n (Altered at mask)) = λ w k. refl
+incoming_quiet plan (Sent n (Cut len)) = λ w k. refl
 
-    arrives : arrival_of plan st (packet_event n p) ≡ Some (brought_to plan x bytes)
-    arrives =
-        packet_arrival plan st n p ∙ ap (λ (o : Option LinkPacket). option_and_then (left_of plan p) o) (sym is)
-        ∙ ap (λ (o : Option (List ℕ)). option_map (brought_to plan x) o) (sym some)
+-- the port is one of the plan
+port_given : (plan : Plan) (port : PortName) (bytes : List ℕ) (b : Bool) (x : LinkPacket) → has_port plan port ≡ b
+    → Some x ≡ (if b then Some (record { port = port; bytes = bytes }) else None) → has_port plan x.port ≡ true
+port_given plan port bytes true x has is =
+    ap (λ (y : LinkPacket). has_port plan y.port) (same_Some x _ is) ∙ has
+port_given plan port bytes false x has is = absurd (none-some x (sym is))
+
+-- what is passed on comes from a packet
+record IsPassed (p : Passage) (o : Option LinkPacket) (x : LinkPacket) : Type 0 where
+  packet : LinkPacket
+  packet_is : o ≡ Some packet
+  port_is : x.port ≡ partner packet.port
+
+left_is : (q x : LinkPacket) (o : Option (List ℕ))
+    → Some x ≡ option_map (λ (bytes : List ℕ). record { port = partner q.port; bytes = bytes }) o
+    → x.port ≡ partner q.port
+left_is q x None is = absurd (none-some x (sym is))
+left_is q x (Some bytes) is = ap (λ (y : LinkPacket). y.port) (same_Some x _ is)
+
+is_passed : (p : Passage) (o : Option LinkPacket) (x : LinkPacket) → Some x ≡ option_and_then (passed_on p) o
+    → IsPassed p o x
+is_passed p None x is = absurd (none-some x (sym is))
+is_passed p (Some q) x is = record { packet = q; packet_is = refl; port_is = left_is q x (bytes_left p q.bytes) is }
+
+incoming_port : (plan : Plan) (old : Links) (i : Incoming) (x : LinkPacket)
+    → Some x ≡ brought_in plan old.packets.packets i → (h : History) → AreLinks plan old.ends old.keeper.keys
+    → PortsStandFor plan (links_state plan old) h → has_port plan x.port ≡ true
+incoming_port plan old (Given port bytes) x is h links stands =
+    port_given plan port bytes.now (has_port plan port) x refl is
+incoming_port plan old (Sent n p) x is h links stands =
+    let q = is_passed p (packet_numbered old.packets.packets n) x is in
+    ap (has_port plan) q.port_is ∙ sealed_there plan (links_state plan old) h n q.packet stands q.packet_is
+
+pub is_brought : (plan : Plan) (old : Links) (i : Incoming) (x : LinkPacket)
+    → Some x ≡ brought_in plan old.packets.packets i → IsBrought plan old (incoming_event i) x.port x.bytes
+is_brought plan old i x is = record {
+  quiet = incoming_quiet plan i;
+  has = incoming_port plan old i x is;
+  arrival = incoming_arrival plan (links_state plan old) i ∙ ap (arrival_by plan) (sym is);
+  step = λ b. incoming_step plan (links_state plan old) i b
+      ∙ ap (λ (o : Option LinkPacket). stepped_arrival plan b (links_state plan old) (arrival_by plan o)) (sym is);
+}
 
 -- ---- what they come to
 

@@ -7,7 +7,7 @@ use Rattle.ide_types.specs.declared.plan.Plan.{Plan}
 use Rattle.link_events.specs.declared.event.Event.{Event}
 use Rattle.link_events.specs.declared.event.InterfaceEvent.{InterfaceEvent}
 use Rattle.link_verdicts.specs.declared.verdict.Verdict.{Verdict}
-use Rattle.link_events.specs.declared.event.Event.TheVariants.{Absent}
+use Rattle.link_events.specs.declared.event.Event.TheVariants.{Absent, Interface}
 use Rattle.link_verdicts.specs.declared.verdict.Verdict.TheVariants as v
 use Rattle.machine_ports.specs.Machine.{BesidePorts, LinkState}
 unfoldable use Rattle.machine_ports.specs.Machine.{step_of}
@@ -102,11 +102,14 @@ stays_with {old} {new} x same = record {
   accesses = subst (λ (ys : List LinkAccesses). AccessesStay old.accesses ys) (sym same) (stays_all old.accesses);
 }
 
-pub ends_as_or : (plan : Plan) (r : Result (Option Verdict) OutOfMemory) (old new : WholeLinks) (event : Event)
-    → EndsAsOr plan r old.links new.links event → HasAllAccesses old → new.accesses ≡ old.accesses
-    → WholeEndsAsOr plan r old new event
-ends_as_or plan (Ok o) old new event x whole same = ends_as plan o old new event x whole (ap length same)
-ends_as_or plan (Err e) old new event x whole same = stays_with x same
+-- of an event on an interface, and how it is spelled
+pub ends_as_or : (plan : Plan) (r : Result (Option Verdict) OutOfMemory) (old new : WholeLinks)
+    (event e : InterfaceEvent) → event ≡ e → EndsAsOr plan r old.links new.links (Interface e) → HasAllAccesses old
+    → new.accesses ≡ old.accesses → WholeEndsAsOr plan r old new (Interface event)
+ends_as_or plan (Ok o) old new event e is x whole same =
+    subst (λ (y : InterfaceEvent). WholeEndsAs plan o old new (Interface y)) (sym is)
+    (ends_as plan o old new (Interface e) x whole (ap length same))
+ends_as_or plan (Err memory) old new event e is x whole same = stays_with x same
 
 -- for want of memory
 pub err_stays : (plan : Plan) (r : Result (Option Verdict) OutOfMemory) (old new : WholeLinks) (event : Event) → IsErr r

@@ -2,8 +2,11 @@
 //! TLPs that wait at switches, event by event (PCI Express Base 6.0 section 6.33 and chapter 11, in this profile).
 #![tactic(auto)]
 
+mod interfaces;
 mod packets;
+mod reads;
 mod reply;
+mod switches;
 mod verdicts;
 mod whole;
 

@@ -3,10 +3,10 @@
 ghost use Rattle.std.specs.Prelude.{◌≡◌, ◌<◌, ◌^◌, IfOk, option_map};
 ghost use Rattle.std.specs.Cow.{cow_slice_items};
 ghost use Rattle.all_links.specs.BesideAfter.{BesideBytes};
-ghost use Rattle.whole_links.specs.Packets.{bytes_left, packet_event};
+ghost use Rattle.whole_links.specs.Packets.{bytes_left, brought_in, incoming_event, packet_event};
 
 use crate::whole::WholeLinks;
-use all_links::{Arriving, land};
+use all_links::{Arriving, Packets, land};
 use ide_types::{OutOfMemory, PortName, ValidPlan};
 use line_routes::{has_port, partner};
 use link_events::Event;
@@ -23,6 +23,15 @@ pub enum Passage {
     Altered { at: u64, mask: u8 },
     /// Its first `length` bytes arrive.
     Cut { length: u64 },
+}
+
+/// Bytes that arrive, and where (this profile).
+#[derive(Clone, Copy)]
+pub enum Incoming<'a> {
+    /// These bytes, at this port.
+    Given { port: PortName, bytes: &'a [u8] },
+    /// A packet by its number, as its passage leaves it, at the port of the other end of its line.
+    Sent { packet: u64, passage: Passage },
 }
 
 // The bytes of a packet that arrive; `None` if it ends before the byte that is altered, or before it is cut.
@@ -52,12 +61,79 @@ fn bytes_left<'a>(
     }
 }
 
+// The bytes that arrive, with an end at their port; `None` if there is no such port or packet, or if the packet ends
+// before the byte that is altered, or before it is cut.
+fn brought<'a>(
+    alloc: Global,
+    plan: &ValidPlan,
+    packets: &'a Packets,
+    incoming: Incoming<'a>,
+) -> Result<Option<(PortName, CowSlice<'a, u8, Global>)>, OutOfMemory>
+    ensures { IfOk result (λ o. option_map (λ p. record { port = p.0; bytes = cow_slice_items p.1 }) o ≡ brought_in
+        plan.now packets.now.packets incoming.entry) }
+{
+    match incoming {
+        Incoming::Given { port, bytes } => {
+            if has_port(plan, port) {
+                Ok(Some((port, CowSlice::Borrowed(bytes))))
+            } else {
+                Ok(None)
+            }
+        }
+        Incoming::Sent { packet, passage } => match packets.get(packet) {
+            None => Ok(None),
+            Some((end, bytes)) => match bytes_left(alloc, bytes, passage)? {
+                None => Ok(None),
+                Some(bytes) => Ok(Some((partner(end), bytes))),
+            },
+        },
+    }
+}
+
 impl WholeLinks {
     ghost use Rattle.whole_links.specs.Accesses.{AccessesArriveAt};
     ghost use Rattle.whole_links.specs.Whole.{IsBoundedWhole, WholeEndsOr};
 
-    /// Bytes arrive at a port: they meet the end of the line that has their stream. The memory for what they may
-    /// write, and for a TLP that waits at a switch, is taken first. For want of memory nothing changes.
+    // Bytes arrive: they meet the end of the line that has their stream. The memory for them, for what they may write,
+    // and for a TLP that waits at a switch, is taken first.
+    fn bring(
+        &mut self,
+        alloc: Global,
+        plan: &ValidPlan,
+        incoming: Incoming,
+    ) -> Result<Verdict, OutOfMemory>
+        requires steps { self.old.links.steps < 2 ^ 28 }
+        requires bounded { IsBoundedWhole self.old }
+        ensures ends { WholeEndsOr plan.now result self.old self.new (incoming_event incoming.entry) }
+        ensures sides { IfOk result (λ v.
+            BesideBytes plan.now (incoming_event incoming.entry) v self.old.links self.new.links) }
+        ensures accesses { IfOk result (λ v.
+            AccessesArriveAt plan.now (incoming_event incoming.entry) v self.old self.new) }
+    {
+        match brought(alloc, plan, &self.links.packets, incoming)? {
+            None => Ok(self.links.only(Verdict::Nothing)),
+            Some((end, bytes)) => {
+                let keeper = &self.links.keeper.interfaces;
+                let arriving = Arriving {
+                    plan,
+                    keeper,
+                    end,
+                    bytes: bytes.as_slice(),
+                };
+                let verdict = land(
+                    alloc,
+                    &arriving,
+                    &mut self.links.ends,
+                    &mut self.links.trusted,
+                    &mut self.accesses,
+                )?;
+                self.links.steps += 1;
+                Ok(verdict)
+            }
+        }
+    }
+
+    /// Bytes arrive at a port: they meet the end of the line that has their stream. For want of memory nothing changes.
     pub fn arrive(
         &mut self,
         alloc: Global,
@@ -73,25 +149,7 @@ impl WholeLinks {
         ensures accesses { IfOk result (λ v.
             AccessesArriveAt plan.now (Event.Arrive port bytes.now) v self.old self.new) }
     {
-        if !has_port(plan, port) {
-            return Ok(self.links.only(Verdict::Nothing));
-        }
-        let keeper = &self.links.keeper.interfaces;
-        let arriving = Arriving {
-            plan,
-            keeper,
-            end: port,
-            bytes,
-        };
-        let verdict = land(
-            alloc,
-            &arriving,
-            &mut self.links.ends,
-            &mut self.links.trusted,
-            &mut self.accesses,
-        )?;
-        self.links.steps += 1;
-        Ok(verdict)
+        self.bring(alloc, plan, Incoming::Given { port, bytes })
     }
 
     /// A packet by its number arrives, as its passage leaves it, at the port of the other end of its line. For want of
@@ -111,30 +169,6 @@ impl WholeLinks {
         ensures accesses { IfOk result (λ v.
             AccessesArriveAt plan.now (packet_event packet passage) v self.old self.new) }
     {
-        match self.links.packets.get(packet) {
-            None => Ok(self.links.only(Verdict::Nothing)),
-            Some((end, bytes)) => match bytes_left(alloc, bytes, passage)? {
-                None => Ok(self.links.only(Verdict::Nothing)),
-                Some(bytes) => {
-                    let keeper = &self.links.keeper.interfaces;
-                    let end = partner(end);
-                    let arriving = Arriving {
-                        plan,
-                        keeper,
-                        end,
-                        bytes: bytes.as_slice(),
-                    };
-                    let verdict = land(
-                        alloc,
-                        &arriving,
-                        &mut self.links.ends,
-                        &mut self.links.trusted,
-                        &mut self.accesses,
-                    )?;
-                    self.links.steps += 1;
-                    Ok(verdict)
-                }
-            },
-        }
+        self.bring(alloc, plan, Incoming::Sent { packet, passage })
     }
 }

@@ -2,6 +2,8 @@ use Rattle.all_links.proofs.Terms.{ap, refl, sym, subst, ◌∙◌, ◌+◌, Lis
 use Rattle.interface_ends.specs.Keepers.{Ended}
 use Rattle.all_links.proofs.Asked.{asked_nowhere, operated_as}
 use Rattle.all_links.proofs.Finds.{ends_as, if_some, some_none}
+use Rattle.all_links.proofs.Places.{asked_place}
+use Rattle.all_links.specs.Interfaces.{interface_named}
 use Rattle.all_links.proofs.BesideAfter.{nothing_asked, asked_beside}
 use Rattle.all_links.proofs.links.Links.operate_interface.Goals as goal
 
@@ -41,3 +43,15 @@ returns-in-Some-clause-sides c =
     c.in-Some.at c.args.op c.args.loss c.carry_interface-outcome.result after.ends after.keeper
     (sym c.in-Some.is ∙ c.requires.here) c.carry_interface-outcome.ensures.asks
     (ap (λ (s : Links). record s { steps = s.steps + 1 }) c.carry_interface-outcome.ensures.links))
+
+pub returns-in-None-clause-place : goal.returns-in-None-clause-place
+returns-in-None-clause-place c =
+    ap (λ (s : Links). interface_named s.keeper.interfaces s.ends.links c.args.number) c.only.ensures.links
+    ∙ sym c.requires.here
+
+pub returns-in-Some-clause-place : goal.returns-in-Some-clause-place
+returns-in-Some-clause-place c =
+    let after : Links = c.carry_interface-outcome.new.self in
+    asked_place c.args.self.now c.args.number c.in-Some.at c.args.op c.args.loss c.carry_interface-outcome.result
+    after.ends after.keeper (sym c.in-Some.is ∙ c.requires.here) c.carry_interface-outcome.ensures.asks
+    ∙ sym c.requires.here

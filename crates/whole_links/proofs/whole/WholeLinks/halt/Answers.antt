@@ -19,6 +19,7 @@ note_halt-requires c =
       bounded = bounded_with c.args.self.now c.operate_interface.new.self
           (c.in_ok-verdict.ensures.ends any_plan (Halt c.args.interface c.args.loss) refl)
           c.requires.bounded.whole;
+      here = sym c.in_ok-verdict.ensures.place;
     }
 
 pub returns-in_err-verdict-clause-ends : goal.returns-in_err-verdict-clause-ends
