@@ -23,9 +23,9 @@ use Rattle.ide_port.specs.declared.answer.Sent.{Sent}
 use Rattle.link_ends.specs.Ends.{trusting_at}
 use Rattle.link_ends.specs.Keepers.{KeysAlone}
 use Rattle.link_ends.specs.PairKeepers.{PairOperates, NoMorePairUnits}
-use Rattle.link_events.specs.declared.event.Loss.{Loss}
-use Rattle.tsm_host.specs.declared.operation.NamedOperation.{NamedOperation}
-use Rattle.tsm_host.specs.declared.operation.StreamOutcome.{StreamOutcome}
+use Rattle.run_events.specs.declared.event.Loss.{Loss}
+use Rattle.key_host.specs.declared.operation.NamedOperation.{NamedOperation}
+use Rattle.key_host.specs.declared.operation.StreamOutcome.{StreamOutcome}
 use Rattle.link_ends.specs.declared.device.Device.{Device as DeviceEnd}
 use Rattle.interface_ends.specs.Replies.{called_at}
 use Rattle.interface_state.specs.Machine.{Tdi, Call, state_code, tdi_after}

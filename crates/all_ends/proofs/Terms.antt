@@ -18,7 +18,7 @@ pub use Rattle.spec_keys.specs.Places.{sent_direction}
 pub use Rattle.all_ends.specs.Cuts.{cut_packets}
 pub use Rattle.link_ends.proofs.Names.{first_named, op_named_first}
 pub use Rattle.link_ends.proofs.Streams.{changed_same, found_id, found_plan, machine_changed, machine_found}
-pub use Rattle.link_verdicts.specs.declared.verdict.UnitName.{UnitName}
+pub use Rattle.run_verdicts.specs.declared.verdict.UnitName.{UnitName}
 unfoldable pub use Rattle.arrival_verdicts.specs.{stream_plan, streams_by_line}
 pub use Rattle.machine_ports.specs.Machine.{BesidePorts, LinkPacket, LinkState, Stepped, stepped_answer, kept_packet}
 pub use Rattle.machine_ports.specs.Machine.{port_at, port_place, reset_state, machine_status}
@@ -27,8 +27,8 @@ pub use Rattle.spec_stream.specs.Stream.{at_sub, outcome_of_checks, holds_any, i
 pub use Rattle.spec_stream.specs.Stream.{sealed_all, slot_in_set, stream_outcome, stream_outcome_by_keys}
 unfoldable pub use Rattle.machine_ports.specs.Machine.{find, find_op, with_stream_state}
 pub use Rattle.machine_ports.specs.Stands.{PortsStandFor, op_at, stream_state_due}
-pub use Rattle.link_verdicts.specs.declared.verdict.Effect.{Effect}
-pub use Rattle.link_verdicts.specs.declared.verdict.Verdict.{Verdict}
+pub use Rattle.run_verdicts.specs.declared.verdict.Effect.{Effect}
+pub use Rattle.run_verdicts.specs.declared.verdict.Verdict.{Verdict}
 pub use Rattle.std.proofs.Common.{Bool, List, [], add-one, ap, arith, drop, false, length, length-append, length-drop}
 pub use Rattle.std.proofs.Common.{refl, rules, subst, suc, sym, take, true, zero, ℕ, ⊎_elim, ◌*◌, ◌++◌, ◌+◌, ◌-◌, ◌<◌}
 pub use Rattle.std.proofs.Common.{◌==◌, ◌∙◌, ◌∷◌, ◌≡◌, ◌≤◌, ◌⊎◌}
@@ -45,8 +45,8 @@ pub use Rattle.std.specs.Prelude.{All, Err, None, Ok, Option, Result, Some, if�
 pub use Rattle.std.specs.Prelude.{option_map, slice_get, slice_range, slice_set, sum_by, vec_capacity, vec_len, ◌&&◌}
 pub use Rattle.std.specs.Prelude.{◌||◌, nat_lt, replicate}
 pub use Rattle.sub_stream.specs.declared.answer.MeasuredPacket.{MeasuredPacket}
-pub use Rattle.tsm_host.specs.Managers.{ManagerView, Named, named_stream, op_named, reset_manager}
-pub use Rattle.tsm_host.specs.Streams.{StreamView, reset_stream}
+pub use Rattle.key_host.specs.Managers.{ManagerView, Named, named_stream, op_named, reset_manager}
+pub use Rattle.key_host.specs.Streams.{StreamView, reset_stream}
 pub use Rattle.all_ends.specs.Places.{stream_named}
 pub use Rattle.all_ends.specs.Ends.{EndsView, changed_at, cleared_on, cleared_ends, cleared_pair, line_place, peer_live}
 pub use Rattle.all_ends.specs.Ends.{pair_port, port_at_place, port_on, reset_all, settled_all, settled_first_links}

@@ -5,15 +5,15 @@ use Rattle.ide_types.specs.declared.port.Side.{Side}
 use Rattle.ide_types.specs.declared.port.PortName.{PortName}
 use Rattle.ide_types.specs.Ports.{host_port, device_port}
 use Rattle.ide_types.specs.declared.status.StreamStatus.{StreamStatus}
-use Rattle.link_events.specs.declared.event.Loss.{Loss}
-use Rattle.link_verdicts.specs.declared.verdict.Verdict.{Verdict}
-use Rattle.link_verdicts.specs.declared.verdict.Verdict.TheVariants.{Nothing}
+use Rattle.run_events.specs.declared.event.Loss.{Loss}
+use Rattle.run_verdicts.specs.declared.verdict.Verdict.{Verdict}
+use Rattle.run_verdicts.specs.declared.verdict.Verdict.TheVariants.{Nothing}
 use Rattle.ide_types.specs.declared.plan.Region.{Region}
 use Rattle.arrival_verdicts.specs.{Grants, reads_by}
 use Rattle.trusted_memory.specs.{MemoryContents, Leads}
 use Rattle.link_ends.specs.Hosts.{InterfacesView, operated_on, manager_told, pair_told, peer_drawn}
-use Rattle.tsm_host.specs.declared.operation.NamedOperation.{NamedOperation}
-use Rattle.tsm_host.specs.declared.operation.StreamOutcome.{StreamOutcome}
+use Rattle.key_host.specs.declared.operation.NamedOperation.{NamedOperation}
+use Rattle.key_host.specs.declared.operation.StreamOutcome.{StreamOutcome}
 use Rattle.ide_port.specs.declared.answer.Arrival.{Arrival}
 use Rattle.ide_port.specs.declared.answer.Sent.{Sent}
 use Rattle.ide_prefix.specs.Reading.{cut_of}

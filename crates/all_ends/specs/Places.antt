@@ -2,7 +2,7 @@
 use Rattle.std.specs.Prelude.{ℕ, ◌+◌, ◌-◌, nat_lt, nat_le, if◌then◌else◌, List, [], ◌∷◌, length, Option, Some, None}
 use Rattle.std.specs.Prelude.{is_some, ◌&&◌}
 use Rattle.ide_types.specs.Ports.{host_port}
-use Rattle.tsm_host.specs.Managers.{ManagerView, named_stream}
+use Rattle.key_host.specs.Managers.{ManagerView, named_stream}
 use Rattle.interface_state.specs.Machine.{Tdi, Call, tdi_after, state_code}
 use Rattle.link_ends.specs.declared.ends.LinkEnds.{LinkEnds}
 use Rattle.all_ends.specs.Ends.{EndsView, port_on}

@@ -11,7 +11,7 @@ use Rattle.spec_stream.specs.Stream.{StreamState}
 use Rattle.spec_keys.specs.Operations.{StreamStage}
 use Rattle.arrival_verdicts.specs.{streams_by_line, streams_of}
 use Rattle.machine_ports.specs.Machine.{LinkState, LinkPacket, port_at}
-use Rattle.tsm_host.specs.Streams.{StreamView}
+use Rattle.key_host.specs.Streams.{StreamView}
 use Rattle.link_ends.specs.{KeysKept, PairKeysKeptIn}
 use Rattle.ide_port.specs.{PortEnd, PortUnitsAtMost}
 use Rattle.link_ends.specs.declared.pair.PairEnds.{PairEnds}

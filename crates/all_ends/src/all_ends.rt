@@ -6,8 +6,8 @@ ghost use Rattle.ide_types.specs.Ports.{host_port};
 ghost use Rattle.ide_prefix.specs.Reading.{cut_of};
 ghost use Rattle.ide_port.specs.{PortEnd, PortUnitsAtMost, take_step};
 ghost use Rattle.arrival_verdicts.specs.Verdicts.{grants_in};
-ghost use Rattle.tsm_host.specs.Operations.{op_name};
-ghost use Rattle.tsm_host.specs.Managers.{named_stream};
+ghost use Rattle.key_host.specs.Operations.{op_name};
+ghost use Rattle.key_host.specs.Managers.{named_stream};
 ghost use Rattle.spec_keys.specs.Operations.{work_of};
 ghost use Rattle.spec_interfaces.specs.Peers.{has_peer};
 ghost use Rattle.all_ends.specs.Places.{place_on_links};
@@ -31,13 +31,13 @@ use ide_types::{
 use interface_ends::InterfaceKeeper;
 use interface_host::InterfaceOperation;
 use link_ends::{HostKeeper, LinkEnds, PairEnds, PeerStreams};
-use link_events::Loss;
+use run_events::Loss;
 use link_stores::{Accesses, LinkAccesses};
-use link_verdicts::Verdict;
+use run_verdicts::Verdict;
 use std::alloc::Global;
 use std::marker::Model;
 use trusted_memory::Trusted;
-use tsm_host::{NamedOperation, StreamOutcome};
+use key_host::{NamedOperation, StreamOutcome};
 
 /// How many lines of hops come before those of streams between devices, among those that are keyed by messages at both
 /// ends.

@@ -8,14 +8,14 @@ use Rattle.all_links.proofs.Terms.{OperatesAt, ResetsAt, PortName, peer_live, po
 use Rattle.all_links.proofs.Terms.{drawn_on_line, nat_le, ◌-◌}
 use Rattle.std.proofs.Common.{◌&&◌}
 use Rattle.std.specs.Prelude.{IfSome}
-use Rattle.link_events.specs.declared.event.Loss.{Loss}
-use Rattle.link_verdicts.specs.declared.verdict.Operation.{Operation}
-use Rattle.link_verdicts.specs.declared.verdict.Operation.TheVariants as operation
-use Rattle.tsm_host.specs.declared.operation.NamedOperation.{NamedOperation as OpCall}
-use Rattle.tsm_host.specs.declared.operation.NamedOperation.TheVariants as call
-use Rattle.tsm_host.specs.declared.operation.StreamOutcome.{StreamOutcome}
-use Rattle.tsm_host.specs.Operations.{OpName, op_name}
-use Rattle.tsm_host.specs.Walk.{verdict_of}
+use Rattle.run_events.specs.declared.event.Loss.{Loss}
+use Rattle.run_verdicts.specs.declared.verdict.Operation.{Operation}
+use Rattle.run_verdicts.specs.declared.verdict.Operation.TheVariants as operation
+use Rattle.key_host.specs.declared.operation.NamedOperation.{NamedOperation as OpCall}
+use Rattle.key_host.specs.declared.operation.NamedOperation.TheVariants as call
+use Rattle.key_host.specs.declared.operation.StreamOutcome.{StreamOutcome}
+use Rattle.key_host.specs.Operations.{OpName, op_name}
+use Rattle.key_host.specs.Walk.{verdict_of}
 use Rattle.interface_state.specs.Machine.{Tdi, Call}
 use Rattle.interface_host.specs.declared.operation.InterfaceOperation.{InterfaceOperation}
 use Rattle.interface_host.specs.declared.operation.InterfaceOutcome.{InterfaceOutcome}

@@ -12,7 +12,7 @@ use Rattle.ide_types.specs.declared.plan.PeerPlan.{PeerPlan}
 use Rattle.ide_types.specs.Ports.{host_port}
 unfoldable use Rattle.spec_interfaces.specs.Peers.{peer_end}
 use Rattle.line_arrivals.proofs.{peer_end_is, each_set, seen_same}
-use Rattle.link_events.specs.declared.event.Loss.{Loss}
+use Rattle.run_events.specs.declared.event.Loss.{Loss}
 use Rattle.line_arrivals.specs.{PairEnds, secure_or_live, OperatesIn, OperatesOnLink, OperatesOnPair, line_place}
 use Rattle.line_arrivals.specs.{changed_at, port_at_place, live_of, live_at_port, pair_port, settled_ends, settled_link}
 use Rattle.line_arrivals.specs.{settled_first_links, settled_peer, cleared_place, cleared_ends, cleared_on, all_cleared}
@@ -22,8 +22,8 @@ use Rattle.ide_types.specs.declared.binding.Binding.{Binding}
 use Rattle.interface_state.specs.declared.states.TdiState.{TdiState}
 use Rattle.interface_state.specs.declared.states.TdiState.TheVariants.{ConfigUnlocked, ConfigLocked, Run, Error}
 use Rattle.interface_ends.specs.Replies.{DeviceTdis, settled_interface, settled_interfaces, is_left, any_left}
-use Rattle.tsm_host.specs.declared.operation.NamedOperation.{NamedOperation as OpCall}
-use Rattle.tsm_host.specs.declared.operation.StreamOutcome.{StreamOutcome}
+use Rattle.key_host.specs.declared.operation.NamedOperation.{NamedOperation as OpCall}
+use Rattle.key_host.specs.declared.operation.StreamOutcome.{StreamOutcome}
 use Rattle.line_arrivals.specs.Follows.{IsSettledOrSame, AllFollow}
 use Rattle.line_arrivals.proofs.Follows.{changed_other}
 use Rattle.all_links.specs.BesideAfter.{reset_if}

@@ -19,7 +19,7 @@ pub use Rattle.all_links.specs.Links.{Ends, StepEndsBy, EndsIf, EndsAs, EndsSend
 pub use Rattle.all_links.specs.Links.{StandsForSome}
 pub use Rattle.all_links.specs.Besides.{IsAnsweredBy, answer_of_links, beside_in}
 pub use Rattle.all_links.specs.declared.links.Links.{Links}
-pub use Rattle.link_events.specs.declared.event.Event.TheVariants.{Interface, Dump, Reset, Send, Status}
+pub use Rattle.run_events.specs.declared.event.Event.TheVariants.{Interface, Dump, Reset, Send, Status}
 pub use Rattle.trusted_memory.specs.{MemoryContents}
 pub use Rattle.ide_types.specs.declared.plan.Region.{Region}
 pub use Rattle.spec_links.specs.Plan.{has_port}
@@ -28,7 +28,7 @@ pub use Rattle.machine_ports.specs.Machine.{reset_state, machine_status, status_
 pub use Rattle.spec_stream.specs.Stream.{StreamState}
 unfoldable pub use Rattle.machine_ports.specs.Machine.{step_of}
 pub use Rattle.machine_ports.specs.Stands.{PortsStandFor}
-pub use Rattle.link_verdicts.specs.declared.verdict.Verdict.{Verdict}
+pub use Rattle.run_verdicts.specs.declared.verdict.Verdict.{Verdict}
 pub use Rattle.join_keys.specs.Joined.{OperationsJoin}
 pub use Rattle.std.proofs.Common.{Bool, List, [], ap, arith, drop, false, length, refl, subst, suc, sym, take, true}
 pub use Rattle.std.proofs.Common.{zero, ℕ, ◌++◌, ◌+◌, ◌-◌, ◌<◌, ◌==◌, ◌∙◌, ◌∷◌, ◌≡◌, ◌≤◌}
@@ -40,4 +40,4 @@ pub use Rattle.std.specs.Option.{option_and_then}
 pub use Rattle.std.specs.Prelude.{IfSome, IsSome, None, Option, Result, Some, if◌then◌else◌, is_some, map, nat_le}
 pub use Rattle.std.specs.Prelude.{nat_lt, not, option_map, slice_get, slice_set, sum_by, vec_len}
 pub use Rattle.sub_stream.specs.declared.answer.MeasuredPacket.{MeasuredPacket}
-pub use Rattle.tsm_host.specs.Managers.{ManagerView, Named, named_stream}
+pub use Rattle.key_host.specs.Managers.{ManagerView, Named, named_stream}

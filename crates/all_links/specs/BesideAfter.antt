@@ -6,21 +6,21 @@ use Rattle.ide_types.specs.Lines.{is_link_line}
 use Rattle.ide_types.specs.declared.plan.Plan.{Plan}
 use Rattle.ide_types.specs.RegisterNames.{has_register}
 use Rattle.spec_interfaces.specs.Views.{peer_of}
-use Rattle.link_events.specs.declared.event.Event.{Event}
-use Rattle.link_events.specs.declared.event.Event.TheVariants as event
-use Rattle.link_events.specs.declared.event.InterfaceEvent.{InterfaceEvent}
-use Rattle.link_events.specs.declared.event.InterfaceEvent.TheVariants as ie
-use Rattle.link_events.specs.declared.event.Loss.{Loss}
-use Rattle.link_verdicts.specs.declared.verdict.Operation.{Operation}
-use Rattle.link_verdicts.specs.declared.verdict.Operation.TheVariants as operation
-use Rattle.link_verdicts.specs.declared.verdict.Verdict.{Verdict}
-use Rattle.link_verdicts.specs.declared.verdict.Verdict.TheVariants as v
+use Rattle.run_events.specs.declared.event.Event.{Event}
+use Rattle.run_events.specs.declared.event.Event.TheVariants as event
+use Rattle.run_events.specs.declared.event.InterfaceEvent.{InterfaceEvent}
+use Rattle.run_events.specs.declared.event.InterfaceEvent.TheVariants as ie
+use Rattle.run_events.specs.declared.event.Loss.{Loss}
+use Rattle.run_verdicts.specs.declared.verdict.Operation.{Operation}
+use Rattle.run_verdicts.specs.declared.verdict.Operation.TheVariants as operation
+use Rattle.run_verdicts.specs.declared.verdict.Verdict.{Verdict}
+use Rattle.run_verdicts.specs.declared.verdict.Verdict.TheVariants as v
 use Rattle.spec_keys.specs.History.{History}
 use Rattle.spec_keys.specs.Operations.{StreamStage, work_of}
 use Rattle.spec_links.specs.History.{Arrival}
 use Rattle.machine_ports.specs.Machine.{LinkState}
 use Rattle.machine_ports.specs.Stands.{PortsStandFor}
-use Rattle.tsm_host.specs.Managers.{Named, named_stream}
+use Rattle.key_host.specs.Managers.{Named, named_stream}
 use Rattle.interface_state.specs.Machine.{Tdi, Call, WriteRegister, LevelReset, FirmwareUpdate}
 use Rattle.interface_ends.specs.Replies.{DeviceTdis, settled_interfaces, reset_tdis, called_at}
 use Rattle.interface_host.specs.declared.operation.InterfaceOperation.{InterfaceOperation}

@@ -3,14 +3,14 @@ use Rattle.std.specs.Prelude.{◌≡◌, ◌+◌, ℕ, Bool, true, List, [], len
 use Rattle.ide_types.specs.declared.memory.OutOfMemory.{OutOfMemory}
 use Rattle.ide_types.specs.declared.port.PortName.{PortName}
 use Rattle.ide_types.specs.declared.plan.Plan.{Plan}
-use Rattle.link_events.specs.declared.event.Event.{Event}
-use Rattle.link_verdicts.specs.declared.verdict.Verdict.{Verdict}
+use Rattle.run_events.specs.declared.event.Event.{Event}
+use Rattle.run_verdicts.specs.declared.verdict.Verdict.{Verdict}
 use Rattle.spec_keys.specs.History.{History}
 use Rattle.spec_links.specs.Plan.{has_port}
 use Rattle.machine_ports.specs.Machine.{BesidePorts, LinkState, Stepped, step_of, stepped_bytes}
 use Rattle.machine_ports.specs.Stands.{PortsStandFor}
 use Rattle.key_slots.specs.{new_pool}
-use Rattle.tsm_host.specs.Managers.{new_manager}
+use Rattle.key_host.specs.Managers.{new_manager}
 use Rattle.interface_host.specs.Managers.{new_interface_manager as new_interfaces}
 use Rattle.trusted_memory.specs.{new_memory}
 use Rattle.line_arrivals.specs.{new_all_ends, AreLinks, IsBounded}

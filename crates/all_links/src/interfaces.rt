@@ -9,8 +9,8 @@ use crate::links::Links;
 use ide_types::{Bytes, FIRST_PEER_LINE, InterfaceVerdict, OutOfMemory, Register, SubKind};
 use interface_host::{InterfaceOperation, PeerStream};
 use line_arrivals::asked_verdict;
-use link_events::{Event, InterfaceEvent, Loss};
-use link_verdicts::Verdict;
+use run_events::{Event, InterfaceEvent, Loss};
+use run_verdicts::Verdict;
 use std::alloc::Global;
 
 /// The most bytes of a report.

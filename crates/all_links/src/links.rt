@@ -5,8 +5,8 @@ ghost use Rattle.std.specs.Prelude.{◌≡◌, ◌+◌, ◌<◌, ◌^◌, IfOk, 
 use ide_port::SendBuffer;
 use ide_types::{OutOfMemory, PortName, ValidPlan};
 use line_arrivals::{AllEnds, HostKeeper, Packets};
-use link_events::Event;
-use link_verdicts::Verdict;
+use run_events::Event;
+use run_verdicts::Verdict;
 use std::alloc::Global;
 use trusted_memory::Trusted;
 

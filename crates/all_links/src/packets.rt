@@ -8,8 +8,8 @@ use ide_port::Sent;
 use ide_types::{Bytes, OutOfMemory, PortName, ValidPlan};
 use line_arrivals::send_verdict;
 use line_routes::{may_send, port_of, sealing_end};
-use link_events::Event;
-use link_verdicts::Verdict;
+use run_events::Event;
+use run_verdicts::Verdict;
 use std::alloc::Global;
 
 impl Links {

@@ -2,9 +2,9 @@
 
 ghost use Rattle.std.specs.Prelude.{◌≡◌, ◌==◌, ◌<◌, ◌^◌, true, not, IsSome, IfSome};
 ghost use Rattle.spec_keys.specs.Operations.{work_of};
-ghost use Rattle.tsm_host.specs.Managers.{named_stream};
-ghost use Rattle.tsm_host.specs.Operations.{op_name};
-ghost use Rattle.tsm_host.specs.Walk.{NoBadReply as NoBadStreamReply, verdict_of};
+ghost use Rattle.key_host.specs.Managers.{named_stream};
+ghost use Rattle.key_host.specs.Operations.{op_name};
+ghost use Rattle.key_host.specs.Walk.{NoBadReply as NoBadStreamReply, verdict_of};
 ghost use Rattle.line_arrivals.specs.{port_on, stream_named};
 ghost use Rattle.ide_types.specs.Ports.{host_port};
 ghost use Rattle.all_links.specs.Events.{operation_event};
@@ -13,9 +13,9 @@ ghost use Rattle.all_links.specs.BesideAfter.{works_on};
 use crate::links::Links;
 use ide_types::{PortName, Side};
 use line_arrivals::{named_op, operated_verdict};
-use link_events::{Event, Loss};
-use link_verdicts::{Operation, Verdict};
-use tsm_host::{NamedOperation, StreamOutcome};
+use run_events::{Event, Loss};
+use run_verdicts::{Operation, Verdict};
+use key_host::{NamedOperation, StreamOutcome};
 
 // Whether there is such an operation on a line: a refresh is of a link's stream alone.
 fn works_on(operation: Operation, line: u8) -> bool

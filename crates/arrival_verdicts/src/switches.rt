@@ -12,7 +12,7 @@ use hop_queues::{HopQueues, MOST_BYTES};
 use ide_port::Arrival;
 use ide_prefix::PacketView;
 use ide_types::{Direction, PortName, SubKind};
-use link_verdicts::{Effect, Effects, UnitName, Verdict};
+use run_verdicts::{Effect, Effects, UnitName, Verdict};
 use sub_stream::Delivered;
 
 // Queues the TLP of a packet, if there is room for it and it is no longer than a TLP may be.

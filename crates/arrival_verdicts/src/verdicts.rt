@@ -22,7 +22,7 @@ use ide_prefix::{PacketView, packet_word, tlp_word};
 use ide_types::{Binding, PortName, Side};
 use interface_ends::{DeviceInterfaces, InterfaceKeeper};
 use link_stores::LinkAccesses;
-use link_verdicts::{Effect, Effects, SealedPacket, SealedPackets, UnitName, Verdict};
+use run_verdicts::{Effect, Effects, SealedPacket, SealedPackets, UnitName, Verdict};
 use sub_stream::Delivered;
 use tlp_layout::{HeadView, TlpView, owner};
 use trusted_memory::{Grant, Trusted};

@@ -9,13 +9,13 @@ use Rattle.ide_types.specs.declared.register.Register.TheVariants.{Bar}
 use Rattle.ide_types.specs.declared.view.View.TheVariants.{Unlocked, Doubt, Broken}
 use Rattle.ide_types.specs.declared.verdict.InterfaceVerdict.{InterfaceVerdict}
 use Rattle.ide_types.specs.declared.verdict.InterfaceVerdict.TheVariants as iv
-use Rattle.link_events.specs.declared.event.Lost.TheVariants.{Request, Reply}
-use Rattle.link_events.specs.declared.event.Event.{Event}
-use Rattle.link_events.specs.declared.event.Event.TheVariants.{Send, Establish, Refresh, Stop, Reset, Status, Interface}
-use Rattle.link_events.specs.declared.event.InterfaceEvent.TheVariants as ie
-use Rattle.link_verdicts.specs.declared.verdict.Verdict.{Verdict}
-use Rattle.link_verdicts.specs.declared.verdict.Verdict.TheVariants as v
-use Rattle.link_verdicts.specs.declared.verdict.SealedPacket.{SealedPacket}
+use Rattle.run_events.specs.declared.event.Lost.TheVariants.{Request, Reply}
+use Rattle.run_events.specs.declared.event.Event.{Event}
+use Rattle.run_events.specs.declared.event.Event.TheVariants.{Send, Establish, Refresh, Stop, Reset, Status, Interface}
+use Rattle.run_events.specs.declared.event.InterfaceEvent.TheVariants as ie
+use Rattle.run_verdicts.specs.declared.verdict.Verdict.{Verdict}
+use Rattle.run_verdicts.specs.declared.verdict.Verdict.TheVariants as v
+use Rattle.run_verdicts.specs.declared.verdict.SealedPacket.{SealedPacket}
 use Rattle.spec_keys.specs.History.{History}
 use Rattle.spec_links.specs.Due.{due}
 
@@ -103,8 +103,8 @@ says w = v.Interface w
 abbrev pub run : List Event
 run = Establish 0 5 None ∷ Interface (ie.Lock 0 None) ∷ Interface (ie.Report 0 None) ∷ Interface (ie.Start 0 None) ∷ []
 
-abbrev pub run_verdicts : List Verdict
-run_verdicts =
+abbrev pub verdicts_in_run : List Verdict
+verdicts_in_run =
     v.Established 0 5 0 ∷ says (iv.Locked 0 (replicate 32 1)) ∷ says (iv.Reported 0 device_report)
     ∷ says (iv.Started 0 0) ∷ []
 
@@ -132,7 +132,7 @@ again =
 
 abbrev pub again_verdicts : List Verdict
 again_verdicts =
-    run_verdicts ++ v.Sealed (device_packet true) ∷ says (iv.Halted 0 1) ∷ says (iv.Locked 0 (replicate 32 2))
+    verdicts_in_run ++ v.Sealed (device_packet true) ∷ says (iv.Halted 0 1) ∷ says (iv.Locked 0 (replicate 32 2))
     ∷ says (iv.Reported 0 device_report) ∷ says (iv.RefusedRefreshFirst 0 1) ∷ v.Refreshed 0 5 1 ∷ says (iv.Started 0 1)
     ∷ []
 
@@ -145,7 +145,7 @@ written_in_run =
 
 abbrev pub written_verdicts : List Verdict
 written_verdicts =
-    run_verdicts ++ says (iv.Written 0 2) ∷ says (iv.Written 0 3) ∷ says (iv.State 0 3) ∷ says (iv.View 0 Broken)
+    verdicts_in_run ++ says (iv.Written 0 2) ∷ says (iv.Written 0 3) ∷ says (iv.State 0 3) ∷ says (iv.View 0 Broken)
     ∷ v.Sealed (device_packet false) ∷ v.Nothing ∷ says (iv.Memory (replicate 4 0)) ∷ v.Nothing ∷ []
 
 -- a lock while the stream is not Secure at the host's port, and at the device's
@@ -168,7 +168,7 @@ stopped_events =
 
 abbrev pub stopped_verdicts : List Verdict
 stopped_verdicts =
-    run_verdicts ++ v.Stopped 0 5 ∷ says (iv.View 0 Broken) ∷ says (iv.State 0 3) ∷ says (iv.Halted 0 1)
+    verdicts_in_run ++ v.Stopped 0 5 ∷ says (iv.View 0 Broken) ∷ says (iv.State 0 3) ∷ says (iv.Halted 0 1)
     ∷ v.Status 0 5 status.Idle status.Idle ∷ v.Nothing ∷ []
 
 -- a firmware update that is permitted, a level reset, and a reset of the link
@@ -180,7 +180,7 @@ reset_events =
 
 abbrev pub reset_verdicts : List Verdict
 reset_verdicts =
-    run_verdicts ++ says (iv.Firmware 0 2) ∷ says (iv.Flr 0 3) ∷ v.Reset 0 ∷ says (iv.View 0 Broken)
+    verdicts_in_run ++ says (iv.Firmware 0 2) ∷ says (iv.Flr 0 3) ∷ v.Reset 0 ∷ says (iv.View 0 Broken)
     ∷ says (iv.State 0 0) ∷ says (iv.RefusedWrongState Broken) ∷ []
 
 -- messages of a lock and of a report are lost: the nonce is used up, and a report of two portions begins anew

@@ -6,7 +6,7 @@ ghost use Rattle.guarded_memory.specs.Causes.{untrusted_cause, floor_cause, trus
 use crate::status::is_open_range;
 use crate::{Claim, InterfaceState, InterfaceStatus};
 use ide_types::BarPlan;
-use link_verdicts::{BlockCause, stale_cause};
+use run_verdicts::{BlockCause, stale_cause};
 use trusted_memory::Span;
 
 // Of a write that is not trusted.

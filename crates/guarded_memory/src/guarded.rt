@@ -15,7 +15,7 @@ use crate::names::{PageName, name_at, outlives_stop, put};
 use crate::sizes::{fits_range, sizes_of};
 use crate::{Claim, Statuses};
 use ide_types::{BarPlan, InterfacePlan, OutOfMemory};
-use link_verdicts::{Effect, UnitName};
+use run_verdicts::{Effect, UnitName};
 use std::alloc::Global;
 use std::collections::HashMap;
 use std::marker::Model;

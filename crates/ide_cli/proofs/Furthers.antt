@@ -3,10 +3,10 @@ use Rattle.std.proofs.Common.{◌≡◌, ℕ, List, Option, Some, None, Result, 
 use Rattle.std.specs.Prelude.{IfOk}
 use Rattle.cli_files.specs.Outside.{AsksOnly, Contents, ShelfSeen}
 use Rattle.cli_words.specs.Words.{CommandRequest, command_asked}
-use Rattle.line_runs.specs.declared.ends.End.{End}
-use Rattle.line_runs.specs.declared.ends.Fault.{Fault}
-use Rattle.line_runs.specs.Gain.{Text}
-use Rattle.line_runs.specs.Gathering.{ReadAsFar, ReadAsFarOf}
+use Rattle.file_runs.specs.declared.ends.End.{End}
+use Rattle.file_runs.specs.declared.ends.Fault.{Fault}
+use Rattle.file_runs.specs.Gain.{Text}
+use Rattle.file_runs.specs.Gathering.{ReadAsFar, ReadAsFarOf}
 use Rattle.ide_cli.specs.Reads.{AskedNoFurther, Names, ReadNoFurther}
 use Rattle.ide_cli.specs.Seen.{CallSeen}
 

@@ -14,15 +14,15 @@ use Rattle.script_events.specs.ScriptText.{generated_script}
 use Rattle.script_events.specs.TopologyText.{generated_topology}
 use Rattle.script_events.proofs.TextEvents.{script_short, script_spells}
 use Rattle.script_events.proofs.Whole.{topology_read, topology_short}
-use Rattle.link_events.specs.declared.event.Event.{Event}
-use Rattle.link_events.specs.declared.script.ScriptEvent.{ScriptEvent}
-use Rattle.link_events.specs.Parse.{line_meaning}
-use Rattle.line_runs.specs.declared.ends.End.{End}
-use Rattle.line_runs.specs.declared.ends.Fault.{Fault}
-use Rattle.line_runs.specs.Gain.{Text}
-use Rattle.line_runs.specs.Lines.{cut_text, is_over}
-use Rattle.line_runs.specs.Outcome.{Due, EndsDue, EndsOn}
-use Rattle.line_runs.specs.Pieces.{pieces}
+use Rattle.run_events.specs.declared.event.Event.{Event}
+use Rattle.run_events.specs.declared.script.ScriptEvent.{ScriptEvent}
+use Rattle.run_events.specs.Parse.{line_meaning}
+use Rattle.file_runs.specs.declared.ends.End.{End}
+use Rattle.file_runs.specs.declared.ends.Fault.{Fault}
+use Rattle.file_runs.specs.Gain.{Text}
+use Rattle.file_runs.specs.Lines.{cut_text, is_over}
+use Rattle.file_runs.specs.Outcome.{Due, EndsDue, EndsOn}
+use Rattle.file_runs.specs.Pieces.{pieces}
 use Rattle.ide_runs.specs.declared.topologies.Loaded.TheVariants.{Sound}
 use Rattle.ide_runs.specs.Script.{AtEnd, Script, run_due, script_of_pieces, script_of, with_line}
 use Rattle.ide_runs.specs.Topologies.{loaded_topology}

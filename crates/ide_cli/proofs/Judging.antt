@@ -4,11 +4,11 @@ use Rattle.std.specs.Prelude.{IfOk}
 use Rattle.std.proofs.lemmas.List.{append-nil}
 use Rattle.cli_files.specs.Outside.{Contents}
 use Rattle.ide_types.specs.declared.plan.Plan.{Plan}
-use Rattle.line_runs.specs.declared.ends.End.{End}
-use Rattle.line_runs.specs.declared.ends.End.TheVariants as end
-use Rattle.line_runs.specs.declared.ends.Fault.{Fault}
-use Rattle.line_runs.specs.Gain.{Text, Gained}
-use Rattle.line_runs.specs.Outcome.{Due, EndsBy, EndsDue, EndsOn}
+use Rattle.file_runs.specs.declared.ends.End.{End}
+use Rattle.file_runs.specs.declared.ends.End.TheVariants as end
+use Rattle.file_runs.specs.declared.ends.Fault.{Fault}
+use Rattle.file_runs.specs.Gain.{Text, Gained}
+use Rattle.file_runs.specs.Outcome.{Due, EndsBy, EndsDue, EndsOn}
 use Rattle.ide_runs.specs.{Tells, judgement_due}
 use Rattle.ide_runs.specs.declared.topologies.Loaded.TheVariants.{Sound}
 use Rattle.ide_runs.specs.Judge.{judge_due, judged_script_run, judged_run}

@@ -6,13 +6,13 @@ use Rattle.std.specs.Prelude.{IfOk}
 use Rattle.cli_files.specs.Outside.{Contents, ShelfSeen, SinkSeen}
 use Rattle.cli_words.specs.Words.{CommandRequest, command_asked, run, judge, why, check, migrate, show, generate}
 use Rattle.cli_words.specs.Words.{generate_script, generate_topology}
-use Rattle.line_runs.specs.declared.ends.End.{End}
-use Rattle.line_runs.specs.declared.ends.End.TheVariants as end
-use Rattle.line_runs.specs.declared.ends.Fault.{Fault}
-use Rattle.line_runs.specs.declared.ends.Fault.TheVariants as fault
-use Rattle.line_runs.specs.Gain.{Text, Gained}
-use Rattle.line_runs.specs.Outcome.{Due, Ran, RanOn}
-use Rattle.line_runs.proofs.WholeFiles.{IsDue, gained_nothing, out_of_memory, ran_after}
+use Rattle.file_runs.specs.declared.ends.End.{End}
+use Rattle.file_runs.specs.declared.ends.End.TheVariants as end
+use Rattle.file_runs.specs.declared.ends.Fault.{Fault}
+use Rattle.file_runs.specs.declared.ends.Fault.TheVariants as fault
+use Rattle.file_runs.specs.Gain.{Text, Gained}
+use Rattle.file_runs.specs.Outcome.{Due, Ran, RanOn}
+use Rattle.file_runs.proofs.WholeFiles.{IsDue, gained_nothing, out_of_memory, ran_after}
 use Rattle.ide_cli.specs.declared.status.Status.{Status}
 use Rattle.ide_runs.specs.Generated.{generated_due}
 use Rattle.ide_runs.specs.Judge.{judge_due}

@@ -4,7 +4,7 @@ use Rattle.std.specs.Prelude.{IfErr}
 use Rattle.cli_files.specs.Outside.{Contents, ShelfSeen}
 use Rattle.cli_words.specs.Words.{CommandRequest, run, judge, why, check, migrate, show, generate, generate_script}
 use Rattle.cli_words.specs.Words.{command_asked, generate_topology}
-use Rattle.line_runs.specs.Outcome.{Due, Ran}
+use Rattle.file_runs.specs.Outcome.{Due, Ran}
 use Rattle.ide_cli.specs.Seen.{CallSeen}
 use Rattle.ide_cli.specs.SoFar.{WroteSoFar, asked_so_far, lines_given}
 use Rattle.ide_runs.specs.SoFar.{WroteBy, script_so_far}

@@ -4,8 +4,8 @@ use Rattle.std.proofs.Common.{◌≡◌, ◌∙◌, ◌++◌, ℕ, [], Some, opt
 use Rattle.std.proofs.Common.{sym, ap, subst, inl, arith, drop, length-take, take}
 use Rattle.std.proofs.lemmas.List.{take-append-drop}
 use Rattle.ide_types.specs.declared.plan.Plan.{Plan}
-use Rattle.line_runs.specs.Gain.{Text, Gained}
-use Rattle.line_runs.specs.Outcome.{Due}
+use Rattle.file_runs.specs.Gain.{Text, Gained}
+use Rattle.file_runs.specs.Outcome.{Due}
 use Rattle.ide_runs.specs.declared.topologies.Loaded.TheVariants.{Sound}
 use Rattle.ide_runs.specs.Script.{Script, events_on, script_of}
 use Rattle.ide_runs.specs.Topologies.{loaded_topology}

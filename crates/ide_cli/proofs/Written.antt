@@ -12,18 +12,18 @@ use Rattle.script_events.specs.GeneratedEvents.{generated_events}
 use Rattle.script_events.specs.GeneratedTopology.{the_plan}
 use Rattle.script_events.proofs.GeneratedAllowed.{few_events}
 use Rattle.script_events.proofs.PlanFits.{the_plan_fits}
-use Rattle.link_events.specs.declared.event.Event.{Event}
+use Rattle.run_events.specs.declared.event.Event.{Event}
 use Rattle.spec_keys.specs.History.{History}
 use Rattle.spec_links.specs.Cause.{CauseLaw}
 use Rattle.law_text.specs.Runs.{history_on, history_with_event, text_on}
 use Rattle.law_text.specs.Telling.{events_told, lines_told, AreAllowed}
 use Rattle.law_text.specs.Statements.{LinesTell, AreTold}
 use Rattle.law_text.proofs.Reading.{length-events}
-use Rattle.line_runs.specs.Gain.{Text, Gained}
-use Rattle.line_runs.specs.Outcome.{Due, EndsBy, EndsDue, EndsOn}
-use Rattle.line_runs.specs.declared.ends.End.{End}
-use Rattle.line_runs.specs.declared.ends.Fault.{Fault}
-use Rattle.line_runs.proofs.Joins.{front_of_front, gained_front, later}
+use Rattle.file_runs.specs.Gain.{Text, Gained}
+use Rattle.file_runs.specs.Outcome.{Due, EndsBy, EndsDue, EndsOn}
+use Rattle.file_runs.specs.declared.ends.End.{End}
+use Rattle.file_runs.specs.declared.ends.Fault.{Fault}
+use Rattle.file_runs.proofs.Joins.{front_of_front, gained_front, later}
 use Rattle.ide_runs.specs.declared.topologies.Loaded.TheVariants.{Sound}
 use Rattle.ide_runs.specs.Script.{Script, last_line, due_after, events_on, script_of}
 use Rattle.ide_runs.specs.Generated.{generated_due, generated_history, generated_line}

@@ -6,11 +6,11 @@ use Rattle.script_events.specs.GeneratedEvents.{generated_events}
 use Rattle.script_events.specs.GeneratedTopology.{the_plan}
 use Rattle.script_events.specs.ScriptText.{generated_script}
 use Rattle.script_events.specs.TopologyText.{generated_topology}
-use Rattle.link_verdicts.specs.Lines.{totals_line_of}
+use Rattle.run_verdicts.specs.Lines.{totals_line_of}
 use Rattle.law_text.specs.Runs.{text_on, totals_of}
-use Rattle.line_runs.specs.declared.ends.End.TheVariants as end
-use Rattle.line_runs.specs.Gain.{Text}
-use Rattle.line_runs.specs.Outcome.{Due, RanOn}
+use Rattle.file_runs.specs.declared.ends.End.TheVariants as end
+use Rattle.file_runs.specs.Gain.{Text}
+use Rattle.file_runs.specs.Outcome.{Due, RanOn}
 use Rattle.ide_runs.specs.Generated.{generated_history}
 use Rattle.ide_cli.specs.Seen.{CallSeen}
 

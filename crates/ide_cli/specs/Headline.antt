@@ -4,11 +4,11 @@ use Rattle.cli_files.specs.Outside.{Contents}
 use Rattle.cli_words.specs.Words.{run, generate, command_asked}
 use Rattle.script_events.specs.GeneratedTopology.{the_plan}
 use Rattle.ide_types.specs.declared.plan.Plan.{Plan}
-use Rattle.link_events.specs.declared.event.Event.{Event}
+use Rattle.run_events.specs.declared.event.Event.{Event}
 use Rattle.spec_keys.specs.History.{History}
 use Rattle.law_text.specs.Runs.{history_on}
 use Rattle.law_text.specs.Telling.{VerdictsFit, events_told, lines_told}
-use Rattle.line_runs.specs.Gain.{Text, IsFront}
+use Rattle.file_runs.specs.Gain.{Text, IsFront}
 use Rattle.ide_runs.specs.declared.topologies.Loaded.TheVariants.{Sound}
 use Rattle.ide_runs.specs.Generated.{generated_history}
 use Rattle.ide_runs.specs.Script.{Script, events_on, script_of}

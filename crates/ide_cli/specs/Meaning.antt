@@ -5,12 +5,12 @@ use Rattle.cli_words.specs.Words.{CommandRequest, run, judge, why, check, migrat
 use Rattle.cli_words.specs.Words.{command_asked, generate_topology}
 use Rattle.script_events.specs.ScriptText.{generated_script}
 use Rattle.script_events.specs.TopologyText.{generated_topology}
-use Rattle.line_runs.specs.declared.ends.End.{End}
-use Rattle.line_runs.specs.declared.ends.End.TheVariants as end
-use Rattle.line_runs.specs.declared.ends.Fault.{Fault}
-use Rattle.line_runs.specs.Gain.{Text}
-use Rattle.line_runs.specs.Outcome.{Due, Ran, RanOn}
-use Rattle.line_runs.specs.Lines.{file_due}
+use Rattle.file_runs.specs.declared.ends.End.{End}
+use Rattle.file_runs.specs.declared.ends.End.TheVariants as end
+use Rattle.file_runs.specs.declared.ends.Fault.{Fault}
+use Rattle.file_runs.specs.Gain.{Text}
+use Rattle.file_runs.specs.Outcome.{Due, Ran, RanOn}
+use Rattle.file_runs.specs.Lines.{file_due}
 use Rattle.ide_runs.specs.Generated.{generated_due}
 use Rattle.ide_runs.specs.Judge.{judge_due}
 use Rattle.ide_runs.specs.Migrating.{MigratesFile}

@@ -1,14 +1,14 @@
 -- What a line of a packet file gives: a line that is too long gives nothing, and what is written is whole lines.
 use Rattle.std.specs.Prelude.{ℕ, ◌≡◌, nat_lt, true, [], length, Option, Some, None, Result, Ok, Err, IfOk, refl}
 use Rattle.std.proofs.Common.{inl}
-use Rattle.link_events.specs.declared.fault.LineFault.{LineFault}
-use Rattle.link_events.specs.declared.fault.LineFault.TheVariants.{TooLong}
-use Rattle.link_events.specs.Words.{line_limit}
-use Rattle.line_runs.specs.Reading.{packet_meaning}
-use Rattle.line_runs.specs.Showing.{line_shown}
-use Rattle.line_runs.specs.declared.ends.End.TheVariants as end
-use Rattle.line_runs.specs.Gain.{Text}
-use Rattle.line_runs.specs.Outcome.{Due, IsWholeLines}
+use Rattle.run_events.specs.declared.fault.LineFault.{LineFault}
+use Rattle.run_events.specs.declared.fault.LineFault.TheVariants.{TooLong}
+use Rattle.run_events.specs.Words.{line_limit}
+use Rattle.file_runs.specs.Reading.{packet_meaning}
+use Rattle.file_runs.specs.Showing.{line_shown}
+use Rattle.file_runs.specs.declared.ends.End.TheVariants as end
+use Rattle.file_runs.specs.Gain.{Text}
+use Rattle.file_runs.specs.Outcome.{Due, IsWholeLines}
 use Rattle.ide_runs.specs.LineLaws.{whole_line}
 
 abbrev pub packet_shown_at : ℕ → Result (Option Text) LineFault → Result (Unit {0} × Text) LineFault

@@ -3,10 +3,10 @@ use Rattle.std.specs.Prelude.{ℕ, ◌+◌, ◌≤◌, ◌≡◌, ◌⊎◌, len
 use Rattle.cli_files.specs.Outside.{Contents}
 use Rattle.cli_words.specs.Words.{CommandRequest, run, judge, why, check, migrate, show, generate, generate_script}
 use Rattle.cli_words.specs.Words.{command_asked, generate_topology}
-use Rattle.line_runs.specs.Front.{Gave, bytes_of}
-use Rattle.line_runs.specs.Gain.{Text}
-use Rattle.line_runs.specs.Gathering.{GoesOn, NoFurther, ReadAsFar}
-use Rattle.line_runs.specs.Lines.{file_limit}
+use Rattle.file_runs.specs.Front.{Gave, bytes_of}
+use Rattle.file_runs.specs.Gain.{Text}
+use Rattle.file_runs.specs.Gathering.{GoesOn, NoFurther, ReadAsFar}
+use Rattle.file_runs.specs.Lines.{file_limit}
 use Rattle.ide_runs.specs.{verdicts_limit}
 use Rattle.ide_runs.specs.Judge.{IsOneOf, JudgeNoFurther, JudgedPast}
 use Rattle.ide_runs.specs.Loading.{topology_limit}

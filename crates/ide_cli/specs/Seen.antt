@@ -2,11 +2,11 @@
 use Rattle.std.specs.Prelude.{List, map, Result, Ok, Err, String, Vec, string_bytes}
 use Rattle.std.proofs.Common.{Global}
 use Rattle.cli_files.specs.Outside.{ShelfSeen, SinkSeen}
-use Rattle.line_runs.specs.Gain.{Text}
-use Rattle.line_runs.specs.declared.ends.End.{End}
-use Rattle.line_runs.specs.declared.ends.End.TheVariants as end
-use Rattle.line_runs.specs.declared.ends.Fault.{Fault}
-use Rattle.line_runs.specs.declared.ends.Fault.TheVariants as fault
+use Rattle.file_runs.specs.Gain.{Text}
+use Rattle.file_runs.specs.declared.ends.End.{End}
+use Rattle.file_runs.specs.declared.ends.End.TheVariants as end
+use Rattle.file_runs.specs.declared.ends.Fault.{Fault}
+use Rattle.file_runs.specs.declared.ends.Fault.TheVariants as fault
 use Rattle.ide_cli.specs.declared.status.Status.{Status}
 use Rattle.ide_cli.specs.declared.status.Status.TheVariants as status
 

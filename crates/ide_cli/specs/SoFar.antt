@@ -3,9 +3,9 @@ use Rattle.std.specs.Prelude.{ℕ, [], take, Option, Some, None, IfErr}
 use Rattle.cli_files.specs.Outside.{Contents}
 use Rattle.cli_words.specs.Words.{CommandRequest, run, judge, why, check, migrate, show, generate, generate_script}
 use Rattle.cli_words.specs.Words.{command_asked, generate_topology}
-use Rattle.line_runs.specs.Front.{bytes_of}
-use Rattle.line_runs.specs.Gain.{Text}
-use Rattle.line_runs.specs.Gathering.{ended_text}
+use Rattle.file_runs.specs.Front.{bytes_of}
+use Rattle.file_runs.specs.Gain.{Text}
+use Rattle.file_runs.specs.Gathering.{ended_text}
 use Rattle.ide_runs.specs.SoFar.{WroteBy, files_so_far, run_so_far, script_given}
 use Rattle.ide_runs.specs.Why.{told_so_far}
 use Rattle.ide_cli.specs.Packets.{nothing_due, shown_line}

@@ -5,13 +5,13 @@ use Rattle.cli_words.specs.Words.{command_asked, generate, judge, why}
 use Rattle.ide_types.specs.declared.plan.Plan.{Plan}
 use Rattle.script_events.specs.GeneratedEvents.{generated_events}
 use Rattle.script_events.specs.GeneratedTopology.{the_plan}
-use Rattle.link_events.specs.declared.event.Event.{Event}
+use Rattle.run_events.specs.declared.event.Event.{Event}
 use Rattle.spec_keys.specs.History.{History}
 use Rattle.law_text.specs.Runs.{history_on}
-use Rattle.line_runs.specs.declared.ends.End.{End}
-use Rattle.line_runs.specs.declared.ends.End.TheVariants as end
-use Rattle.line_runs.specs.declared.ends.Fault.{Fault}
-use Rattle.line_runs.specs.Gain.{Text}
+use Rattle.file_runs.specs.declared.ends.End.{End}
+use Rattle.file_runs.specs.declared.ends.End.TheVariants as end
+use Rattle.file_runs.specs.declared.ends.Fault.{Fault}
+use Rattle.file_runs.specs.Gain.{Text}
 use Rattle.ide_runs.specs.{Tells}
 use Rattle.ide_runs.specs.declared.topologies.Loaded.TheVariants.{Sound}
 use Rattle.ide_runs.specs.Generated.{generated_history, generated_line}

@@ -2,10 +2,10 @@
 
 ghost use Rattle.std.specs.Prelude.{◌≡◌, ◌≢◌, ◌+◌, ◌≤◌, IfErr, IfOk, option_map, take};
 ghost use Rattle.cli_files.specs.Outside.{AsksFor};
-ghost use Rattle.line_runs.specs.Front.{AskedPieces, Gave, bytes_of};
-ghost use Rattle.line_runs.specs.Gathering.{GoesOn, NoFurther, ReadAsFar};
-ghost use Rattle.line_runs.specs.Lines.{file_limit};
-ghost use Rattle.line_runs.specs.Outcome.{RanOn};
+ghost use Rattle.file_runs.specs.Front.{AskedPieces, Gave, bytes_of};
+ghost use Rattle.file_runs.specs.Gathering.{GoesOn, NoFurther, ReadAsFar};
+ghost use Rattle.file_runs.specs.Lines.{file_limit};
+ghost use Rattle.file_runs.specs.Outcome.{RanOn};
 ghost use Rattle.ide_cli.specs.Meaning.{show_due};
 ghost use Rattle.ide_cli.specs.Packets.{long_packet, nothing_due, shown_line, whole_packet};
 ghost use Rattle.ide_cli.specs.SoFar.{shown_so_far};
@@ -13,8 +13,8 @@ ghost use Rattle.ide_runs.specs.SoFar.{WroteBy};
 
 use cli_files::{Shelf, Sink};
 use ide_types::{Bytes, OutOfMemory};
-use line_runs::{End, Fault, LineWork, parse_packet, run_file, show};
-use link_events::LineError;
+use file_runs::{End, Fault, LineWork, parse_packet, run_file, show};
+use run_events::LineError;
 use std::alloc::Global;
 use std::marker::Model;
 

@@ -1,11 +1,11 @@
 //! The script and the topology of generated events, as texts.
 
 ghost use Rattle.std.specs.Prelude.{◌≡◌, ◌≤◌, IfOk};
-ghost use Rattle.line_runs.specs.Outcome.{Ran};
+ghost use Rattle.file_runs.specs.Outcome.{Ran};
 ghost use Rattle.ide_cli.specs.Meaning.{script_text_due, topology_text_due};
 
 use cli_files::Sink;
-use line_runs::{End, Fault, finish};
+use file_runs::{End, Fault, finish};
 use script_events::{script_text, topology_text};
 use std::alloc::Global;
 

@@ -14,8 +14,8 @@ ghost use Rattle.spec_links.specs.HopLaws.{HopLaw, ThroughLaw};
 ghost use Rattle.spec_links.specs.Laws.{DrawsNeverFall, OrderIsNoForgery, PrefixLaw, WholeLaw};
 ghost use Rattle.spec_links.specs.Numbers.{NumbersFresh};
 ghost use Rattle.spec_links.specs.Ordered.{OrderLaw};
-ghost use Rattle.line_runs.specs.Front.{AskedPieces};
-ghost use Rattle.line_runs.specs.Outcome.{Ran};
+ghost use Rattle.file_runs.specs.Front.{AskedPieces};
+ghost use Rattle.file_runs.specs.Outcome.{Ran};
 ghost use Rattle.law_mmio.specs.Mmio.{MmioLaw};
 ghost use Rattle.law_memory.specs.Bindings.{BindOriginLaw};
 ghost use Rattle.law_memory.specs.Origin.{MemoryLaw, OriginLaw};
@@ -37,7 +37,7 @@ use cli_files::{Shelf, Sink};
 use cli_words::{Request, WordsError, read_words};
 use ide_runs::{check_topology, generate, judge, migrate_topology, run_files, why};
 use law_text::lines_tell;
-use line_runs::{End, Fault, finish};
+use file_runs::{End, Fault, finish};
 use std::alloc::Global;
 
 // Does what the words ask for.

@@ -3,7 +3,7 @@
 use crate::{MeasuredPackets, SendRefusal};
 use ide_prefix::PacketFault;
 use ide_types::{FailCause, SubKind};
-use link_verdicts::UnitName;
+use run_verdicts::UnitName;
 use tlp_layout::TlpFault;
 
 /// What becomes of a send (this profile).

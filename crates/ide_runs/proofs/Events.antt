@@ -6,21 +6,21 @@ use Rattle.std.specs.List.{AllByRecursion, slice_index_or}
 use Rattle.std.proofs.lemmas.List.{length-map}
 use Rattle.std.proofs.lemmas.List.Sums.{count_by-le-length}
 use Rattle.std.proofs.lemmas.List.Splits.{length-slice_split}
-use Rattle.line_runs.specs.Pieces.{pieces}
+use Rattle.file_runs.specs.Pieces.{pieces}
 use Rattle.ide_types.specs.declared.plan.Plan.{Plan}
 use Rattle.ide_types.specs.Fits.{FitsPlan}
-use Rattle.link_events.specs.declared.script.ScriptEvent.{ScriptEvent}
-use Rattle.link_events.specs.declared.fault.LineFault.{LineFault}
-use Rattle.link_events.specs.declared.fault.LineError.{LineError}
-use Rattle.link_events.specs.Parse.{line_meaning, IsLineAnswer}
-use Rattle.link_events.specs.Spells.{IsAllowed, IsAllowedInScript}
-use Rattle.link_events.proofs.Meanings.{meaning_is_spelling}
-use Rattle.link_events.proofs.Sizes.{spelled_are_allowed}
+use Rattle.run_events.specs.declared.script.ScriptEvent.{ScriptEvent}
+use Rattle.run_events.specs.declared.fault.LineFault.{LineFault}
+use Rattle.run_events.specs.declared.fault.LineError.{LineError}
+use Rattle.run_events.specs.Parse.{line_meaning, IsLineAnswer}
+use Rattle.run_events.specs.Spells.{IsAllowed, IsAllowedInScript}
+use Rattle.run_events.proofs.Meanings.{meaning_is_spelling}
+use Rattle.run_events.proofs.Sizes.{spelled_are_allowed}
 use Rattle.script_events.specs.{event_of}
 use Rattle.script_events.proofs.Allowed.{events_are_allowed}
 use Rattle.law_text.specs.Telling.{AreAllowed}
-use Rattle.line_runs.specs.Gain.{Text}
-use Rattle.line_runs.specs.Lines.{bytes_for_lines, cut_text, file_limit, is_over}
+use Rattle.file_runs.specs.Gain.{Text}
+use Rattle.file_runs.specs.Lines.{bytes_for_lines, cut_text, file_limit, is_over}
 use Rattle.ide_runs.specs.Works.{MayAsk}
 use Rattle.ide_runs.specs.Script.{Script, AtEnd, events_on, script_ended, with_line, unended_line, script_of_pieces}
 use Rattle.ide_runs.specs.Script.{script_of}

@@ -5,12 +5,12 @@ use Rattle.std.proofs.Common.{◌≡◌, ◌≤◌, ◌+◌, ◌-◌, ℕ, lengt
 use Rattle.std.specs.Prelude.{IfOk}
 use Rattle.cli_files.specs.Outside.{Contents, ShelfSeen}
 use Rattle.ide_types.specs.declared.plan.Plan.{Plan}
-use Rattle.line_runs.specs.declared.ends.End.{End}
-use Rattle.line_runs.specs.declared.ends.Fault.{Fault}
-use Rattle.line_runs.specs.Front.{GaveOf, bytes_of}
-use Rattle.line_runs.specs.Gain.{Text}
-use Rattle.line_runs.specs.Gathering.{NoFurther, ReadAsFar, ReadAsFarOf}
-use Rattle.line_runs.proofs.Joins.{joined}
+use Rattle.file_runs.specs.declared.ends.End.{End}
+use Rattle.file_runs.specs.declared.ends.Fault.{Fault}
+use Rattle.file_runs.specs.Front.{GaveOf, bytes_of}
+use Rattle.file_runs.specs.Gain.{Text}
+use Rattle.file_runs.specs.Gathering.{NoFurther, ReadAsFar, ReadAsFarOf}
+use Rattle.file_runs.proofs.Joins.{joined}
 use Rattle.ide_runs.specs.declared.topologies.Loaded.{Loaded}
 use Rattle.ide_runs.specs.declared.topologies.Loaded.TheVariants.{Sound, Faulty, Long}
 use Rattle.ide_runs.specs.Loading.{GaveAllOf, LoadedIn, LoadedOf}

@@ -4,8 +4,8 @@ use Rattle.std.specs.List.{AllByRecursion}
 use Rattle.script_events.specs.Left.{Takes}
 use Rattle.script_events.specs.GeneratedTopology.{the_plan}
 use Rattle.spec_keys.specs.History.{History}
-use Rattle.link_events.specs.declared.event.Event.{Event}
-use Rattle.link_events.specs.Spells.{IsAllowed}
+use Rattle.run_events.specs.declared.event.Event.{Event}
+use Rattle.run_events.specs.Spells.{IsAllowed}
 use Rattle.law_text.specs.Runs.{history_on, history_with_event}
 use Rattle.ide_types.specs.declared.plan.Plan.{Plan}
 use Rattle.ide_why.specs.{WorldView, IsNewWorld}

@@ -3,18 +3,18 @@ use Rattle.std.proofs.Common.{◌≡◌, ◌≢◌, ◌≤◌, ◌+◌, ◌++◌
 use Rattle.std.proofs.Common.{option_map, List, refl, sym, ap, inl, inr, subst, ◌∙◌, arith}
 use Rattle.std.specs.Prelude.{IfErr, IfOk}
 use Rattle.cli_files.specs.Outside.{AsksFor, AsksOnly, Contents, Rose, ShelfSeen, SinkSeen}
-use Rattle.line_runs.specs.declared.ends.End.{End}
-use Rattle.line_runs.specs.declared.ends.End.TheVariants as end
-use Rattle.line_runs.specs.declared.ends.Fault.{Fault}
-use Rattle.line_runs.specs.declared.ends.Fault.TheVariants as fault
-use Rattle.line_runs.specs.Front.{GaveOf, bytes_of}
-use Rattle.line_runs.specs.Gain.{Text, Gained}
-use Rattle.line_runs.specs.Gathering.{GainedAt, ReadAsFar, ReadAsFarOf}
-use Rattle.line_runs.specs.Outcome.{Due, EndsDue, EndsOn}
-use Rattle.line_runs.proofs.Joins.{joined}
-use Rattle.line_runs.proofs.FileNames.{asks_as, asks_more}
-use Rattle.line_runs.proofs.WholeFiles.{IsDue, SameDue, gained_nothing}
-use Rattle.line_runs.specs.Judging.{judgement_due}
+use Rattle.file_runs.specs.declared.ends.End.{End}
+use Rattle.file_runs.specs.declared.ends.End.TheVariants as end
+use Rattle.file_runs.specs.declared.ends.Fault.{Fault}
+use Rattle.file_runs.specs.declared.ends.Fault.TheVariants as fault
+use Rattle.file_runs.specs.Front.{GaveOf, bytes_of}
+use Rattle.file_runs.specs.Gain.{Text, Gained}
+use Rattle.file_runs.specs.Gathering.{GainedAt, ReadAsFar, ReadAsFarOf}
+use Rattle.file_runs.specs.Outcome.{Due, EndsDue, EndsOn}
+use Rattle.file_runs.proofs.Joins.{joined}
+use Rattle.file_runs.proofs.FileNames.{asks_as, asks_more}
+use Rattle.file_runs.proofs.WholeFiles.{IsDue, SameDue, gained_nothing}
+use Rattle.file_runs.specs.Judging.{judgement_due}
 use Rattle.ide_runs.specs.declared.topologies.Loaded.{Loaded}
 use Rattle.ide_runs.specs.declared.topologies.Loaded.TheVariants.{Sound, Faulty, Long}
 use Rattle.ide_runs.specs.Judge.{FurtherAt, FurtherBy, IsOneOf, JudgeNoFurther, judge_due, judged_script_run}

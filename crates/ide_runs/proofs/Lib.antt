@@ -8,5 +8,5 @@ mod Migrating
 pub mod Judges
 pub mod Whys
 -- what proofs above cite
-pub use Rattle.line_runs.proofs.Findings.{judged_tells}
+pub use Rattle.file_runs.proofs.Findings.{judged_tells}
 pub use Rattle.ide_runs.proofs.Migrating.{failed_migration}

@@ -9,17 +9,17 @@ use Rattle.std.proofs.lemmas.Bool.Decides.{nat_tests}
 use Rattle.std.proofs.lemmas.List.{length-take-le, take_all}
 use Rattle.cli_files.specs.Outside.{Contents, Rose, ShelfSeen, SinkSeen}
 use Rattle.ide_types.specs.declared.plan.Plan.{Plan}
-use Rattle.line_runs.specs.Gain.{Text, Gained}
-use Rattle.line_runs.specs.Front.{FrontIn, FrontOf, Gave, GaveAtMost, GaveOf, bytes_of}
-use Rattle.line_runs.specs.Gathering.{GainedAt, WroteEnded, WroteEndedIn, WroteEndedOf, open_line}
-use Rattle.line_runs.specs.Outcome.{Due, EndsOn, Ran}
-use Rattle.line_runs.specs.declared.ends.Fault.TheVariants as fault
-use Rattle.line_runs.specs.declared.front.Unread.TheVariants as unread
-use Rattle.line_runs.specs.declared.ends.End.{End}
-use Rattle.line_runs.specs.declared.ends.End.TheVariants.{Done, TooLong}
-use Rattle.line_runs.specs.declared.ends.Fault.{Fault}
-use Rattle.line_runs.proofs.WholeFiles.{IsDue, SameDue, stopped}
-use Rattle.line_runs.proofs.Joins.{gained_none, joined, some_gained}
+use Rattle.file_runs.specs.Gain.{Text, Gained}
+use Rattle.file_runs.specs.Front.{FrontIn, FrontOf, Gave, GaveAtMost, GaveOf, bytes_of}
+use Rattle.file_runs.specs.Gathering.{GainedAt, WroteEnded, WroteEndedIn, WroteEndedOf, open_line}
+use Rattle.file_runs.specs.Outcome.{Due, EndsOn, Ran}
+use Rattle.file_runs.specs.declared.ends.Fault.TheVariants as fault
+use Rattle.file_runs.specs.declared.front.Unread.TheVariants as unread
+use Rattle.file_runs.specs.declared.ends.End.{End}
+use Rattle.file_runs.specs.declared.ends.End.TheVariants.{Done, TooLong}
+use Rattle.file_runs.specs.declared.ends.Fault.{Fault}
+use Rattle.file_runs.proofs.WholeFiles.{IsDue, SameDue, stopped}
+use Rattle.file_runs.proofs.Joins.{gained_none, joined, some_gained}
 use Rattle.ide_runs.specs.declared.topologies.Loaded.{Loaded}
 use Rattle.ide_runs.specs.SoFar.{WroteBy, WroteByIn, WroteByOf, files_so_far, loaded_so_far, script_given}
 use Rattle.ide_runs.specs.declared.topologies.Loaded.TheVariants.{Sound, Faulty, Long}

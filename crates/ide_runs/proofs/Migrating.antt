@@ -8,14 +8,14 @@ use Rattle.cli_files.specs.Outside.{Contents, ShelfSeen, SinkSeen}
 use Rattle.ide_types.specs.declared.plan.Plan.{Plan}
 use Rattle.topology.specs.Meaning.{plan_of}
 use Rattle.topology.specs.Migration.{IsMigrated}
-use Rattle.line_runs.specs.declared.ends.End.{End}
-use Rattle.line_runs.specs.declared.ends.End.TheVariants as end
-use Rattle.line_runs.specs.declared.ends.Fault.{Fault}
-use Rattle.line_runs.specs.declared.ends.Fault.TheVariants as fault
-use Rattle.line_runs.specs.declared.front.Unread.{Unread}
-use Rattle.line_runs.specs.Front.{FrontOf, Gave, UnreadCause}
-use Rattle.line_runs.specs.Gain.{Text, Gained}
-use Rattle.line_runs.proofs.WholeFiles.{fault_of, gained_nothing, ran_after, stopped}
+use Rattle.file_runs.specs.declared.ends.End.{End}
+use Rattle.file_runs.specs.declared.ends.End.TheVariants as end
+use Rattle.file_runs.specs.declared.ends.Fault.{Fault}
+use Rattle.file_runs.specs.declared.ends.Fault.TheVariants as fault
+use Rattle.file_runs.specs.declared.front.Unread.{Unread}
+use Rattle.file_runs.specs.Front.{FrontOf, Gave, UnreadCause}
+use Rattle.file_runs.specs.Gain.{Text, Gained}
+use Rattle.file_runs.proofs.WholeFiles.{fault_of, gained_nothing, ran_after, stopped}
 use Rattle.ide_runs.specs.declared.topologies.Loaded.TheVariants.{Sound, Long}
 use Rattle.ide_runs.specs.Loading.{topology_limit}
 use Rattle.ide_runs.specs.Migrating.{IsFailure, MigratedFor, MigratesFile, WritesMigrated}

@@ -7,7 +7,7 @@ use Rattle.ide_types.specs.Fits.{FitsPlan}
 use Rattle.toml_walk.specs.declared.fault.PlanFault.{PlanFault}
 use Rattle.topology.specs.Meaning.{document, plan_of, plan_of_document}
 use Rattle.topology.proofs.PlanFits.{given_fits}
-use Rattle.line_runs.specs.Gain.{Text}
+use Rattle.file_runs.specs.Gain.{Text}
 use Rattle.ide_runs.specs.declared.topologies.Loaded.TheVariants.{Sound, Long}
 use Rattle.ide_runs.specs.Loading.{topology_limit}
 use Rattle.ide_runs.specs.Topologies.{by_plan, loaded_topology}

@@ -6,27 +6,27 @@ use Rattle.std.proofs.Common.{Ok, Err, refl, sym, ap, ◌∙◌, subst, arith, a
 use Rattle.std.specs.Prelude.{nat_lt, sum_by}
 use Rattle.std.proofs.lemmas.List.Sums.{sum_by-cons}
 use Rattle.ide_types.specs.declared.plan.Plan.{Plan}
-use Rattle.link_events.specs.declared.event.Event.{Event}
-use Rattle.link_events.specs.declared.script.ScriptEvent.{ScriptEvent}
-use Rattle.link_verdicts.specs.declared.verdict.Verdict.{Verdict}
-use Rattle.link_verdicts.specs.declared.verdict.Totals.{Totals}
-use Rattle.link_events.specs.declared.fault.LineFault.{LineFault}
-use Rattle.link_events.specs.Parse.{line_meaning}
-use Rattle.link_verdicts.specs.Lines.{line_of}
-use Rattle.link_verdicts.specs.Shown.{verdict_by_ports}
+use Rattle.run_events.specs.declared.event.Event.{Event}
+use Rattle.run_events.specs.declared.script.ScriptEvent.{ScriptEvent}
+use Rattle.run_verdicts.specs.declared.verdict.Verdict.{Verdict}
+use Rattle.run_verdicts.specs.declared.verdict.Totals.{Totals}
+use Rattle.run_events.specs.declared.fault.LineFault.{LineFault}
+use Rattle.run_events.specs.Parse.{line_meaning}
+use Rattle.run_verdicts.specs.Lines.{line_of}
+use Rattle.run_verdicts.specs.Shown.{verdict_by_ports}
 use Rattle.spec_keys.specs.History.{History}
 use Rattle.spec_links.specs.Due.{due}
 use Rattle.script_events.specs.{event_of}
 use Rattle.law_text.specs.Runs.{history_with_event, history_on, text_on, totals_of, sealed_count, accepted_in}
 use Rattle.law_text.specs.Runs.{failed_in, blocked_in}
 use Rattle.ide_why.specs.{WorldView, WorldStandsFor, IsNewWorld, IsStep}
-use Rattle.line_runs.specs.Gain.{Text}
-use Rattle.line_runs.specs.Outcome.{Due}
-use Rattle.line_runs.specs.Pieces.{pieces}
-use Rattle.line_runs.specs.Lines.{after, cut_text, file_due, go_on, is_over, process, unended_due}
+use Rattle.file_runs.specs.Gain.{Text}
+use Rattle.file_runs.specs.Outcome.{Due}
+use Rattle.file_runs.specs.Pieces.{pieces}
+use Rattle.file_runs.specs.Lines.{after, cut_text, file_due, go_on, is_over, process, unended_due}
 use Rattle.ide_runs.specs.Script.{Script, AtEnd, script_ended, with_line, unended_line, script_of_pieces, run_end}
 use Rattle.ide_runs.specs.Script.{last_line, due_after, events_on, script_due}
-use Rattle.line_runs.specs.Gathering.{GoesOn, ended_text}
+use Rattle.file_runs.specs.Gathering.{GoesOn, ended_text}
 use Rattle.ide_runs.specs.Reads.{ScriptGoesOn}
 use Rattle.ide_runs.specs.SoFar.{script_so_far}
 use Rattle.ide_runs.specs.Works.{RunningView, ScriptPast, Follows, EventCame, VerdictCame, totals_with, ran_event}
@@ -154,10 +154,10 @@ script_runs plan over n h (piece ∷ next ∷ rest) =
     (script_of_pieces over (n + 1) (next ∷ rest)) (λ g. script_runs plan over (n + 1) g (next ∷ rest))
 
 -- a script's file run on the world of a plan
-pub file_runs : (plan : Plan) (file : Text)
+pub file_is_run : (plan : Plan) (file : Text)
     → file_due ran_line closing_due (record { plan = plan; history = [] }) file ≡ script_due plan file
 unfolding past_of
-file_runs plan file = script_runs plan (is_over file) 1 [] (pieces (cut_text file))
+file_is_run plan file = script_runs plan (is_over file) 1 [] (pieces (cut_text file))
 
 -- the lines of it that ended in some bytes
 pub ended_runs : (plan : Plan) (bytes : Text)

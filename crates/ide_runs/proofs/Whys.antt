@@ -6,20 +6,20 @@ use Rattle.std.proofs.lemmas.Bool.{lt-ltb, le-ltb}
 use Rattle.std.proofs.lemmas.List.{length-map}
 use Rattle.std.proofs.lemmas.Bool.Decides.{nat_tests}
 use Rattle.ide_types.specs.declared.plan.Plan.{Plan}
-use Rattle.link_events.specs.declared.event.Event.{Event}
-use Rattle.link_events.specs.declared.script.ScriptEvent.{ScriptEvent}
-use Rattle.link_events.specs.declared.fault.LineFault.{LineFault}
-use Rattle.link_events.specs.Parse.{line_meaning}
+use Rattle.run_events.specs.declared.event.Event.{Event}
+use Rattle.run_events.specs.declared.script.ScriptEvent.{ScriptEvent}
+use Rattle.run_events.specs.declared.fault.LineFault.{LineFault}
+use Rattle.run_events.specs.Parse.{line_meaning}
 use Rattle.spec_keys.specs.History.{History}
 use Rattle.script_events.specs.{event_of}
 use Rattle.law_text.specs.Runs.{history_on, history_with_event}
 use Rattle.ide_why.specs.{IsNewWorld, WorldView}
-use Rattle.line_runs.specs.declared.ends.End.TheVariants as end
-use Rattle.line_runs.specs.Gain.{Text}
-use Rattle.line_runs.specs.Gathering.{GoesOn, ended_text}
-use Rattle.line_runs.specs.Lines.{after, cut_text, file_due, go_on, is_over, process, unended_due}
-use Rattle.line_runs.specs.Outcome.{Due}
-use Rattle.line_runs.specs.Pieces.{pieces}
+use Rattle.file_runs.specs.declared.ends.End.TheVariants as end
+use Rattle.file_runs.specs.Gain.{Text}
+use Rattle.file_runs.specs.Gathering.{GoesOn, ended_text}
+use Rattle.file_runs.specs.Lines.{after, cut_text, file_due, go_on, is_over, process, unended_due}
+use Rattle.file_runs.specs.Outcome.{Due}
+use Rattle.file_runs.specs.Pieces.{pieces}
 use Rattle.ide_runs.specs.Reads.{ScriptGoesOn}
 use Rattle.ide_runs.specs.Script.{AtEnd, AtLimit, Refused, Script, ScriptEnd, run_end, events_on, script_of_pieces}
 use Rattle.ide_runs.specs.Script.{script_ended, unended_line, with_line}

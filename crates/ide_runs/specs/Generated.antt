@@ -5,10 +5,10 @@ use Rattle.script_events.specs.GeneratedEvents.{generated_events}
 use Rattle.script_events.specs.GeneratedTopology.{the_plan}
 use Rattle.spec_keys.specs.History.{History}
 use Rattle.law_text.specs.Runs.{history_on, totals_of}
-use Rattle.link_verdicts.specs.Lines.{totals_line_of}
-use Rattle.line_runs.specs.declared.ends.End.TheVariants as end
-use Rattle.line_runs.specs.Gain.{Text}
-use Rattle.line_runs.specs.Outcome.{Due}
+use Rattle.run_verdicts.specs.Lines.{totals_line_of}
+use Rattle.file_runs.specs.declared.ends.End.TheVariants as end
+use Rattle.file_runs.specs.Gain.{Text}
+use Rattle.file_runs.specs.Outcome.{Due}
 
 -- the history of the events of a seed and a number of rounds
 abbrev pub generated_history : (seed count : ℕ) → History

@@ -1,12 +1,12 @@
 -- A text that is judged by what a run writes: what is due, and how much is read.
 use Rattle.std.specs.Prelude.{ℕ, ◌≡◌, ◌≢◌, ◌⊎◌, ◌+◌, ◌≤◌, [], length, Option, Some, None, option_map}
-use Rattle.line_runs.specs.declared.ends.End.{End}
-use Rattle.line_runs.specs.declared.ends.End.TheVariants as end
-use Rattle.line_runs.specs.Front.{Gave, bytes_of}
-use Rattle.line_runs.specs.Gain.{Text}
-use Rattle.line_runs.specs.Lines.{file_limit}
-use Rattle.line_runs.specs.Outcome.{Due}
-use Rattle.line_runs.specs.Judging.{judgement_due, last_line_of, verdicts_limit}
+use Rattle.file_runs.specs.declared.ends.End.{End}
+use Rattle.file_runs.specs.declared.ends.End.TheVariants as end
+use Rattle.file_runs.specs.Front.{Gave, bytes_of}
+use Rattle.file_runs.specs.Gain.{Text}
+use Rattle.file_runs.specs.Lines.{file_limit}
+use Rattle.file_runs.specs.Outcome.{Due}
+use Rattle.file_runs.specs.Judging.{judgement_due, last_line_of, verdicts_limit}
 use Rattle.ide_runs.specs.Loading.{topology_limit}
 use Rattle.ide_runs.specs.Reads.{RanPast, RunNoFurther}
 use Rattle.ide_runs.specs.Script.{run_due}

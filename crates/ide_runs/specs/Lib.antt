@@ -10,4 +10,4 @@ pub mod SoFar
 pub mod Reads
 pub mod Judge
 -- what clauses above cite
-pub use Rattle.line_runs.specs.Judging.{Tells, judgement_due, verdicts_limit}
+pub use Rattle.file_runs.specs.Judging.{Tells, judgement_due, verdicts_limit}

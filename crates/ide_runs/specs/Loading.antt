@@ -1,10 +1,10 @@
 -- A topology's file that is read, of which so many bytes count.
 use Rattle.std.specs.Prelude.{ℕ, ◌≡◌, ◌⊎◌, ◌≤◌, nat_lt, if◌then◌else◌, Result, Ok, Err, length, Option, Some, None}
 use Rattle.cli_files.specs.Outside.{Contents, Rose, Lacks}
-use Rattle.line_runs.specs.declared.ends.Fault.{Fault}
-use Rattle.line_runs.specs.declared.ends.Fault.TheVariants as fault
-use Rattle.line_runs.specs.Front.{Gave, bytes_of}
-use Rattle.line_runs.specs.Gain.{Text}
+use Rattle.file_runs.specs.declared.ends.Fault.{Fault}
+use Rattle.file_runs.specs.declared.ends.Fault.TheVariants as fault
+use Rattle.file_runs.specs.Front.{Gave, bytes_of}
+use Rattle.file_runs.specs.Gain.{Text}
 
 -- how many bytes of a topology count
 abbrev pub topology_limit : ℕ

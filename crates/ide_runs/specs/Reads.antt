@@ -1,12 +1,12 @@
 -- How much of a topology and a script is read.
 use Rattle.std.specs.Prelude.{ℕ, ◌+◌, ◌-◌, ◌≤◌, ◌≡◌, ◌⊎◌, true, [], length, Option, Some, None}
 use Rattle.ide_types.specs.declared.plan.Plan.{Plan}
-use Rattle.line_runs.specs.Pieces.{pieces}
-use Rattle.line_runs.specs.declared.ends.End.TheVariants as end
-use Rattle.line_runs.specs.Front.{Gave, bytes_of}
-use Rattle.line_runs.specs.Gain.{Text}
-use Rattle.line_runs.specs.Gathering.{NoFurther}
-use Rattle.line_runs.specs.Lines.{file_limit}
+use Rattle.file_runs.specs.Pieces.{pieces}
+use Rattle.file_runs.specs.declared.ends.End.TheVariants as end
+use Rattle.file_runs.specs.Front.{Gave, bytes_of}
+use Rattle.file_runs.specs.Gain.{Text}
+use Rattle.file_runs.specs.Gathering.{NoFurther}
+use Rattle.file_runs.specs.Lines.{file_limit}
 use Rattle.ide_runs.specs.declared.topologies.Loaded.{Loaded}
 use Rattle.ide_runs.specs.declared.topologies.Loaded.TheVariants.{Sound, Faulty, Long}
 use Rattle.ide_runs.specs.Loading.{topology_limit}

@@ -1,23 +1,23 @@
 -- A script: the events of its lines, and how its reading ends.
 use Rattle.std.specs.Prelude.{ℕ, ◌+◌, ◌==◌, nat_lt, Bool, List, [], ◌∷◌, ◌++◌, length, map, Option, Some, None}
 use Rattle.std.specs.Prelude.{Result, Ok, Err, if◌then◌else◌, option_map}
-use Rattle.line_runs.specs.Pieces.{pieces}
+use Rattle.file_runs.specs.Pieces.{pieces}
 use Rattle.ide_types.specs.declared.plan.Plan.{Plan}
-use Rattle.link_events.specs.declared.event.Event.{Event}
-use Rattle.link_events.specs.declared.script.ScriptEvent.{ScriptEvent}
-use Rattle.link_events.specs.declared.fault.LineFault.{LineFault}
-use Rattle.link_events.specs.declared.fault.LineFault.TheVariants as line
-use Rattle.link_events.specs.Words.{fault_line_of, line_limit}
-use Rattle.link_events.specs.Parse.{line_meaning}
-use Rattle.link_verdicts.specs.Lines.{totals_line_of}
+use Rattle.run_events.specs.declared.event.Event.{Event}
+use Rattle.run_events.specs.declared.script.ScriptEvent.{ScriptEvent}
+use Rattle.run_events.specs.declared.fault.LineFault.{LineFault}
+use Rattle.run_events.specs.declared.fault.LineFault.TheVariants as line
+use Rattle.run_events.specs.Words.{fault_line_of, line_limit}
+use Rattle.run_events.specs.Parse.{line_meaning}
+use Rattle.run_verdicts.specs.Lines.{totals_line_of}
 use Rattle.spec_keys.specs.History.{History}
 use Rattle.script_events.specs.{event_of}
 use Rattle.law_text.specs.Runs.{history_on, text_on, totals_of}
-use Rattle.line_runs.specs.declared.ends.End.{End}
-use Rattle.line_runs.specs.declared.ends.End.TheVariants as end
-use Rattle.line_runs.specs.Gain.{Text}
-use Rattle.line_runs.specs.Outcome.{Due}
-use Rattle.line_runs.specs.Lines.{is_over, cut_text}
+use Rattle.file_runs.specs.declared.ends.End.{End}
+use Rattle.file_runs.specs.declared.ends.End.TheVariants as end
+use Rattle.file_runs.specs.Gain.{Text}
+use Rattle.file_runs.specs.Outcome.{Due}
+use Rattle.file_runs.specs.Lines.{is_over, cut_text}
 use Rattle.ide_runs.specs.declared.topologies.Loaded.{Loaded}
 use Rattle.ide_runs.specs.declared.topologies.Loaded.TheVariants.{Sound, Faulty, Long}
 use Rattle.ide_runs.specs.Topologies.{loaded_topology, plan_refusal}

@@ -2,12 +2,12 @@
 use Rattle.std.specs.Prelude.{ℕ, ◌+◌, ◌-◌, ◌≤◌, true, [], length, take, Option, Some, None}
 use Rattle.cli_files.specs.Outside.{Contents, ShelfSeen, SinkSeen}
 use Rattle.ide_types.specs.declared.plan.Plan.{Plan}
-use Rattle.line_runs.specs.Pieces.{pieces}
-use Rattle.link_events.specs.Words.{line_limit}
-use Rattle.line_runs.specs.Front.{Gave, bytes_of}
-use Rattle.line_runs.specs.declared.ends.Fault.{Fault}
-use Rattle.line_runs.specs.Gain.{Text}
-use Rattle.line_runs.specs.Gathering.{GainedAt, open_line, waiting_at}
+use Rattle.file_runs.specs.Pieces.{pieces}
+use Rattle.run_events.specs.Words.{line_limit}
+use Rattle.file_runs.specs.Front.{Gave, bytes_of}
+use Rattle.file_runs.specs.declared.ends.Fault.{Fault}
+use Rattle.file_runs.specs.Gain.{Text}
+use Rattle.file_runs.specs.Gathering.{GainedAt, open_line, waiting_at}
 use Rattle.ide_runs.specs.declared.topologies.Loaded.{Loaded}
 use Rattle.ide_runs.specs.declared.topologies.Loaded.TheVariants.{Sound, Faulty, Long}
 use Rattle.ide_runs.specs.Script.{due_after, script_of_pieces}

@@ -3,24 +3,24 @@ use Rattle.std.specs.Prelude.{ℕ, ◌+◌, ◌≡◌, nat_lt, true, List, [], �
 use Rattle.std.specs.Prelude.{Err, codes, if◌then◌else◌}
 use Rattle.std.specs.Fmt.{decimal}
 use Rattle.ide_types.specs.declared.plan.Plan.{Plan}
-use Rattle.link_events.specs.declared.event.Event.{Event}
-use Rattle.link_events.specs.declared.script.ScriptEvent.{ScriptEvent}
-use Rattle.link_events.specs.declared.fault.LineFault.{LineFault}
-use Rattle.link_events.specs.Words.{fault_line_of}
-use Rattle.link_events.specs.Parse.{line_meaning}
-use Rattle.link_verdicts.specs.Lines.{line_of}
-use Rattle.link_verdicts.specs.Shown.{verdict_by_ports}
+use Rattle.run_events.specs.declared.event.Event.{Event}
+use Rattle.run_events.specs.declared.script.ScriptEvent.{ScriptEvent}
+use Rattle.run_events.specs.declared.fault.LineFault.{LineFault}
+use Rattle.run_events.specs.Words.{fault_line_of}
+use Rattle.run_events.specs.Parse.{line_meaning}
+use Rattle.run_verdicts.specs.Lines.{line_of}
+use Rattle.run_verdicts.specs.Shown.{verdict_by_ports}
 use Rattle.spec_keys.specs.History.{History}
 use Rattle.spec_links.specs.Due.{due}
 use Rattle.script_events.specs.{event_of}
 use Rattle.law_text.specs.Runs.{history_with_event}
 use Rattle.ide_why.specs.{facts_due}
 use Rattle.why_facts.specs.{why_text_of}
-use Rattle.line_runs.specs.declared.ends.End.TheVariants as end
-use Rattle.line_runs.specs.Gain.{Text}
-use Rattle.line_runs.specs.Lines.{after}
-use Rattle.line_runs.specs.Outcome.{Due}
-use Rattle.line_runs.specs.Pieces.{pieces}
+use Rattle.file_runs.specs.declared.ends.End.TheVariants as end
+use Rattle.file_runs.specs.Gain.{Text}
+use Rattle.file_runs.specs.Lines.{after}
+use Rattle.file_runs.specs.Outcome.{Due}
+use Rattle.file_runs.specs.Pieces.{pieces}
 use Rattle.ide_runs.specs.Script.{AtEnd, AtLimit, Refused, Script, ScriptEnd, due_of_files, events_on, script_of_pieces}
 use Rattle.ide_runs.specs.Script.{script_of}
 use Rattle.ide_runs.specs.Works.{Follows, RunningView, ScriptPast, past_with}

@@ -5,10 +5,10 @@ ghost use Rattle.std.specs.Fmt.{decimal};
 ghost use Rattle.std.specs.List.{AllByRecursion};
 ghost use Rattle.script_events.specs.GeneratedEvents.{generated_events};
 ghost use Rattle.script_events.specs.GeneratedTopology.{the_plan};
-ghost use Rattle.line_runs.specs.Outcome.{Ran};
-ghost use Rattle.link_events.specs.Spells.{IsAllowed};
+ghost use Rattle.file_runs.specs.Outcome.{Ran};
+ghost use Rattle.run_events.specs.Spells.{IsAllowed};
 ghost use Rattle.law_text.specs.Runs.{history_on};
-ghost use Rattle.link_verdicts.specs.Lines.{totals_line_of};
+ghost use Rattle.run_verdicts.specs.Lines.{totals_line_of};
 ghost use Rattle.ide_runs.specs.Generated.{generated_due, generated_history, generated_line};
 ghost use Rattle.ide_runs.specs.Works.{Follows, IsEarly};
 
@@ -16,8 +16,8 @@ use crate::script::Running;
 use cli_files::Sink;
 use ide_types::OutOfMemory;
 use ide_why::World;
-use line_runs::{End, Fault, finish};
-use link_verdicts::totals_line;
+use file_runs::{End, Fault, finish};
+use run_verdicts::totals_line;
 use script_events::{Generator, generated_are_allowed, topology};
 use std::alloc::Global;
 

@@ -2,18 +2,18 @@
 
 ghost use Rattle.std.specs.Prelude.{◌≡◌, ◌≢◌, ◌≤◌, ◌+◌, [], IfErr, IfOk, MatchOption};
 ghost use Rattle.cli_files.specs.Outside.{AsksOnly};
-ghost use Rattle.line_runs.specs.Judging.{verdicts_limit};
-ghost use Rattle.line_runs.specs.Front.{AskedPieces};
-ghost use Rattle.line_runs.specs.Gathering.{ReadAsFar};
-ghost use Rattle.line_runs.specs.Lines.{file_limit};
-ghost use Rattle.line_runs.specs.Outcome.{RanOn};
+ghost use Rattle.file_runs.specs.Judging.{verdicts_limit};
+ghost use Rattle.file_runs.specs.Front.{AskedPieces};
+ghost use Rattle.file_runs.specs.Gathering.{ReadAsFar};
+ghost use Rattle.file_runs.specs.Lines.{file_limit};
+ghost use Rattle.file_runs.specs.Outcome.{RanOn};
 ghost use Rattle.ide_runs.specs.Judge.{IsLeft, IsOneOf, JudgeNoFurther, JudgedPast, judge_due};
 ghost use Rattle.ide_runs.specs.Loading.{topology_limit};
 ghost use Rattle.ide_runs.specs.SoFar.{WroteBy};
 
 use crate::script::run_files;
 use cli_files::{Shelf, Sink, TrueSink};
-use line_runs::{End, Fault, finish, judge_file, last_line};
+use file_runs::{End, Fault, finish, judge_file, last_line};
 use std::alloc::Global;
 
 // What is left to write of a run that did not come to the end of its script; `None` if it did.

@@ -2,9 +2,9 @@
 
 ghost use Rattle.std.specs.Prelude.{◌≡◌, ◌≢◌, ◌+◌, ◌<◌, ◌≤◌, IfOk, IfErr, length, option_map, []};
 ghost use Rattle.cli_files.specs.Outside.{AsksFor};
-ghost use Rattle.line_runs.specs.Front.{AskedPieces, Gave, GaveAtMost, GaveOf, bytes_of};
-ghost use Rattle.line_runs.specs.Gathering.{ReadAsFar};
-ghost use Rattle.line_runs.specs.Outcome.{Ran, RanOn};
+ghost use Rattle.file_runs.specs.Front.{AskedPieces, Gave, GaveAtMost, GaveOf, bytes_of};
+ghost use Rattle.file_runs.specs.Gathering.{ReadAsFar};
+ghost use Rattle.file_runs.specs.Outcome.{Ran, RanOn};
 ghost use Rattle.ide_runs.specs.Loading.{GaveAllOf, LoadCause, Loads, topology_limit};
 ghost use Rattle.ide_runs.specs.Migrating.{MigratedFor, WritesMigrated};
 ghost use Rattle.ide_runs.specs.SoFar.{WroteBy};
@@ -13,7 +13,7 @@ ghost use Rattle.ide_runs.specs.Topologies.{report as report_of, HasFitting};
 
 use cli_files::{Shelf, Sink};
 use ide_types::{OutOfMemory, Plan};
-use line_runs::{End, Fault, Unread, finish, read_front};
+use file_runs::{End, Fault, Unread, finish, read_front};
 use std::alloc::Global;
 use topology::{PlanError, PlanFault};
 

@@ -1,12 +1,12 @@
 -- What a session is, and what each call makes of one.
 use Rattle.std.specs.Prelude.{ℕ, ◌≡◌, ◌⊎◌, ◌+◌, ◌<◌, ◌≤◌, length, take, [], Option, Some, None, Result, Ok, Err, IsSome}
-use Rattle.link_events.specs.declared.fault.LineFault.{LineFault}
-use Rattle.link_events.specs.declared.script.ScriptEvent.{ScriptEvent}
-use Rattle.link_events.specs.Parse.{line_meaning}
-use Rattle.link_events.specs.Words.{fault_line_of}
+use Rattle.run_events.specs.declared.fault.LineFault.{LineFault}
+use Rattle.run_events.specs.declared.script.ScriptEvent.{ScriptEvent}
+use Rattle.run_events.specs.Parse.{line_meaning}
+use Rattle.run_events.specs.Words.{fault_line_of}
 use Rattle.ide_types.specs.declared.plan.Plan.{Plan}
-use Rattle.line_runs.specs.declared.ends.End.TheVariants as end
-use Rattle.line_runs.specs.Gain.{Text}
+use Rattle.file_runs.specs.declared.ends.End.TheVariants as end
+use Rattle.file_runs.specs.Gain.{Text}
 use Rattle.ide_runs.specs.declared.topologies.Loaded.TheVariants.{Sound}
 use Rattle.ide_runs.specs.Topologies.{check_due, loaded_topology}
 use Rattle.ide_runs.specs.Works.{Follows, RunningView, ScriptPast, by_meaning, closing_line, ran_line}

@@ -5,8 +5,8 @@ ghost use Rattle.ide_runs.specs.Works.{IsEarly, MayAsk};
 
 use ide_runs::{ScriptWork, World, asked};
 use ide_types::{Bytes, OutOfMemory};
-use line_runs::LineWork;
-use link_events::{LineError, LineFault, ScriptEvent};
+use file_runs::LineWork;
+use run_events::{LineError, LineFault, ScriptEvent};
 use std::alloc::Global;
 
 /// How many lines a session takes (this profile).

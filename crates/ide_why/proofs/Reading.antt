@@ -15,7 +15,7 @@ use Rattle.interface_host.specs.declared.facts.InterfaceFacts.{InterfaceFacts}
 use Rattle.interface_host.specs.Facts.{interface_facts}
 use Rattle.interface_host.specs.Views.{HostTdi}
 use Rattle.interface_state.specs.{Tdi, state_code}
-use Rattle.tsm_host.specs.Managers.{named_stream, op_named}
+use Rattle.key_host.specs.Managers.{named_stream, op_named}
 use Rattle.world.specs.{AreLinks, LinkEnds, WholeLinks, interface_named, place_on_links, port_on, interface_of_ends}
 use Rattle.world.proofs.{closed_at, port_is, end_found, none_found, op_is, unnamed, get_there, IsLocated, located_read}
 use Rattle.ide_why.specs.Facts.{state_of_whole}

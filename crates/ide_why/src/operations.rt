@@ -3,7 +3,7 @@
 ghost use Rattle.std.specs.Prelude.{◌≡◌, ◌∷◌, ◌++◌, ◌<◌, [], IfOk};
 ghost use Rattle.ide_types.specs.Ports.{host_port};
 ghost use Rattle.machine_operations.specs.{machine_status};
-ghost use Rattle.tsm_host.specs.Facts.{op_seen};
+ghost use Rattle.key_host.specs.Facts.{op_seen};
 ghost use Rattle.why_facts.specs.Forms.{draws_fact, pool_of};
 ghost use Rattle.world.specs.{IsWorld};
 ghost use Rattle.ide_why.specs.Facts.{establish_read, exchanges_read, opens_read, opens_seen, refresh_read};
@@ -12,8 +12,8 @@ ghost use Rattle.ide_why.specs.Reading.{stream_read};
 
 use crate::reader::{Reader, StageSeen};
 use ide_types::{OutOfMemory, PortName, Side, StreamStatus, SubKind};
-use link_verdicts::Operation;
-use tsm_host::StageFacts;
+use run_verdicts::Operation;
+use key_host::StageFacts;
 use why_facts::{
     Fact, OperationFact, first_exchange, last_exchange, may_go, push_manager, push_of_operation,
     push_open, push_status,

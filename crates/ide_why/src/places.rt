@@ -2,7 +2,7 @@
 
 ghost use Rattle.std.specs.Prelude.{◌≡◌, ◌++◌, IfOk};
 ghost use Rattle.spec_keys.specs.Operations.{work_of};
-ghost use Rattle.tsm_host.specs.Facts.{op_seen};
+ghost use Rattle.key_host.specs.Facts.{op_seen};
 ghost use Rattle.world.specs.{IsWorld};
 ghost use Rattle.ide_why.specs.Facts.{refusing_read};
 ghost use Rattle.ide_why.specs.Places.{first_refusing, is_refusing, refusing_on, sets_at};
@@ -10,7 +10,7 @@ ghost use Rattle.ide_why.specs.Places.{first_refusing, is_refusing, refusing_on,
 use crate::reader::{Reader, StageSeen};
 use ide_types::{OutOfMemory, PortName, Side, SubKind};
 use line_routes::port_of;
-use link_verdicts::Operation;
+use run_verdicts::Operation;
 use sub_stream::SetFacts;
 use why_facts::{
     Fact, OperationFact, Place, first_exchange, is_last, key_set, place_at, program_at,

@@ -3,14 +3,14 @@
 ghost use Rattle.std.specs.Prelude.{◌≡◌, IfSome, length};
 ghost use Rattle.std.specs.Option.{option_map};
 ghost use Rattle.machine_operations.specs.{find_op};
-ghost use Rattle.tsm_host.specs.Facts.{op_seen};
+ghost use Rattle.key_host.specs.Facts.{op_seen};
 ghost use Rattle.world.specs.{IsWorld, links_state};
 ghost use Rattle.ide_why.specs.Reading.{face_read, owner_face, requester_read, stream_read};
 
 use ide_types::{PortName, ValidPlan};
 use sub_stream::StreamFacts;
 use tlp_layout::{HeadView, owner};
-use tsm_host::StageFacts;
+use key_host::StageFacts;
 use why_facts::FaceSeen;
 use world::WholeLinks;
 

@@ -1,7 +1,7 @@
 -- What the manager's `take` makes of the exchange that is asked.
 use Rattle.std.proofs.Common.{◌≡◌, ℕ, suc, zero, List, [], ◌∷◌, length, get_or, Option, Some, refl, ap, sym, subst}
 use Rattle.std.specs.Prelude.{slice_set, slice_get, IsSome, IfSome}
-use Rattle.tsm_host.specs.declared.operation.ExchangeReply.{ExchangeReply}
+use Rattle.key_host.specs.declared.operation.ExchangeReply.{ExchangeReply}
 use Rattle.interface_host.specs.declared.interfaces.Asking.{Asking}
 use Rattle.interface_host.specs.declared.operation.InterfaceOutcome.{InterfaceOutcome}
 use Rattle.interface_host.specs.Steps.{Read, exchange_number}

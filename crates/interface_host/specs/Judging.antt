@@ -4,8 +4,8 @@ use Rattle.std.specs.Prelude.{Ok, Err}
 use Rattle.tdisp_codec.specs.declared.fault.TdispFault.{TdispFault}
 use Rattle.tdisp_codec.specs.Replies.{Reply, reply_reading, Version, Capabilities, LockInterface, DeviceInterfaceReport}
 use Rattle.tdisp_codec.specs.Replies.{DeviceInterfaceState, StartInterface, StopInterface, BindP2p, UnbindP2p, Error}
-use Rattle.tsm_host.specs.declared.operation.ExchangeReply.{ExchangeReply}
-use Rattle.tsm_host.specs.declared.operation.ExchangeReply.TheVariants as carried
+use Rattle.key_host.specs.declared.operation.ExchangeReply.{ExchangeReply}
+use Rattle.key_host.specs.declared.operation.ExchangeReply.TheVariants as carried
 use Rattle.interface_host.specs.declared.judge.Answer.{Answer}
 use Rattle.interface_host.specs.declared.judge.Answer.TheVariants as answer
 use Rattle.interface_host.specs.declared.step.Step.{Step}

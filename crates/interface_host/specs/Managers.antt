@@ -7,7 +7,7 @@ use Rattle.ide_types.specs.declared.status.StreamStatus.{StreamStatus}
 use Rattle.ide_types.specs.declared.interface.InterfacePlan.{InterfacePlan}
 use Rattle.ide_types.specs.declared.plan.LinkPlan.{LinkPlan}
 use Rattle.tdisp_codec.specs.declared.request.RequestView.{RequestView}
-use Rattle.tsm_host.specs.declared.operation.ExchangeReply.{ExchangeReply}
+use Rattle.key_host.specs.declared.operation.ExchangeReply.{ExchangeReply}
 use Rattle.interface_host.specs.declared.interfaces.Asking.{Asking}
 use Rattle.interface_host.specs.declared.operation.InterfaceOperation.{InterfaceOperation}
 use Rattle.interface_host.specs.declared.operation.InterfaceOutcome.{InterfaceOutcome}

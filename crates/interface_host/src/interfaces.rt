@@ -19,7 +19,7 @@ use ide_types::{Binding, InterfacePlan, Items, LinkPlan, OutOfMemory, StreamStat
 use std::alloc::Global;
 use std::marker::Model;
 use tdisp_codec::request_write;
-use tsm_host::ExchangeReply;
+use key_host::ExchangeReply;
 
 /// The exchange that is to be asked and taken: of the interface at this place; so many draws were made as its operation
 /// began.

@@ -7,7 +7,7 @@ ghost use Rattle.interface_host.specs.Judging.{step_judged, interface_reply_judg
 
 use crate::step::Step;
 use tdisp_codec::{ReplyView, reply_read};
-use tsm_host::ExchangeReply;
+use key_host::ExchangeReply;
 
 /// What was carried in answer to a request: the expected reply with its value, a refusal with its code, nothing at all,
 /// or anything else (this profile).

@@ -26,11 +26,11 @@ use Rattle.ide_types.specs.declared.plan.Plan.{Plan}
 use Rattle.ide_prefix.specs.Packet.{Packet}
 use Rattle.ide_prefix.specs.{encrypted_bytes, iv_of}
 use Rattle.ide_prefix.specs.Reading.{cut_of}
-use Rattle.link_verdicts.specs.declared.verdict.Verdict.{Verdict}
-use Rattle.link_verdicts.specs.declared.verdict.Effect.{Effect}
-use Rattle.link_verdicts.specs.declared.verdict.Effect.TheVariants as effect
-use Rattle.link_verdicts.specs.declared.verdict.UnitName.{UnitName}
-use Rattle.link_events.specs.declared.event.Event.{Event}
+use Rattle.run_verdicts.specs.declared.verdict.Verdict.{Verdict}
+use Rattle.run_verdicts.specs.declared.verdict.Effect.{Effect}
+use Rattle.run_verdicts.specs.declared.verdict.Effect.TheVariants as effect
+use Rattle.run_verdicts.specs.declared.verdict.UnitName.{UnitName}
+use Rattle.run_events.specs.declared.event.Event.{Event}
 use Rattle.trusted_memory.specs.{MemoryContents}
 use Rattle.sub_stream.specs.{opened_from_byte}
 use Rattle.spec_keys.specs.History.{History}

@@ -15,7 +15,7 @@ use Rattle.join_ends.proofs.Operated.{rows_near, rows_pair, state_by, with_both}
 use Rattle.join_ends.proofs.Streams.{op_is, planned, port_found}
 use Rattle.join_keys.specs.Paired.{IsPairJoined, PairKeysKeptIn, PairOperationsJoin, PairWalked, begun_pair, pair_event}
 use Rattle.join_keys.specs.Paired.{PairEnds as PairStreams, pair_walk}
-use Rattle.tsm_host.specs.Walk.{IsAsked, verdict_of}
+use Rattle.key_host.specs.Walk.{IsAsked, verdict_of}
 use Rattle.machine_ports.specs.Machine.{BesidePorts, LinkPacket, LinkState, Stepped, port_at, stepped_operation}
 use Rattle.std.proofs.Common.{Bool, List, ap, arith, refl, subst, sym, true, false, ℕ, ◌+◌, ◌-◌, ◌∙◌, ◌≡◌}
 use Rattle.std.proofs.lemmas.Bool.Decides.{nat_tests}
@@ -27,11 +27,11 @@ use Rattle.ide_types.specs.declared.port.Side.TheVariants.{Device, Host}
 use Rattle.ide_types.specs.declared.port.PortName.{PortName}
 use Rattle.ide_types.specs.Lines.{is_hosted, is_link_line}
 use Rattle.ide_types.specs.declared.plan.Plan.{Plan}
-use Rattle.link_verdicts.specs.declared.verdict.Verdict.{Verdict}
-use Rattle.link_verdicts.specs.declared.verdict.Verdict.TheVariants as v
-use Rattle.link_verdicts.specs.declared.verdict.Operation.{Operation}
-use Rattle.link_verdicts.specs.declared.verdict.Operation.TheVariants as op
-use Rattle.link_events.specs.declared.event.Loss.{Loss}
+use Rattle.run_verdicts.specs.declared.verdict.Verdict.{Verdict}
+use Rattle.run_verdicts.specs.declared.verdict.Verdict.TheVariants as v
+use Rattle.run_verdicts.specs.declared.verdict.Operation.{Operation}
+use Rattle.run_verdicts.specs.declared.verdict.Operation.TheVariants as op
+use Rattle.run_events.specs.declared.event.Loss.{Loss}
 use Rattle.key_slots.specs.{Pool}
 use Rattle.spec_keys.specs.Operations.{StreamStage, Reach, Work, reach_of, work_of}
 use Rattle.spec_keys.specs.History.{History}
@@ -40,11 +40,11 @@ unfoldable use Rattle.spec_links.specs.Plan.{stream_plan}
 unfoldable use Rattle.machine_ports.specs.Machine.{find_op, step_of}
 use Rattle.machine_ports.specs.Stands.{PortsStandFor}
 use Rattle.machine_ports.specs.Machine as machine
-use Rattle.tsm_host.specs.Streams.{StreamView, asked_of_unfinished, refusal_of}
-use Rattle.tsm_host.specs.Managers.{ManagerView, Named, named_stream, op_named, pool_begun}
-use Rattle.tsm_host.specs.declared.operation.NamedOperation.{NamedOperation as OpCall}
-use Rattle.tsm_host.specs.declared.operation.StreamOutcome.{StreamOutcome}
-use Rattle.tsm_host.specs.Operations.{OpName, op_name}
+use Rattle.key_host.specs.Streams.{StreamView, asked_of_unfinished, refusal_of}
+use Rattle.key_host.specs.Managers.{ManagerView, Named, named_stream, op_named, pool_begun}
+use Rattle.key_host.specs.declared.operation.NamedOperation.{NamedOperation as OpCall}
+use Rattle.key_host.specs.declared.operation.StreamOutcome.{StreamOutcome}
+use Rattle.key_host.specs.Operations.{OpName, op_name}
 use Rattle.key_slots.specs.Wires.{WireKeys}
 use Rattle.ide_port.specs.{Found, PortEnd, UnitsGrow}
 use Rattle.join_arrivals.specs.Events.{operation_event}

@@ -5,16 +5,16 @@ use Rattle.std.proofs.Common.{◌≡◌, ◌∙◌, ℕ, zero, suc, Bool, true, 
 use Rattle.std.specs.Prelude.{Option, Some, None, is_some}
 use Rattle.key_slots.specs.{Pool}
 use Rattle.spec_keys.specs.Operations.{StreamStage, Work, Reach, reach_of}
-use Rattle.link_events.specs.declared.event.Loss.{Loss}
-use Rattle.link_verdicts.specs.declared.verdict.Operation.{Operation}
-use Rattle.link_verdicts.specs.declared.verdict.Verdict.{Verdict}
-use Rattle.tsm_host.specs.declared.judge.Judged.{Judged}
-use Rattle.tsm_host.specs.declared.operation.StreamOutcome.{StreamOutcome}
-use Rattle.tsm_host.specs.declared.operation.StreamOutcome.TheVariants as outcome
-use Rattle.tsm_host.specs.declared.operation.StreamRefusal.{StreamRefusal}
-use Rattle.tsm_host.specs.declared.stage.NextExchange.{NextExchange}
-use Rattle.tsm_host.specs.Streams.{HostView, asked_of_unfinished, begun_pool, outcome_of, refusal_of, unless}
-use Rattle.tsm_host.specs.Walk.{verdict_of}
+use Rattle.run_events.specs.declared.event.Loss.{Loss}
+use Rattle.run_verdicts.specs.declared.verdict.Operation.{Operation}
+use Rattle.run_verdicts.specs.declared.verdict.Verdict.{Verdict}
+use Rattle.key_host.specs.declared.judge.Judged.{Judged}
+use Rattle.key_host.specs.declared.operation.StreamOutcome.{StreamOutcome}
+use Rattle.key_host.specs.declared.operation.StreamOutcome.TheVariants as outcome
+use Rattle.key_host.specs.declared.operation.StreamRefusal.{StreamRefusal}
+use Rattle.key_host.specs.declared.stage.NextExchange.{NextExchange}
+use Rattle.key_host.specs.Streams.{HostView, asked_of_unfinished, begun_pool, outcome_of, refusal_of, unless}
+use Rattle.key_host.specs.Walk.{verdict_of}
 use Rattle.join_keys.specs.Joined.{pool_by}
 use Rattle.join_keys.specs.Walks.{StreamEnds, WalkedEnds, exchange_outcome, goes_on, outcome_next, walk_on}
 use Rattle.join_keys.specs.Walks.{walked_ends_unless}

@@ -1,10 +1,10 @@
 -- What events name.
 use Rattle.std.specs.Prelude.{ℕ, Option}
-use Rattle.link_events.specs.declared.event.Event.{Event}
-use Rattle.link_events.specs.declared.event.Event.TheVariants.{Establish, Refresh, Stop}
-use Rattle.link_events.specs.declared.event.Loss.{Loss}
-use Rattle.link_verdicts.specs.declared.verdict.Operation.{Operation}
-use Rattle.link_verdicts.specs.declared.verdict.Operation.TheVariants as op
+use Rattle.run_events.specs.declared.event.Event.{Event}
+use Rattle.run_events.specs.declared.event.Event.TheVariants.{Establish, Refresh, Stop}
+use Rattle.run_events.specs.declared.event.Loss.{Loss}
+use Rattle.run_verdicts.specs.declared.verdict.Operation.{Operation}
+use Rattle.run_verdicts.specs.declared.verdict.Operation.TheVariants as op
 
 abbrev pub operation_event : Operation → ℕ → ℕ → Option Loss → Event
 operation_event op.Establish line stream loss = Establish line stream loss

@@ -8,7 +8,7 @@ use ide_types::{OutOfMemory, PortName};
 use interface_ends::InterfaceKeeper;
 use join_ends::AllEnds;
 use link_stores::Accesses;
-use link_verdicts::Verdict;
+use run_verdicts::Verdict;
 use trusted_memory::Trusted;
 
 /// The most pages of trusted memory that the writes of a unit go to: it has at most 8 packets, each in one page.

@@ -18,8 +18,8 @@ use Rattle.ide_types.specs.declared.stream.StreamPlan.{StreamPlan}
 use Rattle.ide_types.specs.declared.interface.InterfacePlan.{InterfacePlan}
 use Rattle.ide_types.specs.Fits.{FitsInterface, FitsLink, FitsPlan}
 use Rattle.key_slots.specs.{new_pool}
-use Rattle.tsm_host.specs.Streams.{StreamView, new_stream}
-use Rattle.tsm_host.specs.Managers.{new_manager}
+use Rattle.key_host.specs.Streams.{StreamView, new_stream}
+use Rattle.key_host.specs.Managers.{new_manager}
 use Rattle.spec_links.specs.Plan.{streams_by_link, streams_of, hop_streams, hop_by_link, peer_streams, lone_stream}
 use Rattle.spec_links.specs.Plan.{in_eight, behind_near, behind_links}
 unfoldable use Rattle.spec_links.specs.Plan.{streams_by_line}

@@ -13,8 +13,8 @@ use Rattle.ide_types.specs.declared.stream.StreamPlan.{StreamPlan}
 use Rattle.spec_links.specs.Plan.{streams_by_link, hop_streams, hop_by_link, peer_streams, lone_stream, in_eight}
 use Rattle.spec_links.specs.Plan.{behind_near, behind_links}
 unfoldable use Rattle.spec_links.specs.Plan.{streams_by_line}
-use Rattle.tsm_host.specs.Streams.{StreamView, new_stream}
-use Rattle.tsm_host.specs.Managers.{new_streams, streams_from, hops_from, new_hop, peers_from}
+use Rattle.key_host.specs.Streams.{StreamView, new_stream}
+use Rattle.key_host.specs.Managers.{new_streams, streams_from, hops_from, new_hop, peers_from}
 
 -- ---- rows of streams
 

@@ -9,8 +9,8 @@ use Rattle.spec_keys.specs.Operations.{StreamStage, Idle}
 use Rattle.spec_links.specs.Plan.{in_eight}
 use Rattle.machine_ports.specs.Machine.{first_ports}
 use Rattle.spec_stream.specs.Stream.{StreamState}
-use Rattle.tsm_host.specs.Streams.{StreamView, new_stream}
-use Rattle.tsm_host.specs.Managers.{new_streams}
+use Rattle.key_host.specs.Streams.{StreamView, new_stream}
+use Rattle.key_host.specs.Managers.{new_streams}
 use Rattle.all_ends.specs.States.{ops_by_line, line_ops, views_after, name_of, names_of, names_from_line}
 use Rattle.join_ends.proofs.FirstRows.{Rows, empty_rows, rows_from}
 

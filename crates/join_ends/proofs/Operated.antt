@@ -24,7 +24,7 @@ use Rattle.ide_types.specs.declared.sub.SubKind.{SubKind}
 use Rattle.ide_types.specs.Lines.{is_hosted}
 use Rattle.machine_ports.specs.Touches.{touched_stream}
 use Rattle.spec_keys.specs.Keys.{Touch}
-use Rattle.tsm_host.specs.Walk.{op_if_reached}
+use Rattle.key_host.specs.Walk.{op_if_reached}
 use Rattle.join_ends.proofs.Managers.{Apart, ops_changed}
 use Rattle.all_ends.proofs.ByPlace.{seen_same}
 use Rattle.all_ends.proofs.Finds.{wired, port_is, find_at, put_at, state_kept}

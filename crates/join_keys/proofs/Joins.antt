@@ -11,18 +11,18 @@ use Rattle.join_keys.proofs.Terms.{ManagerWalk, answers, walk, manager_walked, v
 use Rattle.join_keys.proofs.Terms.{walk_comes, PortsStandFor, kept_is, StreamEnds, walk_on, begun_ends}
 use Rattle.join_keys.proofs.Terms.{walked_ends_unless, event_walk, host_of, KeysKept, verdict_due, IsJoined}
 use Rattle.join_keys.proofs.Terms.{OperationsJoin, first_from, cut_at, lost_message}
-use Rattle.tsm_host.proofs.Dues.{all_due}
-use Rattle.tsm_host.specs.Walk.{WalkIsDue}
+use Rattle.key_host.proofs.Dues.{all_due}
+use Rattle.key_host.specs.Walk.{WalkIsDue}
 use Rattle.ide_types.specs.Lines.{is_hosted}
 use Rattle.std.specs.Prelude.{Bool}
-use Rattle.tsm_host.specs.declared.operation.StreamOutcome.TheVariants as outcome
+use Rattle.key_host.specs.declared.operation.StreamOutcome.TheVariants as outcome
 use Rattle.join_keys.proofs.Drawn.{lane_keys, id_fits}
 use Rattle.join_keys.proofs.Standing.{is_sound, reads_stream, host_read}
 use Rattle.join_keys.proofs.Kept.{ready_before, draw_below}
 use Rattle.join_keys.proofs.Works.{same_operation, work_fits, begins_first, first_within, is_asked, begun_op}
 use Rattle.join_keys.proofs.Works.{begun_link, begun_id, begun_keys, refused_reach, has_room}
 use Rattle.join_keys.proofs.Walking.{Knows, IsNext, denial}
-use Rattle.tsm_host.proofs.Walks.{ends_as}
+use Rattle.key_host.proofs.Walks.{ends_as}
 use Rattle.join_keys.proofs.Resting.{goes_from, Rest, rest_is}
 
 calls_append : (side : Side) (cs more : List PlaceCall) (x : StreamState) → all_called_at side (cs ++ more) x

@@ -7,8 +7,8 @@ use Rattle.join_keys.proofs.Terms.{refusal_at, slot_in_set, None, is_empty, slot
 use Rattle.ide_types.specs.declared.key_set.KeySet.TheVariants.{Zero, One}
 use Rattle.key_slots.specs as pair
 use Rattle.ide_types.specs.Lines.{is_hosted}
-use Rattle.link_verdicts.specs.declared.verdict.Operation.TheVariants as op
-use Rattle.tsm_host.specs.declared.exchange.Exchange.TheVariants as exchange
+use Rattle.run_verdicts.specs.declared.verdict.Operation.TheVariants as op
+use Rattle.key_host.specs.declared.exchange.Exchange.TheVariants as exchange
 
 -- six lanes
 pub by_lane : (P : ℕ → Type 0) → P 0 → P 1 → P 2 → P 3 → P 4 → P 5 → (lane : ℕ) → lane < 6 → P lane

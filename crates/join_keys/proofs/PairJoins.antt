@@ -11,11 +11,11 @@ use Rattle.join_keys.proofs.Terms.{find_op, ports_of, machine_status, Side, Pool
 use Rattle.join_keys.proofs.Terms.{HostView, refusal_of, begun_stream, ManagerWalk, answers, walk, manager_walked}
 use Rattle.join_keys.proofs.Terms.{verdict_of, op_if_reached, Comes, walk_comes, PortsStandFor, kept_is, verdict_due}
 use Rattle.join_keys.proofs.Terms.{first_from, cut_at, lost_message}
-use Rattle.link_verdicts.specs.declared.verdict.Operation.TheVariants as op
-use Rattle.tsm_host.specs.declared.operation.StreamOutcome.TheVariants as outcome
-use Rattle.tsm_host.specs.Walk.{WalkIsDue}
-use Rattle.tsm_host.proofs.Dues.{establishes, stops}
-use Rattle.tsm_host.proofs.Walks.{ends_as}
+use Rattle.run_verdicts.specs.declared.verdict.Operation.TheVariants as op
+use Rattle.key_host.specs.declared.operation.StreamOutcome.TheVariants as outcome
+use Rattle.key_host.specs.Walk.{WalkIsDue}
+use Rattle.key_host.proofs.Dues.{establishes, stops}
+use Rattle.key_host.proofs.Walks.{ends_as}
 use Rattle.join_keys.proofs.Drawn.{lane_keys, id_fits}
 use Rattle.join_keys.proofs.Standing.{is_sound, reads_stream}
 use Rattle.join_keys.proofs.Kept.{draw_below}

@@ -11,8 +11,8 @@ use Rattle.join_keys.proofs.Terms.{work_of, StreamStage, sub_from, History, draw
 use Rattle.join_keys.proofs.Terms.{LinkState, find, find_op, PortsStandFor, key_in, draw_of_keyed, Touch, keys}
 use Rattle.join_keys.proofs.Terms.{key_cause, six_keys, StreamView, begun_stream, asked_of_unfinished}
 use Rattle.join_keys.proofs.Terms.{kept_key, last_exchange_of, IsAsked, refl, WireKeys}
-use Rattle.tsm_host.specs.Exchanges.{wire_keys, wire_number}
-use Rattle.link_verdicts.specs.declared.verdict.Operation.TheVariants as op
+use Rattle.key_host.specs.Exchanges.{wire_keys, wire_number}
+use Rattle.run_verdicts.specs.declared.verdict.Operation.TheVariants as op
 use Rattle.spec_keys.proofs.Fits.{FitsAt}
 use Rattle.law_keys.proofs.States.{in_state}
 use Rattle.machine_operations.specs.Points.{point_lane}

@@ -10,9 +10,9 @@ use Rattle.join_keys.proofs.Terms.{makes_draw, Host, Device, Side, ◌++◌, ref
 use Rattle.join_keys.proofs.Terms.{last_exchange_of, ◌%◌, inl, inr, sub_from, cases_lt, PortView, refusal_at, None}
 use Rattle.join_keys.proofs.Terms.{exchange_of, KeySet, Option, if◌then◌else◌, [], ◌∷◌}
 use Rattle.ide_types.specs.declared.key_set.KeySet.TheVariants.{Zero, One}
-use Rattle.tsm_host.specs.Exchanges.{end_of}
-use Rattle.link_verdicts.specs.declared.verdict.Operation.TheVariants as op
-use Rattle.tsm_host.specs.declared.exchange.Exchange.TheVariants as exchange
+use Rattle.key_host.specs.Exchanges.{end_of}
+use Rattle.run_verdicts.specs.declared.verdict.Operation.TheVariants as op
+use Rattle.key_host.specs.declared.exchange.Exchange.TheVariants as exchange
 use Rattle.join_keys.proofs.Lanes.{by_lane}
 
 -- the place of a lane at an end

@@ -12,8 +12,8 @@ use Rattle.join_keys.proofs.Terms.{refusal_at, refusal_if, exchange_judged, is_s
 use Rattle.join_keys.proofs.Terms.{subst, cases_lt, inl, inr, pair_slot, different-false, request_asked}
 use Rattle.join_keys.proofs.Terms.{wire_keys_after, stream_acknowledged, WorkFits, exchange_of, WireKeys, kept_key}
 use Rattle.join_keys.proofs.Terms.{one_of_set, work_asked, request_of, KeySet, key_set}
-use Rattle.tsm_host.specs.Exchanges.{end_of, exchange_lane, wire_number}
-use Rattle.tsm_host.specs.Streams.{end_asked}
+use Rattle.key_host.specs.Exchanges.{end_of, exchange_lane, wire_number}
+use Rattle.key_host.specs.Streams.{end_asked}
 use Rattle.key_slots.specs.{KeyCall, Program}
 use Rattle.join_keys.proofs.Slots.{only_live_is, is_refusal}
 use Rattle.join_keys.proofs.Lanes.{lane_slots, slot_seen, IsFull}

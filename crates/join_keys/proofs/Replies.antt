@@ -15,7 +15,7 @@ use Rattle.key_messages.specs.{PlaceCall, place_call, shown_pair, is_done, objec
 use Rattle.key_messages.specs.{direction_of, sub_of, selected_place, object_call, object_reply, object_bytes}
 use Rattle.key_messages.specs.{object_reading, description}
 use Rattle.key_messages.proofs.Objects.{spells_read, written_spells}
-use Rattle.tsm_host.specs.Judging.{judged_reply}
+use Rattle.key_host.specs.Judging.{judged_reply}
 
 -- ---- a request is read as it was written
 

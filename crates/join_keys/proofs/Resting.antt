@@ -14,10 +14,10 @@ use Rattle.join_keys.proofs.Terms.{ManagerWalk, answers, walk, walk_after_outcom
 use Rattle.join_keys.proofs.Terms.{ends_after_exchange, Exchanged, exchanged_unless_lost, WalkedEnds, goes_on, HasKeys}
 use Rattle.join_keys.proofs.Terms.{KeysKept, KeysKeptIn, exchange_of, WireKeys, is_last_receiver_go, Judged, Expected}
 use Rattle.join_keys.proofs.Terms.{Refused, Lost, KeySet, key_set, one_of_set, work_asked}
-use Rattle.tsm_host.specs.declared.operation.StreamOutcome.{StreamOutcome}
-use Rattle.tsm_host.proofs.Walks.{WorkFits, ends_as}
-use Rattle.link_verdicts.specs.declared.verdict.Verdict.TheVariants as v
-use Rattle.tsm_host.specs.declared.operation.StreamOutcome.TheVariants as outcome
+use Rattle.key_host.specs.declared.operation.StreamOutcome.{StreamOutcome}
+use Rattle.key_host.proofs.Walks.{WorkFits, ends_as}
+use Rattle.run_verdicts.specs.declared.verdict.Verdict.TheVariants as v
+use Rattle.key_host.specs.declared.operation.StreamOutcome.TheVariants as outcome
 use Rattle.join_keys.proofs.Lanes.{first_program}
 use Rattle.join_keys.specs.Calls.{calls_from}
 use Rattle.ide_types.specs.Lines.{is_hosted}

@@ -19,8 +19,8 @@ pub use Rattle.key_messages.specs.{PlaceCall}
 pub use Rattle.std.proofs.lemmas.List.{get_or-map, get_or_past, length-map, get_or-set_other}
 pub use Rattle.std.proofs.lemmas.Bool.{cases_lt}
 pub use Rattle.ide_types.specs.Fits.{IsKey, FitsPlan, FitsStream}
-pub use Rattle.link_events.specs.declared.event.Loss.{Loss}
-pub use Rattle.link_verdicts.specs.declared.verdict.Verdict.{Verdict}
+pub use Rattle.run_events.specs.declared.event.Loss.{Loss}
+pub use Rattle.run_verdicts.specs.declared.verdict.Verdict.{Verdict}
 pub use Rattle.spec_keys.specs.Places.{KeyPlan, lane as lane_number}
 pub use Rattle.spec_keys.specs.History.{History, draws, moments, history_status, op_of}
 pub use Rattle.ide_types.specs.Ports.{keyed_status}
@@ -38,15 +38,15 @@ pub use Rattle.ide_types.proofs.KeySets.{one_of_set}
 pub use Rattle.key_slots.specs.{is_empty, Pool, draws_in, SlotPair, live_set, slot_in as pair_slot, six_keys}
 pub use Rattle.key_slots.specs.{unspent_keys, KeySet, is_one, key_set}
 pub use Rattle.spec_keys.proofs.Tests.{different-false, true-lt, same-true}
-pub use Rattle.tsm_host.specs.declared.operation.StreamRefusal.{StreamRefusal}
-pub use Rattle.tsm_host.specs.Local.{goes as host_goes}
-pub use Rattle.tsm_host.specs.Streams.{StreamView, draws_now, refusal_of, begun_stream, asked_of_unfinished, begun_pool}
-pub use Rattle.tsm_host.specs.Streams.{begun_calls, outcome_of, taken_stream, taken_calls, shown_at_end, is_set}
-pub use Rattle.tsm_host.specs.Streams.{request_asked, wire_keys_after, stream_acknowledged, work_asked, HostView}
-pub use Rattle.tsm_host.specs.Walk.{Walked as ManagerWalk, answers, walk, walked_unless as manager_walked, verdict_of}
-pub use Rattle.tsm_host.specs.Walk.{op_if_reached, exchange_judged, walk_after_outcome, Reads, key_refusal_verdict}
-pub use Rattle.tsm_host.specs.Walk.{IsAsked}
-pub use Rattle.tsm_host.proofs.Walks.{Comes, walk_comes, WorkFits}
+pub use Rattle.key_host.specs.declared.operation.StreamRefusal.{StreamRefusal}
+pub use Rattle.key_host.specs.Local.{goes as host_goes}
+pub use Rattle.key_host.specs.Streams.{StreamView, draws_now, refusal_of, begun_stream, asked_of_unfinished, begun_pool}
+pub use Rattle.key_host.specs.Streams.{begun_calls, outcome_of, taken_stream, taken_calls, shown_at_end, is_set}
+pub use Rattle.key_host.specs.Streams.{request_asked, wire_keys_after, stream_acknowledged, work_asked, HostView}
+pub use Rattle.key_host.specs.Walk.{Walked as ManagerWalk, answers, walk, walked_unless as manager_walked, verdict_of}
+pub use Rattle.key_host.specs.Walk.{op_if_reached, exchange_judged, walk_after_outcome, Reads, key_refusal_verdict}
+pub use Rattle.key_host.specs.Walk.{IsAsked}
+pub use Rattle.key_host.proofs.Walks.{Comes, walk_comes, WorkFits}
 pub use Rattle.sub_stream.specs.Calls.{sends_in, pair_at}
 pub use Rattle.machine_operations.proofs.{kept_is, key_cause}
 pub use Rattle.join_keys.specs.Walks.{StreamEnds, walk_on, came_to, ends_after_exchange, begun_ends}
@@ -54,7 +54,7 @@ pub use Rattle.join_keys.specs.Walks.{walked_ends_unless, event_walk, shown_stre
 pub use Rattle.join_keys.specs.Walks.{Exchanged, exchanged_unless_lost, WalkedEnds, goes_on}
 pub use Rattle.join_keys.specs.Joined.{HasKeys, host_of, KeysKept, KeysKeptIn, verdict_due, IsJoined, OperationsJoin}
 pub use Rattle.spec_keys.proofs.Shapes.{Shape, keys_of, Marks}
-pub use Rattle.tsm_host.specs.Exchanges.{exchange_of, kept_key, selector_of, is_last_receiver_go, request_of}
+pub use Rattle.key_host.specs.Exchanges.{exchange_of, kept_key, selector_of, is_last_receiver_go, request_of}
 pub use Rattle.key_slots.specs.Wires.{WireKeys}
-pub use Rattle.tsm_host.specs.declared.judge.Judged.{Judged}
-pub use Rattle.tsm_host.specs.declared.judge.Judged.TheVariants.{Expected, Refused, Lost}
+pub use Rattle.key_host.specs.declared.judge.Judged.{Judged}
+pub use Rattle.key_host.specs.declared.judge.Judged.TheVariants.{Expected, Refused, Lost}

@@ -8,12 +8,12 @@ use Rattle.join_keys.proofs.Terms.{refusal_if, exchange_judged, is_some, None, s
 use Rattle.join_keys.proofs.Terms.{different-false, request_asked, wire_keys_after, stream_acknowledged, WorkFits}
 use Rattle.join_keys.proofs.Terms.{StreamEnds, came_to, ends_after_exchange, HasKeys, exchange_of, WireKeys, kept_key}
 use Rattle.join_keys.proofs.Terms.{request_of, Expected, KeySet, key_set, one_of_set, work_asked, Device}
-use Rattle.tsm_host.specs.declared.stage.NextExchange.{NextExchange}
+use Rattle.key_host.specs.declared.stage.NextExchange.{NextExchange}
 use Rattle.join_keys.proofs.Slots.{only_live_is, is_refusal}
 use Rattle.join_keys.proofs.Lanes.{lane_place, lane_slots, slot_seen, IsFull, first_program, Turn, asks, puts, goes}
 use Rattle.join_keys.proofs.Lanes.{stops_lane_keys, turn, put_refused, go_refused, query_refused}
 use Rattle.ide_types.specs.Lines.{is_hosted}
-use Rattle.tsm_host.specs.Exchanges.{exchange_lane}
+use Rattle.key_host.specs.Exchanges.{exchange_lane}
 use Rattle.join_keys.proofs.Replies.{lane_pair, query_comes, program_comes, go_comes, stop_comes_there}
 
 abbrev pub asked_of : Work → ℕ → NextExchange

@@ -4,7 +4,7 @@ use Rattle.join_keys.proofs.Terms.{Some, last_exchange_of, Option, None, nat_lt,
 use Rattle.join_keys.proofs.Terms.{op_at_exchange, Loss, Pool, draws_in, six_keys, unspent_keys, StreamRefusal, Verdict}
 use Rattle.join_keys.proofs.Terms.{StreamView, draws_now, refusal_of, begun_stream, asked_of_unfinished, HostView}
 use Rattle.join_keys.proofs.Terms.{key_refusal_verdict, IsAsked, HasKeys, KeysKeptIn, WireKeys, kept_key}
-use Rattle.tsm_host.proofs.Walks.{WorkFits}
+use Rattle.key_host.proofs.Walks.{WorkFits}
 use Rattle.join_keys.proofs.Lanes.{by_lane, first_program}
 
 -- ---- the operation that is asked

@@ -12,9 +12,9 @@ use Rattle.ide_prefix.specs.{sub_from}
 use Rattle.key_slots.specs.{KeyCall, Program, Go, Stop}
 use Rattle.key_messages.specs.{PlaceCall}
 use Rattle.spec_keys.specs.Operations.{Work}
-use Rattle.tsm_host.specs.declared.exchange.Exchange.{Exchange}
-use Rattle.tsm_host.specs.declared.exchange.Exchange.TheVariants as exchange
-use Rattle.tsm_host.specs.Exchanges.{exchange_of, end_of}
+use Rattle.key_host.specs.declared.exchange.Exchange.{Exchange}
+use Rattle.key_host.specs.declared.exchange.Exchange.TheVariants as exchange
+use Rattle.key_host.specs.Exchanges.{exchange_of, end_of}
 use Rattle.spec_stream.specs.Stream.{StreamState}
 use Rattle.sub_stream.specs.Calls.{sends_in, stream_after_call}
 

@@ -5,18 +5,18 @@ use Rattle.ide_types.specs.declared.port.Side.{Side}
 use Rattle.ide_types.specs.declared.port.Side.TheVariants.{Host, Device}
 use Rattle.ide_types.specs.declared.plan.Plan.{Plan}
 use Rattle.ide_types.specs.Fits.{FitsPlan}
-use Rattle.link_events.specs.declared.event.Loss.{Loss}
-use Rattle.link_verdicts.specs.declared.verdict.Operation.{Operation}
-use Rattle.link_verdicts.specs.declared.verdict.Verdict.{Verdict}
+use Rattle.run_events.specs.declared.event.Loss.{Loss}
+use Rattle.run_verdicts.specs.declared.verdict.Operation.{Operation}
+use Rattle.run_verdicts.specs.declared.verdict.Verdict.{Verdict}
 use Rattle.key_slots.specs.{Pool, live_set}
 use Rattle.spec_keys.specs.Operations.{StreamStage, Establishing, Refreshing, Stopping, Work, Reach, work_of, reach_of}
 use Rattle.spec_keys.specs.History.{History}
 use Rattle.ide_types.specs.Lines.{is_hosted}
 use Rattle.spec_links.specs.Plan.{key_plan}
-use Rattle.tsm_host.specs.Exchanges.{kept_key}
+use Rattle.key_host.specs.Exchanges.{kept_key}
 use Rattle.key_slots.specs.Wires.{WireKeys}
-use Rattle.tsm_host.specs.Streams.{StreamView, HostView, begun_pool}
-use Rattle.tsm_host.specs.Walk.{verdict_of, due_on, op_if_reached}
+use Rattle.key_host.specs.Streams.{StreamView, HostView, begun_pool}
+use Rattle.key_host.specs.Walk.{verdict_of, due_on, op_if_reached}
 use Rattle.spec_stream.specs.Stream.{StreamState}
 use Rattle.sub_stream.specs.Calls.{pair_at, stream_status}
 use Rattle.join_keys.specs.Calls.{lane_key}

@@ -6,28 +6,28 @@ use Rattle.ide_types.specs.declared.port.Side.{Side}
 use Rattle.ide_types.specs.declared.port.Side.TheVariants.{Host, Device}
 use Rattle.ide_types.specs.declared.plan.Plan.{Plan}
 use Rattle.ide_types.specs.Fits.{FitsPlan}
-use Rattle.link_events.specs.declared.event.Loss.{Loss}
-use Rattle.link_events.specs.declared.event.Lost.{Lost}
-use Rattle.link_events.specs.declared.event.Lost.TheVariants.{Request, Reply}
-use Rattle.link_verdicts.specs.declared.verdict.Operation.{Operation}
-use Rattle.link_verdicts.specs.declared.verdict.Operation.TheVariants as op
+use Rattle.run_events.specs.declared.event.Loss.{Loss}
+use Rattle.run_events.specs.declared.event.Lost.{Lost}
+use Rattle.run_events.specs.declared.event.Lost.TheVariants.{Request, Reply}
+use Rattle.run_verdicts.specs.declared.verdict.Operation.{Operation}
+use Rattle.run_verdicts.specs.declared.verdict.Operation.TheVariants as op
 use Rattle.key_slots.specs.{Pool}
 use Rattle.spec_keys.specs.Places.{is_host}
 use Rattle.spec_keys.specs.Operations.{StreamStage, Establishing, Refreshing, Stopping, Work, work_of, reach_of}
 use Rattle.spec_keys.specs.History.{History, program_number}
 use Rattle.spec_keys.specs.Due.{lost_message}
 use Rattle.key_messages.specs.declared.object.KmView.{KmView}
-use Rattle.tsm_host.specs.declared.judge.Judged.{Judged}
-use Rattle.tsm_host.specs.declared.judge.Judged.TheVariants.{Lost as NotCarried}
-use Rattle.tsm_host.specs.declared.operation.StreamOutcome.{StreamOutcome}
-use Rattle.tsm_host.specs.declared.operation.StreamOutcome.TheVariants as outcome
-use Rattle.tsm_host.specs.declared.operation.StreamRefusal.{StreamRefusal}
-use Rattle.tsm_host.specs.declared.stage.NextExchange.{NextExchange}
-use Rattle.tsm_host.specs.Exchanges.{kept_key, wire_number}
+use Rattle.key_host.specs.declared.judge.Judged.{Judged}
+use Rattle.key_host.specs.declared.judge.Judged.TheVariants.{Lost as NotCarried}
+use Rattle.key_host.specs.declared.operation.StreamOutcome.{StreamOutcome}
+use Rattle.key_host.specs.declared.operation.StreamOutcome.TheVariants as outcome
+use Rattle.key_host.specs.declared.operation.StreamRefusal.{StreamRefusal}
+use Rattle.key_host.specs.declared.stage.NextExchange.{NextExchange}
+use Rattle.key_host.specs.Exchanges.{kept_key, wire_number}
 use Rattle.key_slots.specs.Wires.{WireKeys}
-use Rattle.tsm_host.specs.Streams.{StreamView, HostView, asked_of_unfinished, end_asked, request_asked, refusal_of}
-use Rattle.tsm_host.specs.Streams.{begun_stream, outcome_of, taken_stream}
-use Rattle.tsm_host.specs.Walk.{verdict_of, op_if_reached}
+use Rattle.key_host.specs.Streams.{StreamView, HostView, asked_of_unfinished, end_asked, request_asked, refusal_of}
+use Rattle.key_host.specs.Streams.{begun_stream, outcome_of, taken_stream}
+use Rattle.key_host.specs.Walk.{verdict_of, op_if_reached}
 use Rattle.spec_stream.specs.Stream.{StreamState}
 use Rattle.machine_operations.specs.{LinkState, find, find_op, port_at, PortsStandFor}
 use Rattle.join_keys.specs.Calls.{lane_key, key_number}

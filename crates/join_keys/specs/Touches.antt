@@ -8,14 +8,14 @@ use Rattle.ide_types.specs.declared.plan.Plan.{Plan}
 use Rattle.key_slots.specs.{new_pool}
 use Rattle.key_messages.specs.{PlaceCall}
 use Rattle.spec_keys.specs.Operations.{StreamStage, Work, Reach, work_of, last_exchange_of, makes_draw}
-use Rattle.link_verdicts.specs.declared.verdict.Operation.{Operation}
+use Rattle.run_verdicts.specs.declared.verdict.Operation.{Operation}
 use Rattle.spec_keys.specs.History.{is_number_between, go_exchange}
 use Rattle.spec_keys.specs.Places.{key_place_at}
 use Rattle.spec_keys.specs.Keys.{refusal_if}
 use Rattle.ide_types.specs.Lines.{is_hosted}
 use Rattle.spec_keys.specs.Due.{PortView}
-use Rattle.tsm_host.specs.Local.{goes}
-use Rattle.tsm_host.specs.Streams.{begun_calls}
+use Rattle.key_host.specs.Local.{goes}
+use Rattle.key_host.specs.Streams.{begun_calls}
 use Rattle.spec_stream.specs.Stream.{Live, Armed, LaneSlots, StreamState, LiveKey, slot_in_set, at_sub}
 use Rattle.spec_stream.specs.Slots.{is_live_slot, rested_stream, slots_at}
 use Rattle.machine_operations.specs.{port_at, place_at_end, slots_refuse, touches_at, touched_stream}

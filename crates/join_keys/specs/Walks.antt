@@ -2,25 +2,25 @@
 -- another. The session may lose each of them.
 use Rattle.std.specs.Prelude.{ℕ, suc, zero, ◌==◌, nat_lt, ◌&&◌, true, List, [], ◌∷◌, Option, Some, None, if◌then◌else◌}
 use Rattle.ide_types.specs.declared.port.Side.TheVariants.{Host, Device}
-use Rattle.link_events.specs.declared.event.Loss.{Loss}
-use Rattle.link_events.specs.declared.event.Lost.{Lost}
-use Rattle.link_events.specs.declared.event.Lost.TheVariants.{Request, Reply}
-use Rattle.link_verdicts.specs.declared.verdict.Operation.{Operation}
+use Rattle.run_events.specs.declared.event.Loss.{Loss}
+use Rattle.run_events.specs.declared.event.Lost.{Lost}
+use Rattle.run_events.specs.declared.event.Lost.TheVariants.{Request, Reply}
+use Rattle.run_verdicts.specs.declared.verdict.Operation.{Operation}
 use Rattle.key_slots.specs.{Pool}
 use Rattle.spec_keys.specs.Operations.{Work, work_of}
 use Rattle.key_messages.specs.declared.object.KmView.{KmView}
 use Rattle.key_messages.specs.declared.place.Place.{Place}
 use Rattle.key_messages.specs.{PlaceCall, SlotsShown, is_done, call_of, reply_bytes, object_spelling, object_reading}
 use Rattle.ide_prefix.specs.{sub_from}
-use Rattle.tsm_host.specs.declared.judge.Judged.{Judged}
-use Rattle.tsm_host.specs.declared.judge.Judged.TheVariants.{Lost as NotCarried, Bad}
-use Rattle.tsm_host.specs.declared.operation.StreamOutcome.{StreamOutcome}
-use Rattle.tsm_host.specs.declared.operation.StreamOutcome.TheVariants as outcome
-use Rattle.tsm_host.specs.declared.operation.StreamRefusal.{StreamRefusal}
-use Rattle.tsm_host.specs.declared.stage.NextExchange.{NextExchange}
-use Rattle.tsm_host.specs.Judging.{judged_reply}
-use Rattle.tsm_host.specs.Streams.{StreamView, HostView, asked_of_unfinished, request_asked, refusal_of, begun_stream}
-use Rattle.tsm_host.specs.Streams.{begun_calls, outcome_of, taken_stream, taken_calls}
+use Rattle.key_host.specs.declared.judge.Judged.{Judged}
+use Rattle.key_host.specs.declared.judge.Judged.TheVariants.{Lost as NotCarried, Bad}
+use Rattle.key_host.specs.declared.operation.StreamOutcome.{StreamOutcome}
+use Rattle.key_host.specs.declared.operation.StreamOutcome.TheVariants as outcome
+use Rattle.key_host.specs.declared.operation.StreamRefusal.{StreamRefusal}
+use Rattle.key_host.specs.declared.stage.NextExchange.{NextExchange}
+use Rattle.key_host.specs.Judging.{judged_reply}
+use Rattle.key_host.specs.Streams.{StreamView, HostView, asked_of_unfinished, request_asked, refusal_of, begun_stream}
+use Rattle.key_host.specs.Streams.{begun_calls, outcome_of, taken_stream, taken_calls}
 use Rattle.spec_stream.specs.Stream.{StreamState}
 use Rattle.sub_stream.specs.Calls.{sends_in, pair_at, stream_after_call}
 use Rattle.join_keys.specs.Calls.{all_called_at}

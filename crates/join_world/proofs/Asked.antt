@@ -10,14 +10,14 @@ use Rattle.std.specs.Prelude.{slice_get, if◌then◌else◌}
 use Rattle.ide_types.specs.declared.port.Side.TheVariants.{Host}
 use Rattle.ide_types.specs.declared.plan.PeerPlan.{PeerPlan}
 use Rattle.ide_types.specs.declared.plan.Plan.{Plan}
-use Rattle.link_events.specs.declared.event.InterfaceEvent.{InterfaceEvent}
-use Rattle.link_events.specs.declared.event.InterfaceEvent.TheVariants as ie
-use Rattle.link_events.specs.declared.event.Loss.{Loss}
-use Rattle.link_verdicts.specs.declared.verdict.Verdict.{Verdict}
-use Rattle.link_verdicts.specs.declared.verdict.Verdict.TheVariants as said
+use Rattle.run_events.specs.declared.event.InterfaceEvent.{InterfaceEvent}
+use Rattle.run_events.specs.declared.event.InterfaceEvent.TheVariants as ie
+use Rattle.run_events.specs.declared.event.Loss.{Loss}
+use Rattle.run_verdicts.specs.declared.verdict.Verdict.{Verdict}
+use Rattle.run_verdicts.specs.declared.verdict.Verdict.TheVariants as said
 use Rattle.spec_keys.specs.Operations.{StreamStage}
-use Rattle.tsm_host.specs.Managers.{Named, named_stream, op_named, status_named}
-use Rattle.tsm_host.specs.Streams.{key_status, status_or_idle}
+use Rattle.key_host.specs.Managers.{Named, named_stream, op_named, status_named}
+use Rattle.key_host.specs.Streams.{key_status, status_or_idle}
 use Rattle.interface_host.specs.declared.operation.InterfaceOperation.{InterfaceOperation}
 use Rattle.interface_host.specs.declared.operation.InterfaceOperation.TheVariants as op
 use Rattle.interface_ends.specs.Keepers.{Ended, interface_operated}

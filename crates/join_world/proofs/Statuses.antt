@@ -19,7 +19,7 @@ use Rattle.ide_types.specs.declared.plan.Plan.{Plan}
 use Rattle.spec_stream.specs.Stream.{StreamState, at_sub}
 use Rattle.spec_stream.specs.Slots.{receiving_draw}
 use Rattle.sub_stream.specs.Calls.{stream_status}
-use Rattle.tsm_host.specs.Streams.{status_or_idle}
+use Rattle.key_host.specs.Streams.{status_or_idle}
 use Rattle.ide_port.specs.{Found, PortEnd, found_stream, receiving_draw_in, port_stream_status}
 use Rattle.link_ends.specs.DeviceEnds.{says_secure, secure_at}
 use Rattle.machine_ports.specs.Machine.{LinkPacket, port_at, receiving_draw_at, machine_status}

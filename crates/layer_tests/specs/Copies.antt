@@ -2,11 +2,11 @@
 use Rattle.std.specs.Prelude.{ℕ, ◌≡◌, nat_lt, Bool, true, false, [], ◌∷◌, ◌++◌, length, Result, Ok, Err, IfOk, refl}
 use Rattle.std.specs.Prelude.{if◌then◌else◌}
 use Rattle.std.proofs.Common.{inr}
-use Rattle.link_events.specs.declared.fault.LineFault.{LineFault}
-use Rattle.link_events.specs.declared.fault.LineFault.TheVariants.{TooLong}
-use Rattle.link_events.specs.Words.{line_limit}
-use Rattle.line_runs.specs.Gain.{Text}
-use Rattle.line_runs.specs.Outcome.{IsWholeLines}
+use Rattle.run_events.specs.declared.fault.LineFault.{LineFault}
+use Rattle.run_events.specs.declared.fault.LineFault.TheVariants.{TooLong}
+use Rattle.run_events.specs.Words.{line_limit}
+use Rattle.file_runs.specs.Gain.{Text}
+use Rattle.file_runs.specs.Outcome.{IsWholeLines}
 
 abbrev pub copied_line : {S : Type 0} → S → ℕ → Text → Result (S × Text) LineFault
 copied_line s n line = if nat_lt line_limit (length line) then Err TooLong else Ok (s, line ++ 10 ∷ [])

@@ -1,12 +1,12 @@
 //! A file that is read and run line by line, over a shelf and a sink in memory.
 ghost use Rattle.std.specs.Prelude.{◌≡◌, ◌∷◌, [], ◌++◌, codes, IfOk};
-ghost use Rattle.line_runs.specs.declared.ends.End.TheVariants as end;
+ghost use Rattle.file_runs.specs.declared.ends.End.TheVariants as end;
 ghost use Rattle.layer_tests.specs.Copies.{copied_line as copied_of, long_copy, whole_copy};
 
 use cli_files::{MemShelf, MemSink, NamedFile};
 use ide_types::{Bytes, OutOfMemory};
-use line_runs::{End, Fault, LineWork, run_file};
-use link_events::{LINE_LIMIT, LineError, LineFault};
+use file_runs::{End, Fault, LineWork, run_file};
+use run_events::{LINE_LIMIT, LineError, LineFault};
 use std::alloc::Global;
 use std::process::Abort;
 use std::test::Fail;

@@ -11,7 +11,7 @@ use interface_ends::InterfaceKeeper;
 use join_arrivals::{AllEnds, bytes_arrive};
 use line_routes::{goes_through, port_of, reached};
 use link_stores::Accesses;
-use link_verdicts::Verdict;
+use run_verdicts::Verdict;
 use std::alloc::Global;
 use trusted_memory::Trusted;
 

@@ -6,8 +6,8 @@ ghost use Rattle.join_interfaces.specs.Verdicts.{verdict_of_shown, refused_as, o
 use crate::stream_verdicts::lost_verdict;
 use ide_types::{Bytes, InterfaceVerdict};
 use interface_host::{InterfaceOutcome, InterfaceRefusal, InterfaceResult};
-use link_events::Loss;
-use link_verdicts::Verdict;
+use run_events::Loss;
+use run_verdicts::Verdict;
 
 fn of_interface(verdict: InterfaceVerdict) -> Verdict
     ensures { result ≡ Verdict.Interface verdict }

@@ -3,15 +3,15 @@
 ghost use Rattle.std.specs.Prelude.{◌≡◌};
 ghost use Rattle.std.specs.Option.{option_map};
 ghost use Rattle.spec_keys.specs.Due.{lost_at as verdict_lost, lost_message};
-ghost use Rattle.tsm_host.specs.Operations.{op_name};
-ghost use Rattle.tsm_host.specs.Walk.{shown_verdict as verdict_shown, key_refusal_verdict as verdict_refused};
-ghost use Rattle.tsm_host.specs.Walk.{verdict_of};
+ghost use Rattle.key_host.specs.Operations.{op_name};
+ghost use Rattle.key_host.specs.Walk.{shown_verdict as verdict_shown, key_refusal_verdict as verdict_refused};
+ghost use Rattle.key_host.specs.Walk.{verdict_of};
 
 use all_ends::lost_at;
 use ide_types::LineKind;
-use link_events::{Loss, Lost};
-use link_verdicts::{Operation, Verdict};
-use tsm_host::{NamedOperation, StreamOutcome, StreamRefusal, StreamResult};
+use run_events::{Loss, Lost};
+use run_verdicts::{Operation, Verdict};
+use key_host::{NamedOperation, StreamOutcome, StreamRefusal, StreamResult};
 
 /// An operation on a stream of a line.
 pub fn named_op(operation: Operation, line: u8, stream: u8) -> NamedOperation

@@ -4,7 +4,7 @@ use Rattle.link_ends.proofs.Terms.{DeviceEnd, asked_device, after_call, LinkEnds
 use Rattle.link_ends.proofs.Terms.{object_spelling, Side, subst, sym}
 use Rattle.key_messages.specs.{call_of}
 use Rattle.std.proofs.Common.{◌++◌}
-use Rattle.tsm_host.specs.Streams.{has_host, end_asked}
+use Rattle.key_host.specs.Streams.{has_host, end_asked}
 use Rattle.ide_types.specs.declared.port.Side.TheVariants.{Host, Device}
 use Rattle.link_ends.specs.declared.end.LineEnd.{LineEnd}
 use Rattle.link_ends.specs.declared.pair.PairEnds.{PairEnds}

@@ -7,14 +7,14 @@ use Rattle.link_ends.proofs.Terms.{shown_stream, port_called, PortEnd, Found, fo
 use Rattle.link_ends.proofs.Terms.{after_call, HasStream, ap, subst}
 use Rattle.std.specs.Int.{w64, from_le_bytes}
 use Rattle.key_slots.specs.{KeySet}
-use Rattle.tsm_host.specs.Streams.{wire_asked}
+use Rattle.key_host.specs.Streams.{wire_asked}
 use Rattle.ide_types.specs.declared.key_set.KeySet.TheVariants.{Zero, One}
 use Rattle.ide_types.specs.declared.port.Side.TheVariants.{Device}
 use Rattle.key_messages.specs.declared.object.KmFault.{KmFault}
 use Rattle.key_messages.specs.declared.object.KmView.TheVariants.{KeyProg}
 use Rattle.key_messages.specs.Objects as objects
 use Rattle.key_messages.specs.{selected_place}
-use Rattle.tsm_host.specs.declared.exchange.Exchange.TheVariants as exchange
+use Rattle.key_host.specs.declared.exchange.Exchange.TheVariants as exchange
 use Rattle.join_keys.proofs.Lanes.{by_lane, Turn, asks, puts, goes, stops_lane_keys, turn}
 use Rattle.link_ends.proofs.Ports.{IsAt, state_moved, called_there, found_there}
 

@@ -6,7 +6,7 @@ use Rattle.link_ends.proofs.Terms.{ManagerView, Named, named_stream, named_in, o
 use Rattle.std.specs.List.{position_from}
 use Rattle.std.proofs.lemmas.Iterator.Adapters.{position_from-zero}
 use Rattle.std.proofs.lemmas.List.Quantifiers.{position-Some}
-use Rattle.tsm_host.specs.Managers.{stream_place}
+use Rattle.key_host.specs.Managers.{stream_place}
 
 -- the first stream of this name, and the list with another in its place
 abbrev pub first_named : ℕ → ℕ → List StreamView → Option StreamView

@@ -10,13 +10,13 @@ use Rattle.link_ends.proofs.Terms.{walked_ends_unless, begun_ends, event_walk, P
 use Rattle.link_ends.proofs.Terms.{port_stream_status, live_in_port, LinkEnds, KeeperView, HasStream, IsAtBothEnds}
 use Rattle.link_ends.proofs.Terms.{DiffersInStream, IsWalked, Walks, IsOperated, ends_found, ap, subst}
 use Rattle.ide_types.specs.declared.sub.SubKind.{SubKind}
-use Rattle.tsm_host.specs.declared.operation.NamedOperation.{NamedOperation}
-use Rattle.tsm_host.specs.declared.operation.StreamOutcome.TheVariants as outcome
-use Rattle.tsm_host.specs.declared.operation.StreamRefusal.{StreamRefusal}
+use Rattle.key_host.specs.declared.operation.NamedOperation.{NamedOperation}
+use Rattle.key_host.specs.declared.operation.StreamOutcome.TheVariants as outcome
+use Rattle.key_host.specs.declared.operation.StreamRefusal.{StreamRefusal}
 use Rattle.join_keys.specs.Joined.{host_of}
 use Rattle.join_keys.proofs.Works.{begun_id, begun_link}
 use Rattle.ide_types.specs.Lines.{is_hosted}
-use Rattle.tsm_host.specs.Streams.{has_host}
+use Rattle.key_host.specs.Streams.{has_host}
 use Rattle.ide_types.proofs.Places.{set_read}
 use Rattle.link_ends.proofs.Ports.{AllAt, PortMoves, all_there, programs_at, stream_stop_calls_at, stream_stands}
 use Rattle.link_ends.proofs.Names.{IsNamed, named_stands}

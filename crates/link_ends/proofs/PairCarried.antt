@@ -15,9 +15,9 @@ use Rattle.ide_types.specs.declared.direction.Direction.{Direction}
 use Rattle.ide_types.specs.declared.direction.Direction.TheVariants.{Downstream, Upstream}
 use Rattle.ide_types.specs.declared.port.Side.TheVariants.{Host, Device}
 use Rattle.key_messages.specs.Objects as objects
-use Rattle.link_events.specs.declared.event.Lost.{Lost}
-use Rattle.tsm_host.specs.Streams.{wire_asked, end_asked, has_host}
-use Rattle.tsm_host.specs.declared.exchange.Exchange.TheVariants as exchange
+use Rattle.run_events.specs.declared.event.Lost.{Lost}
+use Rattle.key_host.specs.Streams.{wire_asked, end_asked, has_host}
+use Rattle.key_host.specs.declared.exchange.Exchange.TheVariants as exchange
 use Rattle.join_keys.specs.Paired.{PairEnds as PairStreams, PairExchanged, pair_exchanged, pair_after, came_to_end}
 use Rattle.join_keys.specs.Paired.{pair_unless_lost}
 use Rattle.join_keys.proofs.PairTurns.{PairTurn, pair_puts, pair_goes, pair_stops, pair_turn}

@@ -6,10 +6,10 @@ use Rattle.link_ends.proofs.Terms.{op_name, StreamView, HostView, asked_of_unfin
 use Rattle.link_ends.proofs.Terms.{begun_stream, begun_calls, ManagerView, Named, named_stream, begin_refusal}
 use Rattle.link_ends.proofs.Terms.{begun_manager, pool_begun, calls_begun, IsAsked, PortEnd, Found, found_stream}
 use Rattle.link_ends.proofs.Terms.{KeeperView, HasStream, PlaceCall, ap, subst}
-use Rattle.tsm_host.specs.declared.operation.NamedOperation.{NamedOperation}
-use Rattle.tsm_host.specs.declared.operation.StreamOutcome.TheVariants as outcome
-use Rattle.tsm_host.specs.declared.operation.StreamRefusal.{StreamRefusal}
-use Rattle.tsm_host.specs.Streams.{has_host}
+use Rattle.key_host.specs.declared.operation.NamedOperation.{NamedOperation}
+use Rattle.key_host.specs.declared.operation.StreamOutcome.TheVariants as outcome
+use Rattle.key_host.specs.declared.operation.StreamRefusal.{StreamRefusal}
+use Rattle.key_host.specs.Streams.{has_host}
 use Rattle.ide_types.specs.Lines.{is_hosted}
 use Rattle.link_ends.specs.declared.pair.PairEnds.{PairEnds}
 use Rattle.join_keys.specs.Joined.{host_of}

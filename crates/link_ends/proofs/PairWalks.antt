@@ -5,8 +5,8 @@ use Rattle.link_ends.proofs.Terms.{Judged, Expected, Refused, Bad, StreamOutcome
 use Rattle.link_ends.proofs.Terms.{asked_of_unfinished, outcome_of, taken_stream, ManagerView, current, current_asked}
 use Rattle.link_ends.proofs.Terms.{asking_after, IsAsked, Found, ap, subst}
 use Rattle.key_slots.specs.{is_one}
-use Rattle.tsm_host.specs.declared.judge.Judged.TheVariants.{Lost as NotCarried}
-use Rattle.tsm_host.specs.declared.operation.StreamOutcome.TheVariants as outcome
+use Rattle.key_host.specs.declared.judge.Judged.TheVariants.{Lost as NotCarried}
+use Rattle.key_host.specs.declared.operation.StreamOutcome.TheVariants as outcome
 use Rattle.join_keys.specs.Paired.{PairEnds as PairStreams, PairExchanged, pair_exchanged, pair_after, PairWalked}
 use Rattle.join_keys.specs.Paired.{pair_walk, pair_goes_on}
 use Rattle.link_ends.specs.declared.pair.PairEnds.{PairEnds}

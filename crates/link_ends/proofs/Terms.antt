@@ -15,8 +15,8 @@ pub use Rattle.link_ends.specs.Keepers.{Exchanges, HasStream, IsExchanged, IsAtB
 pub use Rattle.link_ends.specs.Keepers.{KeeperView, KeysAlone, DiffersInStream, Walks, ends_found}
 pub use Rattle.spec_keys.specs.Due.{lost_message}
 pub use Rattle.link_ends.specs.declared.ends.LinkEnds.{LinkEnds}
-pub use Rattle.link_events.specs.declared.event.Loss.{Loss}
-pub use Rattle.link_verdicts.specs.declared.verdict.Operation.{Operation}
+pub use Rattle.run_events.specs.declared.event.Loss.{Loss}
+pub use Rattle.run_verdicts.specs.declared.verdict.Operation.{Operation}
 pub use Rattle.join_keys.specs.Walks.{Exchanged, StreamEnds, WalkedEnds, begun_ends, came_to, ends_after_exchange}
 pub use Rattle.join_keys.specs.Walks.{event_walk, exchange_outcome, goes_on, judged_bytes, exchange_if_lost}
 pub use Rattle.join_keys.specs.Walks.{port_called, shown_stream, exchanged_unless_lost, walk_on, walked_ends_unless}
@@ -28,18 +28,18 @@ pub use Rattle.std.specs.Prelude.{Err, IfSome, IsSome, None, Ok, Option, Some, i
 pub use Rattle.std.specs.Prelude.{option_and_then, option_map, position, slice_get, slice_range, slice_set, ◌&&◌}
 pub use Rattle.sub_stream.specs.Calls.{stream_after_call, pair_at, sends_in, stream_status}
 pub use Rattle.spec_stream.specs.Stream.{StreamState}
-pub use Rattle.tsm_host.specs.Exchanges.{exchange_of, is_last_receiver_go, request_of, selector_of}
+pub use Rattle.key_host.specs.Exchanges.{exchange_of, is_last_receiver_go, request_of, selector_of}
 pub use Rattle.key_slots.specs.Wires.{WireKeys}
-pub use Rattle.tsm_host.specs.Local.{CallsMove, goes, stream_stop_calls, programs}
-pub use Rattle.tsm_host.specs.Managers.{Current, ManagerView, Named, asking_after, begin_refusal, begun_manager}
-pub use Rattle.tsm_host.specs.Managers.{calls_begun, calls_taken, current, current_asked, current_if_there, current_in}
-pub use Rattle.tsm_host.specs.Managers.{named_stream, named_in, op_named, pool_begun}
-pub use Rattle.tsm_host.specs.Operations.{op_name}
-pub use Rattle.tsm_host.specs.Streams.{HostView, StreamView, asked_of_unfinished, begun_calls, begun_stream}
-pub use Rattle.tsm_host.specs.Streams.{exchange_asked, host_view, is_named, ok_unless, outcome_of, refusal_of}
-pub use Rattle.tsm_host.specs.Streams.{request_asked, taken_calls, taken_stream}
-pub use Rattle.tsm_host.specs.Walk.{IsAsked}
-pub use Rattle.tsm_host.specs.declared.judge.Judged.{Judged}
-pub use Rattle.tsm_host.specs.declared.judge.Judged.TheVariants.{Bad, Expected, Refused}
-pub use Rattle.tsm_host.specs.declared.operation.StreamOutcome.{StreamOutcome}
-pub use Rattle.tsm_host.specs.declared.stage.NextExchange.{NextExchange}
+pub use Rattle.key_host.specs.Local.{CallsMove, goes, stream_stop_calls, programs}
+pub use Rattle.key_host.specs.Managers.{Current, ManagerView, Named, asking_after, begin_refusal, begun_manager}
+pub use Rattle.key_host.specs.Managers.{calls_begun, calls_taken, current, current_asked, current_if_there, current_in}
+pub use Rattle.key_host.specs.Managers.{named_stream, named_in, op_named, pool_begun}
+pub use Rattle.key_host.specs.Operations.{op_name}
+pub use Rattle.key_host.specs.Streams.{HostView, StreamView, asked_of_unfinished, begun_calls, begun_stream}
+pub use Rattle.key_host.specs.Streams.{exchange_asked, host_view, is_named, ok_unless, outcome_of, refusal_of}
+pub use Rattle.key_host.specs.Streams.{request_asked, taken_calls, taken_stream}
+pub use Rattle.key_host.specs.Walk.{IsAsked}
+pub use Rattle.key_host.specs.declared.judge.Judged.{Judged}
+pub use Rattle.key_host.specs.declared.judge.Judged.TheVariants.{Bad, Expected, Refused}
+pub use Rattle.key_host.specs.declared.operation.StreamOutcome.{StreamOutcome}
+pub use Rattle.key_host.specs.declared.stage.NextExchange.{NextExchange}

@@ -7,8 +7,8 @@ use Rattle.link_ends.proofs.Terms.{asking_after, IsAsked, StreamEnds, Exchanged,
 use Rattle.link_ends.proofs.Terms.{WalkedEnds, walk_on, goes_on, Found, LinkEnds, IsAtBothEnds, DiffersInStream}
 use Rattle.link_ends.proofs.Terms.{IsExchanged, Exchanges, IsWalked, Walks, ap, subst}
 use Rattle.key_slots.specs.{is_one}
-use Rattle.tsm_host.specs.declared.judge.Judged.TheVariants.{Lost as NotCarried}
-use Rattle.tsm_host.specs.declared.operation.StreamOutcome.TheVariants as outcome
+use Rattle.key_host.specs.declared.judge.Judged.TheVariants.{Lost as NotCarried}
+use Rattle.key_host.specs.declared.operation.StreamOutcome.TheVariants as outcome
 use Rattle.link_ends.proofs.Carried.{keeper_read, current_is}
 
 -- ---- the exchange after one that was acknowledged

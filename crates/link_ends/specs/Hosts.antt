@@ -2,15 +2,15 @@
 use Rattle.std.specs.Prelude.{ℕ, ◌&&◌, nat_le, Bool, if◌then◌else◌, List, slice_set, Option, None}
 use Rattle.ide_types.specs.declared.status.StreamStatus.{StreamStatus}
 use Rattle.interface_host.specs.declared.operation.InterfaceOperation.TheVariants.{Bind, Unbind}
-use Rattle.tsm_host.specs.Managers.{ManagerView, named_stream, status_named}
+use Rattle.key_host.specs.Managers.{ManagerView, named_stream, status_named}
 use Rattle.link_ends.specs.Keepers.{KeeperView}
-use Rattle.link_events.specs.declared.event.Loss.{Loss}
-use Rattle.tsm_host.specs.declared.operation.NamedOperation.{NamedOperation}
-use Rattle.tsm_host.specs.declared.operation.NamedOperation.TheVariants.{Establish, Refresh, Stop}
-use Rattle.tsm_host.specs.declared.operation.StreamOutcome.{StreamOutcome}
-use Rattle.tsm_host.specs.declared.operation.StreamOutcome.TheVariants.{Done}
-use Rattle.tsm_host.specs.declared.operation.StreamResult.TheVariants.{Draw}
-use Rattle.tsm_host.specs.Streams.{status_or_idle}
+use Rattle.run_events.specs.declared.event.Loss.{Loss}
+use Rattle.key_host.specs.declared.operation.NamedOperation.{NamedOperation}
+use Rattle.key_host.specs.declared.operation.NamedOperation.TheVariants.{Establish, Refresh, Stop}
+use Rattle.key_host.specs.declared.operation.StreamOutcome.{StreamOutcome}
+use Rattle.key_host.specs.declared.operation.StreamOutcome.TheVariants.{Done}
+use Rattle.key_host.specs.declared.operation.StreamResult.TheVariants.{Draw}
+use Rattle.key_host.specs.Streams.{status_or_idle}
 use Rattle.interface_host.specs.declared.operation.InterfaceOperation.{InterfaceOperation}
 use Rattle.interface_host.specs.Views.{HostTdi, peer_number}
 use Rattle.interface_host.specs.Managers.{InterfaceManagerView, stop_begun, peer_stop, stream_keyed}

@@ -2,16 +2,16 @@
 -- changes.
 use Rattle.std.specs.Prelude.{ℕ, ◌≡◌, ◌<◌, length, slice_set, Option, Some, true}
 use Rattle.ide_types.specs.declared.port.Side.TheVariants.{Host, Device}
-use Rattle.link_events.specs.declared.event.Loss.{Loss}
+use Rattle.run_events.specs.declared.event.Loss.{Loss}
 use Rattle.key_slots.specs.{Pool}
 use Rattle.spec_stream.specs.Stream.{StreamState}
-use Rattle.tsm_host.specs.declared.operation.NamedOperation.{NamedOperation}
-use Rattle.tsm_host.specs.declared.operation.StreamOutcome.{StreamOutcome}
-use Rattle.tsm_host.specs.declared.stage.NextExchange.{NextExchange}
-use Rattle.tsm_host.specs.Operations.{op_name}
-use Rattle.tsm_host.specs.Streams.{asked_of_unfinished, has_host, outcome_of}
-use Rattle.tsm_host.specs.Managers.{ManagerView, Named, named_stream, asking_after, pool_begun}
-use Rattle.tsm_host.specs.Walk.{IsAsked}
+use Rattle.key_host.specs.declared.operation.NamedOperation.{NamedOperation}
+use Rattle.key_host.specs.declared.operation.StreamOutcome.{StreamOutcome}
+use Rattle.key_host.specs.declared.stage.NextExchange.{NextExchange}
+use Rattle.key_host.specs.Operations.{op_name}
+use Rattle.key_host.specs.Streams.{asked_of_unfinished, has_host, outcome_of}
+use Rattle.key_host.specs.Managers.{ManagerView, Named, named_stream, asking_after, pool_begun}
+use Rattle.key_host.specs.Walk.{IsAsked}
 use Rattle.ide_port.specs.{PortEnd, Found, found_stream, changed_states, UnitsGrow}
 use Rattle.join_keys.specs.Walks.{StreamEnds, exchange_outcome, ends_after_exchange, WalkedEnds, walk_on, event_walk}
 use Rattle.join_keys.specs.Joined.{host_of}

@@ -2,14 +2,14 @@
 -- one stream, and that no other changes.
 use Rattle.std.specs.Prelude.{ℕ, ◌≡◌, ◌<◌, length, slice_set, Some, false, Option}
 use Rattle.ide_types.specs.declared.port.Side.TheVariants.{Host, Device}
-use Rattle.link_events.specs.declared.event.Loss.{Loss}
-use Rattle.tsm_host.specs.declared.operation.NamedOperation.{NamedOperation}
-use Rattle.tsm_host.specs.declared.operation.StreamOutcome.{StreamOutcome}
-use Rattle.tsm_host.specs.declared.stage.NextExchange.{NextExchange}
-use Rattle.tsm_host.specs.Operations.{op_name}
-use Rattle.tsm_host.specs.Streams.{asked_of_unfinished, has_host, outcome_of}
-use Rattle.tsm_host.specs.Managers.{ManagerView, Named, named_stream, asking_after, pool_begun}
-use Rattle.tsm_host.specs.Walk.{IsAsked}
+use Rattle.run_events.specs.declared.event.Loss.{Loss}
+use Rattle.key_host.specs.declared.operation.NamedOperation.{NamedOperation}
+use Rattle.key_host.specs.declared.operation.StreamOutcome.{StreamOutcome}
+use Rattle.key_host.specs.declared.stage.NextExchange.{NextExchange}
+use Rattle.key_host.specs.Operations.{op_name}
+use Rattle.key_host.specs.Streams.{asked_of_unfinished, has_host, outcome_of}
+use Rattle.key_host.specs.Managers.{ManagerView, Named, named_stream, asking_after, pool_begun}
+use Rattle.key_host.specs.Walk.{IsAsked}
 use Rattle.ide_port.specs.{Found, found_stream, UnitsGrow}
 use Rattle.join_keys.specs.Paired.{PairEnds as PairStreams, pair_exchanged, pair_after, PairWalked, pair_walk}
 use Rattle.join_keys.specs.Paired.{pair_event}

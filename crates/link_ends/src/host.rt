@@ -4,9 +4,9 @@ ghost use Rattle.std.specs.Prelude.{◌≡◌, ◌==◌, ◌-◌, ◌<◌, ◌�
 ghost use Rattle.std.specs.Prelude.{slice_get, slice_set};
 ghost use Rattle.key_slots.specs.{new_pool};
 ghost use Rattle.spec_keys.specs.Operations.{work_of};
-ghost use Rattle.tsm_host.specs.Operations.{op_name};
-ghost use Rattle.tsm_host.specs.Managers.{named_stream, new_manager, reset_manager};
-ghost use Rattle.tsm_host.specs.Streams.{status_or_idle};
+ghost use Rattle.key_host.specs.Operations.{op_name};
+ghost use Rattle.key_host.specs.Managers.{named_stream, new_manager, reset_manager};
+ghost use Rattle.key_host.specs.Streams.{status_or_idle};
 ghost use Rattle.interface_host.specs.Managers.{new_interface_manager as new_interfaces};
 ghost use Rattle.interface_host.specs.Managers.{reset_interface_manager as reset_interfaces};
 ghost use Rattle.interface_ends.specs.Replies.{settled_interfaces};
@@ -21,9 +21,9 @@ use crate::{PairEnds, PeerStreams};
 use ide_types::{FIRST_PEER_LINE, OutOfMemory, PortName, StreamStatus, ValidPlan};
 use interface_ends::{InterfaceKeeper, StreamSaid};
 use interface_host::InterfaceOperation;
-use link_events::Loss;
+use run_events::Loss;
 use std::alloc::Global;
-use tsm_host::{NamedOperation, StreamOutcome, StreamResult};
+use key_host::{NamedOperation, StreamOutcome, StreamResult};
 
 /// The host's manager of all lines: of keys, and of device interfaces (PCI Express Base 6.0 section 6.33 and chapter
 /// 11, in this profile).

@@ -14,7 +14,7 @@ use guarded_memory::{Claim, Guarded, InterfaceStatus, Statuses, claim_of};
 use hop_queues::HopQueues;
 use ide_types::{InterfacePlan, OutOfMemory};
 use interface_ends::DeviceInterfaces;
-use link_verdicts::{Effect, UnitName};
+use run_verdicts::{Effect, UnitName};
 use std::alloc::Global;
 use tlp_layout::{HeadView, TlpView};
 use trusted_memory::{Grant, MemReadView, Reads, Span, Trusted};

@@ -16,7 +16,7 @@ use Rattle.script_events.specs.Terms.{Dump, Reset, Status, Interface, Access, Pe
 use Rattle.script_events.specs.Terms.event
 use Rattle.script_events.specs.Terms.pe
 use Rattle.script_events.specs.Terms.he
-use Rattle.link_events.specs.Spells.{IsAllowed, IsAllowedInScript}
+use Rattle.run_events.specs.Spells.{IsAllowed, IsAllowedInScript}
 use Rattle.script_events.specs.Events.{event_of, peer_stream, peer_stream_in, bound_stream, ends_at, own_stream}
 use Rattle.script_events.specs.Events.{hop_stream, establish_event, refresh_event, stop_event, status_event, send_event}
 use Rattle.script_events.specs.Events.{bind_event, unbind_event, forward_event, arrive_event, reset}

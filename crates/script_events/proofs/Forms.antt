@@ -5,7 +5,7 @@ use Rattle.std.specs.Prelude.{nat_lt, sum_by}
 use Rattle.std.specs.List.{AllByRecursion}
 use Rattle.std.proofs.lemmas.Bool.{ltb-false}
 use Rattle.std.proofs.lemmas.List.Sums.{sum_by-append, sum_by-cons}
-use Rattle.link_events.specs.declared.event.Event.{Event}
+use Rattle.run_events.specs.declared.event.Event.{Event}
 use Rattle.script_events.specs.declared.numbers.Numbers.{Numbers}
 use Rattle.script_events.specs.declared.round.Round.{Round}
 use Rattle.script_events.specs.declared.step.Step.{Step}

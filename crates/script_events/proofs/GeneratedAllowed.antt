@@ -3,8 +3,8 @@ use Rattle.std.proofs.Common.{◌≤◌, ◌+◌, ◌*◌, ◌%◌, ◌++◌, []
 use Rattle.std.proofs.Common.{None, List, length, length-append, if◌then◌else◌, refl, arith, lit≤}
 use Rattle.std.specs.Prelude.{nat_lt, ◌==◌}
 use Rattle.std.specs.List.{AllByRecursion}
-use Rattle.link_events.specs.declared.event.Event.{Event}
-use Rattle.link_events.specs.Spells.{IsAllowed}
+use Rattle.run_events.specs.declared.event.Event.{Event}
+use Rattle.run_events.specs.Spells.{IsAllowed}
 use Rattle.script_events.specs.declared.numbers.Numbers.{Numbers}
 use Rattle.script_events.specs.declared.step.Step.{Step}
 use Rattle.script_events.specs.declared.step.Step.TheVariants as step

@@ -15,7 +15,7 @@ use Rattle.std.proofs.lemmas.Str.Parse.{digit_from_value}
 use Rattle.hex.specs.Hex.{encode_lower, encode_with, lower_digits, IsBytes}
 use Rattle.hex.proofs.HexLemmas.{decode_of-encode_lower, length-encode_with}
 use Rattle.ide_types.specs.Names.{Text}
-use Rattle.link_events.specs.Words.{is_digit, number_of_word, bytes_in}
+use Rattle.run_events.specs.Words.{is_digit, number_of_word, bytes_in}
 use Rattle.script_events.proofs.Words.{is_glyph, IsWord}
 
 -- ---- decimal numbers

@@ -1,6 +1,6 @@
 -- What is left after a step and after a round.
 use Rattle.std.proofs.Common.{◌≡◌, refl, ℕ, zero, suc, ◌-◌, ◌∷◌, Option, Some, None, arith}
-use Rattle.link_events.specs.declared.event.Event.{Event}
+use Rattle.run_events.specs.declared.event.Event.{Event}
 use Rattle.script_events.specs.declared.numbers.Numbers.{Numbers}
 use Rattle.script_events.specs.declared.step.Step.{Step}
 use Rattle.script_events.specs.declared.step.Step.TheVariants as step

@@ -12,10 +12,10 @@ use Rattle.script_events.specs.Forms.{IsForm, IsInterfaceForm}
 use Rattle.script_events.proofs.Forms.{generated_form, generated_weigh}
 use Rattle.ide_types.specs.Names.{Text}
 use Rattle.ide_types.specs.Ports.{device_port}
-use Rattle.link_events.specs.declared.event.Event.{Event}
-use Rattle.link_events.specs.declared.event.Event.TheVariants as event
-use Rattle.link_events.specs.declared.event.InterfaceEvent.{InterfaceEvent}
-use Rattle.link_events.specs.declared.event.InterfaceEvent.TheVariants as ie
+use Rattle.run_events.specs.declared.event.Event.{Event}
+use Rattle.run_events.specs.declared.event.Event.TheVariants as event
+use Rattle.run_events.specs.declared.event.InterfaceEvent.{InterfaceEvent}
+use Rattle.run_events.specs.declared.event.InterfaceEvent.TheVariants as ie
 use Rattle.script_events.specs.TextLaws.{Spells}
 use Rattle.script_events.specs.ScriptText.{asked_line, generated_script, operation_line, event_spelling}
 use Rattle.script_events.proofs.TextForms.{Reads, alter_reads, cut_reads, establish_reads, halt_reads, lock_reads}

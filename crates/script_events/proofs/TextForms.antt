@@ -10,15 +10,15 @@ use Rattle.hex.proofs.OnLiterals.{hex_on_literals}
 use Rattle.ide_types.specs.Names.{Text, joined_words, port_word}
 use Rattle.ide_types.specs.Ports.{device_port}
 use Rattle.script_events.specs.GeneratedTopology.{the_plan}
-use Rattle.link_events.specs.declared.event.Event.{Event}
-use Rattle.link_events.specs.declared.event.Event.TheVariants as event
-use Rattle.link_events.specs.declared.event.InterfaceEvent.TheVariants as ie
-use Rattle.link_events.specs.declared.script.ScriptEvent.{ScriptEvent}
-use Rattle.link_events.specs.declared.script.ScriptEvent.TheVariants as script
-use Rattle.link_events.specs.Parse.{is_comment, line_meaning}
-use Rattle.link_events.specs.Spells.{SpelledBy}
-use Rattle.link_events.specs.Words.{mask_in, number_of_word, port_of_word}
-use Rattle.link_events.proofs.Meanings.{meaning_is_spelling}
+use Rattle.run_events.specs.declared.event.Event.{Event}
+use Rattle.run_events.specs.declared.event.Event.TheVariants as event
+use Rattle.run_events.specs.declared.event.InterfaceEvent.TheVariants as ie
+use Rattle.run_events.specs.declared.script.ScriptEvent.{ScriptEvent}
+use Rattle.run_events.specs.declared.script.ScriptEvent.TheVariants as script
+use Rattle.run_events.specs.Parse.{is_comment, line_meaning}
+use Rattle.run_events.specs.Spells.{SpelledBy}
+use Rattle.run_events.specs.Words.{mask_in, number_of_word, port_of_word}
+use Rattle.run_events.proofs.Meanings.{meaning_is_spelling}
 use Rattle.script_events.specs.Events.{event_of}
 use Rattle.script_events.specs.ScriptText.{event_spelling}
 use Rattle.script_events.proofs.Words.{AreWords, IsWord, ended, is_glyph, length_of, length_spaced, no_ends, printed}

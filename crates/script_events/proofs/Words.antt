@@ -8,7 +8,7 @@ use Rattle.std.proofs.lemmas.List.Folds.{list_all-append}
 use Rattle.std.proofs.lemmas.List.Splits.{slice_split_at, slice_split_none}
 use Rattle.std.proofs.lemmas.List.Sums.{AllPass-from_list_all}
 use Rattle.ide_types.specs.Names.{Text, joined_words, is_printable}
-use Rattle.link_events.specs.Words.{words_in}
+use Rattle.run_events.specs.Words.{words_in}
 
 -- ---- words
 

@@ -2,10 +2,10 @@
 use Rattle.std.specs.Prelude.{◌≡◌, ◌<◌, ◌^◌, false, length, None}
 use Rattle.std.specs.List.{AllByRecursion}
 use Rattle.ide_types.specs.Ports.{device_port}
-use Rattle.link_events.specs.declared.event.Event.{Event}
-use Rattle.link_events.specs.declared.event.Event.TheVariants as event
-use Rattle.link_events.specs.declared.event.InterfaceEvent.{InterfaceEvent}
-use Rattle.link_events.specs.declared.event.InterfaceEvent.TheVariants as interface
+use Rattle.run_events.specs.declared.event.Event.{Event}
+use Rattle.run_events.specs.declared.event.Event.TheVariants as event
+use Rattle.run_events.specs.declared.event.InterfaceEvent.{InterfaceEvent}
+use Rattle.run_events.specs.declared.event.InterfaceEvent.TheVariants as interface
 
 -- operations on interface 0 in which nothing is lost, and 16 bytes at the beginning of the memory
 abbrev pub IsInterfaceForm : InterfaceEvent → Type 0

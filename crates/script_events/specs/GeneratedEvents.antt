@@ -2,9 +2,9 @@
 use Rattle.std.specs.Prelude.{◌≤◌, ◌+◌, ◌*◌, ◌/◌, ◌%◌, ◌==◌, ℕ, zero, suc, nat_lt, false, List, [], ◌∷◌, ◌++◌, Option}
 use Rattle.std.specs.Prelude.{Some, None, if◌then◌else◌}
 use Rattle.ide_types.specs.Ports.{device_port}
-use Rattle.link_events.specs.declared.event.Event.{Event}
-use Rattle.link_events.specs.declared.event.Event.TheVariants as event
-use Rattle.link_events.specs.declared.event.InterfaceEvent.TheVariants as interface
+use Rattle.run_events.specs.declared.event.Event.{Event}
+use Rattle.run_events.specs.declared.event.Event.TheVariants as event
+use Rattle.run_events.specs.declared.event.InterfaceEvent.TheVariants as interface
 use Rattle.script_events.specs.declared.numbers.Numbers.{Numbers}
 use Rattle.script_events.specs.declared.round.Round.{Round}
 use Rattle.script_events.specs.declared.step.Step.{Step}

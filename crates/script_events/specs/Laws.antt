@@ -2,7 +2,7 @@
 use Rattle.ide_types.specs.declared.plan.Plan.{Plan}
 use Rattle.ide_types.specs.Fits.{FitsPlan}
 use Rattle.script_events.specs.Terms.{ScriptEvent}
-use Rattle.link_events.specs.Spells.{IsAllowed, IsAllowedInScript}
+use Rattle.run_events.specs.Spells.{IsAllowed, IsAllowedInScript}
 use Rattle.script_events.specs.Events.{event_of}
 
 abbrev pub EventsAreAllowed : Type 0

@@ -1,7 +1,7 @@
 -- What is left of the events, and what a call gives of them.
 use Rattle.std.specs.Prelude.{◌≡◌, ℕ, List, [], ◌∷◌, ◌++◌, Option, Some, None, Result, Ok, Err}
 use Rattle.ide_types.specs.declared.memory.OutOfMemory.{OutOfMemory}
-use Rattle.link_events.specs.declared.event.Event.{Event}
+use Rattle.run_events.specs.declared.event.Event.{Event}
 use Rattle.script_events.specs.declared.numbers.Numbers.{Numbers}
 use Rattle.script_events.specs.declared.step.Step.{Step}
 use Rattle.script_events.specs.GeneratedEvents.{events_from, event_rounds}

@@ -4,11 +4,11 @@ use Rattle.std.specs.Fmt.{decimal, digits}
 use Rattle.hex.specs.Hex.{encode_lower}
 use Rattle.ide_types.specs.declared.port.PortName.{PortName}
 use Rattle.ide_types.specs.Names.{Text, joined_words, port_word}
-use Rattle.link_events.specs.declared.event.Event.{Event}
-use Rattle.link_events.specs.declared.event.Event.TheVariants as event
-use Rattle.link_events.specs.declared.event.InterfaceEvent.{InterfaceEvent}
-use Rattle.link_events.specs.declared.event.InterfaceEvent.TheVariants as ie
-use Rattle.link_events.specs.declared.event.Loss.{Loss}
+use Rattle.run_events.specs.declared.event.Event.{Event}
+use Rattle.run_events.specs.declared.event.Event.TheVariants as event
+use Rattle.run_events.specs.declared.event.InterfaceEvent.{InterfaceEvent}
+use Rattle.run_events.specs.declared.event.InterfaceEvent.TheVariants as ie
+use Rattle.run_events.specs.declared.event.Loss.{Loss}
 use Rattle.script_events.specs.GeneratedEvents.{generated_events}
 
 -- an operation on a stream, or on an interface, in which nothing is lost; if something is, there is no line

@@ -4,9 +4,9 @@ use Rattle.std.specs.List.{slice_split}
 use Rattle.script_events.specs.GeneratedEvents.{generated_events}
 use Rattle.script_events.specs.GeneratedTopology.{the_plan}
 use Rattle.ide_types.specs.Names.{Text}
-use Rattle.link_events.specs.declared.event.Event.{Event}
-use Rattle.link_events.specs.declared.script.ScriptEvent.{ScriptEvent}
-use Rattle.link_events.specs.Parse.{line_meaning}
+use Rattle.run_events.specs.declared.event.Event.{Event}
+use Rattle.run_events.specs.declared.script.ScriptEvent.{ScriptEvent}
+use Rattle.run_events.specs.Parse.{line_meaning}
 use Rattle.script_events.specs.Events.{event_of}
 use Rattle.topology.specs.Meaning.{plan_of}
 use Rattle.script_events.specs.ScriptText.{generated_script}

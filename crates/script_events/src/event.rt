@@ -9,7 +9,7 @@ ghost use Rattle.script_events.specs.Laws.{EventsAreAllowed};
 use crate::resets::reset_ends;
 use crate::streams::{bound_stream, has_port, hop_stream, own_stream, peer_stream};
 use ide_types::{Bytes, Direction, Plan, PortName, Side, ValidPlan};
-use link_events::{Event, HopEvent, InterfaceEvent, Loss, PeerEvent, ScriptEvent};
+use run_events::{Event, HopEvent, InterfaceEvent, Loss, PeerEvent, ScriptEvent};
 
 fn establish(stream: Option<(u64, u64)>, lose: Option<Loss>) -> Event
     ensures { result ≡ establish_event lose stream }

@@ -2,7 +2,7 @@
 
 ghost use Rattle.std.specs.Prelude.{◌≤◌, ◌+◌, ◌*◌, ℕ, length};
 ghost use Rattle.std.specs.List.{AllByRecursion};
-ghost use Rattle.link_events.specs.Spells.{IsAllowed};
+ghost use Rattle.run_events.specs.Spells.{IsAllowed};
 ghost use Rattle.script_events.specs.GeneratedEvents.{generated_events};
 ghost use Rattle.script_events.specs.Forms.{IsForm};
 

@@ -7,7 +7,7 @@ ghost use Rattle.script_events.specs.Left.{Takes};
 use crate::numbers::Numbers;
 use crate::step::Step;
 use ide_types::OutOfMemory;
-use link_events::Event;
+use run_events::Event;
 use std::alloc::Global;
 use std::marker::Model;
 
@@ -22,7 +22,7 @@ pub struct Generator {
 
 impl Model for Generator {
     ghost use Rattle.std.specs.Prelude.{◌<◌, ◌≤◌, ◌+◌, ◌*◌, ◌^◌, List};
-    ghost use Rattle.link_events.specs.declared.event.Event.{Event};
+    ghost use Rattle.run_events.specs.declared.event.Event.{Event};
     ghost use Rattle.script_events.specs.Left.{events_left};
 
     ghost Value = { List Event };

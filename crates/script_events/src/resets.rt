@@ -5,7 +5,7 @@ ghost use Rattle.ide_types.specs.Ports.{host_port, device_port};
 ghost use Rattle.ide_types.specs.Ends.{link_hop, hop_ends, peer_ends, reset_ends as reset_ends_of};
 
 use ide_types::{PeerPlan, Plan, PortName, Side, ValidPlan};
-use link_events::Ends;
+use run_events::Ends;
 
 fn host(line: u8) -> PortName
     ensures { result ≡ host_port line }

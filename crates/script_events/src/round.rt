@@ -7,7 +7,7 @@ ghost use Rattle.script_events.specs.GeneratedEvents.{sending_round, shown_memor
 use crate::numbers::{Numbers, following, value_of};
 use crate::step::Step;
 use ide_types::{Bytes, OutOfMemory, PortName, Side};
-use link_events::{Event, InterfaceEvent};
+use run_events::{Event, InterfaceEvent};
 use std::alloc::Global;
 
 /// What a round gives.

@@ -6,7 +6,7 @@ ghost use Rattle.script_events.specs.ScriptText.{send_line, event_spelling};
 
 use crate::Generator;
 use ide_types::{OutOfMemory, PortName};
-use link_events::{Event, InterfaceEvent, Loss};
+use run_events::{Event, InterfaceEvent, Loss};
 use std::alloc::{AllocError, Global};
 
 // Of an operation on a stream in which nothing is lost.

@@ -3,7 +3,7 @@
 ghost use Rattle.std.specs.Prelude.{◌≡◌};
 ghost use Rattle.script_events.specs.GeneratedEvents.{step_event, step_after};
 
-use link_events::{Event, InterfaceEvent};
+use run_events::{Event, InterfaceEvent};
 
 /// The steps by which stream 5 of link 0 and interface 0 are stopped, halted and set up again, in their order.
 #[derive(Clone, Copy, PartialEq, Eq)]

@@ -6,7 +6,7 @@ ghost use Rattle.trusted_memory.specs.Requests.{FitsRead};
 
 use crate::{Grant, MemReadView, Trusted};
 use ide_types::OutOfMemory;
-use link_verdicts::{BlockCause, Effect};
+use run_verdicts::{BlockCause, Effect};
 use std::alloc::Global;
 use std::collections::VecDeque;
 use std::marker::Model;

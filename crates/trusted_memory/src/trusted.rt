@@ -14,7 +14,7 @@ use crate::page::{PAGE_BYTES, Page};
 use crate::regions::{in_one_region, in_region};
 use crate::{Grant, MemWriteView, Span};
 use ide_types::{OutOfMemory, Region};
-use link_verdicts::{BlockCause, Effect};
+use run_verdicts::{BlockCause, Effect};
 use std::alloc::Global;
 use std::collections::HashMap;
 use std::marker::Model;

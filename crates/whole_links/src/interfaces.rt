@@ -1,7 +1,7 @@
 //! Events on interfaces.
 
 ghost use Rattle.std.specs.Prelude.{◌≡◌, ◌<◌, ◌^◌, ◌&&◌, not, IfOk, IfSome, length};
-ghost use Rattle.link_events.specs.Interfaces.{IsAllowedInterface};
+ghost use Rattle.run_events.specs.Interfaces.{IsAllowedInterface};
 ghost use Rattle.spec_interfaces.specs.Exchanges.{changes_device};
 ghost use Rattle.guarded_memory.specs.Happenings.{InterfaceReset};
 ghost use Rattle.all_links.specs.Accesses.{runs_in, same_reads, same_floors, nothing_happens};
@@ -13,8 +13,8 @@ use crate::verdicts::{changes_device, reaches};
 use crate::whole::WholeLinks;
 use ide_types::OutOfMemory;
 use interface_host::InterfaceOperation;
-use link_events::{Event, InterfaceEvent, Loss};
-use link_verdicts::Verdict;
+use run_events::{Event, InterfaceEvent, Loss};
+use run_verdicts::Verdict;
 use std::alloc::Global;
 
 impl WholeLinks {

@@ -9,8 +9,8 @@ use crate::whole::WholeLinks;
 use all_links::{Arriving, Packets, land};
 use ide_types::{OutOfMemory, PortName, ValidPlan};
 use line_routes::{has_port, partner};
-use link_events::Event;
-use link_verdicts::Verdict;
+use run_events::Event;
+use run_verdicts::Verdict;
 use std::alloc::Global;
 use std::borrow::CowSlice;
 

@@ -16,8 +16,8 @@ use crate::whole::WholeLinks;
 use ide_types::{
     Binding, Bytes, InterfaceVerdict, OutOfMemory, PortName, Side, SubKind, ValidPlan,
 };
-use link_events::{AccessEvent, Event};
-use link_verdicts::{AccessVerdict, BlockCause, Verdict};
+use run_events::{AccessEvent, Event};
+use run_verdicts::{AccessVerdict, BlockCause, Verdict};
 use std::alloc::Global;
 use trusted_memory::{COMPLETION_BYTES, WaitingRead, complete};
 

@@ -9,8 +9,8 @@ use crate::verdicts::{empty, is_sealed};
 use crate::whole::WholeLinks;
 use ide_types::{Direction, OutOfMemory, ValidPlan};
 use line_routes::{has_hop, leaving_end};
-use link_events::Event;
-use link_verdicts::Verdict;
+use run_events::Event;
+use run_verdicts::Verdict;
 
 impl WholeLinks {
     ghost use Rattle.whole_links.specs.Whole.{IsBoundedWhole, WholeEndsOr};

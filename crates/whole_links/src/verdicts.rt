@@ -5,7 +5,7 @@ ghost use Rattle.spec_interfaces.specs.Exchanges.{carries, changes_device, is_in
 ghost use Rattle.whole_links.specs.Accesses.{is_sealed, takes_read};
 
 use ide_types::InterfaceVerdict;
-use link_verdicts::{AccessVerdict, BlockCause, Verdict};
+use run_verdicts::{AccessVerdict, BlockCause, Verdict};
 
 /// Whether an answer to a read with this verdict takes the read: its completion was sealed, or it was dropped.
 pub fn takes_read(verdict: &Verdict) -> bool

@@ -7,8 +7,8 @@ ghost use Rattle.why_facts.specs.Lines.{effect_lines, facts_text, rule_line, rul
 use crate::fact::Fact;
 use crate::rules::{effect_rule, rule};
 use ide_types::{OutOfMemory, PortName, SubKind};
-use link_events::Event;
-use link_verdicts::{Effect, Verdict};
+use run_events::Event;
+use run_verdicts::{Effect, Verdict};
 use std::alloc::{AllocError, Global};
 
 // Room for most texts.

@@ -9,8 +9,8 @@ ghost use Rattle.why_facts.specs.Rules.{sending_rule, unless_none, unnamed_rule,
 
 use crate::fact::{Fact, StreamFact};
 use ide_types::{FailCause, InterfaceVerdict, PortName, Side, SubKind};
-use link_events::{AccessEvent, Event, InterfaceEvent};
-use link_verdicts::{AccessVerdict, BlockCause, Effect, Verdict};
+use run_events::{AccessEvent, Event, InterfaceEvent};
+use run_verdicts::{AccessVerdict, BlockCause, Effect, Verdict};
 
 fn key_rule(class: Option<SubKind>, sub: SubKind) -> &'static str
     ensures { result.now ≡ key_rule class sub }

@@ -14,18 +14,18 @@ use Rattle.ide_types.specs.Lines.{is_link_line, peer_line}
 use Rattle.ide_types.specs.Ports.{host_port}
 use Rattle.ide_types.specs.declared.plan.Plan.{Plan}
 use Rattle.ide_types.specs.declared.plan.PeerPlan.{PeerPlan}
-use Rattle.link_events.specs.declared.event.Event.{Event}
-use Rattle.link_events.specs.declared.event.Event.TheVariants as event
-use Rattle.link_events.specs.declared.event.Loss.{Loss}
-use Rattle.link_verdicts.specs.declared.verdict.Operation.{Operation}
-use Rattle.link_verdicts.specs.declared.verdict.Operation.TheVariants as op
-use Rattle.link_verdicts.specs.declared.verdict.Verdict.{Verdict}
-use Rattle.link_verdicts.specs.declared.verdict.Verdict.TheVariants as v
+use Rattle.run_events.specs.declared.event.Event.{Event}
+use Rattle.run_events.specs.declared.event.Event.TheVariants as event
+use Rattle.run_events.specs.declared.event.Loss.{Loss}
+use Rattle.run_verdicts.specs.declared.verdict.Operation.{Operation}
+use Rattle.run_verdicts.specs.declared.verdict.Operation.TheVariants as op
+use Rattle.run_verdicts.specs.declared.verdict.Verdict.{Verdict}
+use Rattle.run_verdicts.specs.declared.verdict.Verdict.TheVariants as v
 use Rattle.spec_keys.specs.Operations.{StreamStage, Idle, work_of, reach_of}
 use Rattle.spec_keys.specs.History.{begins_keyed}
 use Rattle.spec_interfaces.specs.Sites.{Site}
 use Rattle.spec_interfaces.specs.Views.{Managed, managed_after, peer_of, stop_begins, view_broken}
-use Rattle.tsm_host.specs.Managers.{ManagerView, Named, named_stream, op_named}
+use Rattle.key_host.specs.Managers.{ManagerView, Named, named_stream, op_named}
 use Rattle.interface_host.specs.Views.{HostTdi, broken_view, left_by_peer_stop, left_by_stop, keyed_by}
 use Rattle.interface_host.specs.Managers.{all_interfaces, peer_stop}
 use Rattle.trusted_memory.specs.{MemoryContents, IsLeftBy}

@@ -2,13 +2,13 @@
 
 ghost use Rattle.std.specs.Prelude.{◌≡◌, ◌<◌, ◌+◌, ◌^◌, IfOk, OnErr};
 ghost use Rattle.ide_types.specs.Fits.{FitsPlan};
-ghost use Rattle.link_events.specs.Spells.{IsAllowed};
+ghost use Rattle.run_events.specs.Spells.{IsAllowed};
 
 use ide_types::{OutOfMemory, Plan, ValidPlan};
 use join_accesses::WholeLinks;
 use join_interfaces::interface_operations_join;
-use link_events::Event;
-use link_verdicts::Verdict;
+use run_events::Event;
+use run_verdicts::Verdict;
 use machine_operations::points_stand;
 use machine_whole::{whole_begins, whole_steps};
 use std::alloc::Global;

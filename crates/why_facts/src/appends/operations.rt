@@ -3,16 +3,16 @@
 ghost use Rattle.std.specs.Prelude.{◌≡◌, ◌∷◌, ◌++◌, [], IfOk, Some};
 ghost use Rattle.ide_types.specs.{is_hosted};
 ghost use Rattle.spec_keys.specs.Operations.{last_exchange_of, work_of};
-ghost use Rattle.tsm_host.specs.Facts.{op_seen};
+ghost use Rattle.key_host.specs.Facts.{op_seen};
 ghost use Rattle.why_facts.specs.Forms.{manager_fact, manager_state, may_go};
 ghost use Rattle.why_facts.specs.Streams.{open_seen};
 
 use crate::appends::streams::{is_live, push};
 use crate::{Fact, ManagerState, OperationFact};
 use ide_types::{OutOfMemory, SubKind};
-use link_verdicts::Operation;
+use run_verdicts::Operation;
 use sub_stream::StreamFacts;
-use tsm_host::StageFacts;
+use key_host::StageFacts;
 
 /// What the manager knows of a stream.
 pub fn manager_state(stage: StageFacts) -> ManagerState

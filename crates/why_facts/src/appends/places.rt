@@ -5,7 +5,7 @@ ghost use Rattle.spec_keys.specs.History.{program_exchange};
 ghost use Rattle.why_facts.specs.Places.{is_last_seen, key_place, seen_place_at};
 
 use ide_types::{Side, SubKind};
-use link_verdicts::Operation;
+use run_verdicts::Operation;
 use sub_stream::SlotFacts;
 
 /// A place of a stream's keys (this profile).

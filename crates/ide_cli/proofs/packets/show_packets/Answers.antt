@@ -1,4 +1,4 @@
-use Rattle.line_runs.specs.Gathering.{ended_text}
+use Rattle.file_runs.specs.Gathering.{ended_text}
 use Rattle.ide_cli.specs.Packets.{nothing_due, shown_line}
 use Rattle.ide_runs.proofs.Loads.{ended_by}
 use Rattle.ide_cli.proofs.packets.show_packets.Goals as goal

@@ -1,8 +1,8 @@
 use Rattle.std.proofs.Common.{[], Err, map, refl}
 use Rattle.std.specs.Prelude.{string_bytes}
-use Rattle.line_runs.specs.declared.ends.End.TheVariants as end
-use Rattle.line_runs.specs.declared.ends.Fault.TheVariants as fault
-use Rattle.line_runs.specs.Outcome.{Due}
+use Rattle.file_runs.specs.declared.ends.End.TheVariants as end
+use Rattle.file_runs.specs.declared.ends.Fault.TheVariants as fault
+use Rattle.file_runs.specs.Outcome.{Due}
 use Rattle.ide_runs.specs.Generated.{generated_due}
 use Rattle.ide_cli.specs.Meaning.{script_text_due, topology_text_due}
 use Rattle.ide_cli.specs.Seen.{CallSeen, call_seen}
@@ -10,7 +10,7 @@ use Rattle.ide_cli.proofs.Requests.{alone_without_memory, answered_alone, answer
 use Rattle.ide_cli.proofs.Requests.{answered_migrate, answered_run, answered_show, answered_why}
 use Rattle.ide_cli.proofs.Requests.{answered_without_memory, asks_alone, asks_for, asks_nothing, ends_as, ends_asked}
 use Rattle.ide_cli.proofs.Requests.{never_ends, ran_without_memory, said}
-use Rattle.line_runs.proofs.FileNames.{asks_none}
+use Rattle.file_runs.proofs.FileNames.{asks_none}
 use Rattle.ide_cli.specs.Reads.{AsksToJudge, AsksToTell, Names}
 use Rattle.cli_words.specs.Words.{command_asked}
 use Rattle.ide_cli.proofs.Furthers.{asked_far, asked_names, nothing_read}

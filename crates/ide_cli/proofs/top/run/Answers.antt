@@ -1,5 +1,5 @@
 use Rattle.std.proofs.Common.{refl}
-use Rattle.line_runs.specs.declared.ends.End.TheVariants as end
+use Rattle.file_runs.specs.declared.ends.End.TheVariants as end
 use Rattle.ide_cli.specs.declared.status.Status.TheVariants as status
 use Rattle.ide_cli.specs.Headline.{InEvery}
 use Rattle.ide_cli.specs.Laws.{IsDue, Laws}

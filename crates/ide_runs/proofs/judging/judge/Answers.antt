@@ -1,10 +1,10 @@
 use Rattle.std.proofs.Common.{[], option_map, sym, subst}
-use Rattle.line_runs.specs.declared.ends.End.{End}
-use Rattle.line_runs.specs.Gain.{Text}
-use Rattle.line_runs.specs.Outcome.{Ran}
-use Rattle.line_runs.proofs.Joins.{later}
-use Rattle.line_runs.proofs.WholeFiles.{IsDue, ran_after, redue}
-use Rattle.line_runs.specs.Judging.{judgement_due}
+use Rattle.file_runs.specs.declared.ends.End.{End}
+use Rattle.file_runs.specs.Gain.{Text}
+use Rattle.file_runs.specs.Outcome.{Ran}
+use Rattle.file_runs.proofs.Joins.{later}
+use Rattle.file_runs.proofs.WholeFiles.{IsDue, ran_after, redue}
+use Rattle.file_runs.specs.Judging.{judgement_due}
 use Rattle.ide_runs.specs.Judge.{text_left}
 use Rattle.ide_runs.specs.Reads.{RunNoFurther}
 use Rattle.ide_runs.proofs.Judges.{asks_three, asks_two, cut_run, far_judged, far_left, given_both, given_cut}

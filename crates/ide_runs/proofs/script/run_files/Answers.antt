@@ -1,8 +1,8 @@
 use Rattle.std.proofs.Common.{Ok, option_map, refl}
-use Rattle.line_runs.specs.declared.ends.End.TheVariants.{Done, TooLong}
-use Rattle.line_runs.proofs.FileNames.{asks_both, asks_first}
-use Rattle.line_runs.proofs.WholeFiles.{redue}
-use Rattle.line_runs.proofs.Joins.{later}
+use Rattle.file_runs.specs.declared.ends.End.TheVariants.{Done, TooLong}
+use Rattle.file_runs.proofs.FileNames.{asks_both, asks_first}
+use Rattle.file_runs.proofs.WholeFiles.{redue}
+use Rattle.file_runs.proofs.Joins.{later}
 use Rattle.ide_runs.specs.declared.topologies.Loaded.TheVariants.{Faulty, Long}
 use Rattle.ide_runs.specs.Script.{run_due, script_due}
 use Rattle.ide_runs.specs.SoFar.{run_so_far, script_given, script_so_far}

@@ -1,16 +1,16 @@
 use Rattle.std.proofs.Common.{◌≡◌, [], option_map}
-use Rattle.line_runs.specs.declared.ends.Fault.TheVariants as fault
-use Rattle.line_runs.specs.Lines.{file_due}
-use Rattle.line_runs.proofs.FileFronts.{nothing_wrote}
-use Rattle.line_runs.proofs.FileNames.{asks_none}
-use Rattle.line_runs.proofs.WholeFiles.{out_of_memory, redue}
-use Rattle.line_runs.specs.Gathering.{GoesOn, ended_text}
-use Rattle.line_runs.proofs.Joins.{ended_same, far_same, same_due, same_ended}
+use Rattle.file_runs.specs.declared.ends.Fault.TheVariants as fault
+use Rattle.file_runs.specs.Lines.{file_due}
+use Rattle.file_runs.proofs.FileFronts.{nothing_wrote}
+use Rattle.file_runs.proofs.FileNames.{asks_none}
+use Rattle.file_runs.proofs.WholeFiles.{out_of_memory, redue}
+use Rattle.file_runs.specs.Gathering.{GoesOn, ended_text}
+use Rattle.file_runs.proofs.Joins.{ended_same, far_same, same_due, same_ended}
 use Rattle.ide_runs.specs.Script.{script_due}
 use Rattle.ide_runs.specs.Reads.{ScriptGoesOn}
 use Rattle.ide_runs.specs.SoFar.{script_so_far}
 use Rattle.ide_runs.specs.Works.{ScriptPast, Follows, closing_due, ran_line}
-use Rattle.ide_runs.proofs.Scripts.{ended_runs, file_runs, follows_nothing, script_goes_on}
+use Rattle.ide_runs.proofs.Scripts.{ended_runs, file_is_run, follows_nothing, script_goes_on}
 use Rattle.ide_runs.proofs.script.run_script.Goals as goal
 
 pub returns-in-Err-clause-answers : goal.returns-in-Err-clause-answers
@@ -26,7 +26,7 @@ returns-in-Ok-clause-answers g c =
     redue told (λ contents. option_map (file_due ran_line closing_due past) (contents c.args.script.now))
     (λ contents. option_map (script_due c.args.plan) (contents c.args.script.now)) _ _ _ _ c.run_file.result
     (same_due told c.args.script.now (file_due ran_line closing_due past) (script_due c.args.plan)
-    (λ t. file_runs c.args.plan t))
+    (λ t. file_is_run c.args.plan t))
     (c.run_file.ensures.answers past follows)
 
 pub returns-in-Ok-clause-so_far : goal.returns-in-Ok-clause-so_far

@@ -1,8 +1,8 @@
 use Rattle.std.proofs.Common.{Ok, option_map, refl}
-use Rattle.line_runs.specs.declared.ends.End.TheVariants.{Done, NoEvent, TooLong}
-use Rattle.line_runs.proofs.FileNames.{asks_both, asks_first}
-use Rattle.line_runs.proofs.WholeFiles.{redue}
-use Rattle.line_runs.proofs.Joins.{later}
+use Rattle.file_runs.specs.declared.ends.End.TheVariants.{Done, NoEvent, TooLong}
+use Rattle.file_runs.proofs.FileNames.{asks_both, asks_first}
+use Rattle.file_runs.proofs.WholeFiles.{redue}
+use Rattle.file_runs.proofs.Joins.{later}
 use Rattle.ide_runs.specs.declared.topologies.Loaded.TheVariants.{Faulty, Long}
 use Rattle.ide_runs.specs.Why.{told_due, told_so_far, why_due}
 use Rattle.ide_runs.specs.SoFar.{files_so_far, script_given}

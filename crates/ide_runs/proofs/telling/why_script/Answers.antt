@@ -1,11 +1,11 @@
 use Rattle.std.proofs.Common.{◌≡◌, [], option_map}
-use Rattle.line_runs.specs.declared.ends.Fault.TheVariants as fault
-use Rattle.line_runs.specs.Lines.{file_due}
-use Rattle.line_runs.proofs.FileFronts.{nothing_wrote}
-use Rattle.line_runs.proofs.FileNames.{asks_none}
-use Rattle.line_runs.proofs.WholeFiles.{out_of_memory, redue}
-use Rattle.line_runs.specs.Gathering.{GoesOn, ended_text}
-use Rattle.line_runs.proofs.Joins.{ended_same, far_same, same_due, same_ended}
+use Rattle.file_runs.specs.declared.ends.Fault.TheVariants as fault
+use Rattle.file_runs.specs.Lines.{file_due}
+use Rattle.file_runs.proofs.FileFronts.{nothing_wrote}
+use Rattle.file_runs.proofs.FileNames.{asks_none}
+use Rattle.file_runs.proofs.WholeFiles.{out_of_memory, redue}
+use Rattle.file_runs.specs.Gathering.{GoesOn, ended_text}
+use Rattle.file_runs.proofs.Joins.{ended_same, far_same, same_due, same_ended}
 use Rattle.ide_runs.specs.Why.{FollowsWhy, WhyPast, told_due, told_so_far, why_closing, why_line}
 use Rattle.ide_runs.specs.Reads.{ScriptGoesOn}
 use Rattle.ide_runs.proofs.Whys.{ended_told, file_told, tells_nothing, told_goes_on}

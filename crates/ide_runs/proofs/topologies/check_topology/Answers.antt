@@ -1,5 +1,5 @@
 use Rattle.std.proofs.Common.{[], option_map, ap, refl}
-use Rattle.line_runs.proofs.WholeFiles.{ran_after}
+use Rattle.file_runs.proofs.WholeFiles.{ran_after}
 use Rattle.ide_runs.specs.declared.topologies.Loaded.TheVariants.{Long}
 use Rattle.ide_runs.specs.Topologies.{check_due, loaded_topology, report}
 use Rattle.ide_runs.proofs.Furthers.{within_file}

@@ -1,8 +1,8 @@
 use Rattle.std.proofs.Common.{◌≡◌, ◌≢◌, ◌<◌, ◌≤◌, length, subst}
 use Rattle.std.specs.Prelude.{IfOk}
 use Rattle.topology.specs.Meaning.{plan_of}
-use Rattle.line_runs.specs.Gain.{Text}
-use Rattle.line_runs.proofs.Joins.{given_within}
+use Rattle.file_runs.specs.Gain.{Text}
+use Rattle.file_runs.proofs.Joins.{given_within}
 use Rattle.ide_runs.specs.declared.topologies.Loaded.TheVariants.{Long}
 use Rattle.ide_runs.specs.Topologies.{by_plan, loaded_topology}
 use Rattle.ide_runs.proofs.Loads.{gave_all, gave_few, gave_long, loads_front}

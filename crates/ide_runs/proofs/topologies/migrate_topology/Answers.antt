@@ -1,9 +1,9 @@
 use Rattle.std.proofs.Common.{◌≢◌, ◌<◌, ◌≤◌, ◌≡◌, [], length, refl, subst}
 use Rattle.std.specs.Prelude.{IfOk}
-use Rattle.line_runs.specs.declared.ends.End.TheVariants.{TooLong}
-use Rattle.line_runs.specs.declared.ends.Fault.TheVariants as fault
-use Rattle.line_runs.specs.declared.front.Unread.TheVariants as unread
-use Rattle.line_runs.specs.Gain.{Text}
+use Rattle.file_runs.specs.declared.ends.End.TheVariants.{TooLong}
+use Rattle.file_runs.specs.declared.ends.Fault.TheVariants as fault
+use Rattle.file_runs.specs.declared.front.Unread.TheVariants as unread
+use Rattle.file_runs.specs.Gain.{Text}
 use Rattle.ide_runs.specs.Migrating.{WritesMigrated}
 use Rattle.ide_runs.proofs.Furthers.{within_file}
 use Rattle.ide_runs.proofs.Loads.{gave_long, no_line_in_file, no_line_wrote, nothing_yet}

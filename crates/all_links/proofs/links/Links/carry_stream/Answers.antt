@@ -1,8 +1,8 @@
 use Rattle.all_links.proofs.Terms.{ℕ, refl, subst, sym, IsSome, Option, Verdict, OperatesAt, named_stream, Named}
 use Rattle.all_links.proofs.Terms.{told_by_line, drawn_on_line, ◌≡◌, ◌==◌, not, work_of, ◌∙◌, ap}
 use Rattle.std.specs.Prelude.{IfSome}
-use Rattle.tsm_host.specs.Operations.{op_name}
-use Rattle.tsm_host.proofs.Walks.{no_bad_reply}
+use Rattle.key_host.specs.Operations.{op_name}
+use Rattle.key_host.proofs.Walks.{no_bad_reply}
 use Rattle.all_links.proofs.Operations.{operates_due}
 use Rattle.all_links.proofs.links.Links.carry_stream.Goals as goal
 

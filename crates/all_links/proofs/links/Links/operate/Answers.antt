@@ -2,8 +2,8 @@ use Rattle.all_links.proofs.Terms.{ℕ, ◌+◌, ap, sym, ◌∙◌, subst, true
 use Rattle.all_links.proofs.Terms.{named_stream}
 use Rattle.all_links.proofs.Terms.{◌≡◌, Links, OperatesAt, operation_event, links_state, beside_in, port_on}
 use Rattle.ide_types.specs.Ports.{host_port}
-use Rattle.tsm_host.specs.Operations.{OpName}
-use Rattle.tsm_host.specs.Walk.{verdict_of}
+use Rattle.key_host.specs.Operations.{OpName}
+use Rattle.key_host.specs.Walk.{verdict_of}
 use Rattle.all_links.proofs.Finds.{ends_as, if_some, nothing_changes, some_none}
 use Rattle.line_arrivals.proofs.{unnamed, step_none}
 use Rattle.all_links.specs.BesideAfter.{BesideOperation, works_on}

@@ -1,6 +1,6 @@
 use Rattle.std.proofs.Common.{Option, Ok, sym, ap, subst}
-use Rattle.link_events.specs.declared.script.ScriptEvent.{ScriptEvent}
-use Rattle.line_runs.specs.Gain.{Text}
+use Rattle.run_events.specs.declared.script.ScriptEvent.{ScriptEvent}
+use Rattle.file_runs.specs.Gain.{Text}
 use Rattle.ide_runs.specs.Works.{ScriptPast, by_meaning, ran_script_event}
 use Rattle.ide_session.specs.Sessions.{GaveText}
 use Rattle.ide_session.proofs.session.Live.run.Goals as goal

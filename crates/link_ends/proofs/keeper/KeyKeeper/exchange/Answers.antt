@@ -2,10 +2,10 @@ use Rattle.link_ends.proofs.Terms.{true, ◌≡◌, ◌∙◌, sym, refl, object
 use Rattle.link_ends.proofs.Terms.{request_asked, outcome_of, taken_stream, taken_calls, Current, current, asking_after}
 use Rattle.link_ends.proofs.Terms.{calls_taken, Exchanged, judged_bytes, lost_message}
 use Rattle.std.proofs.Common.{ap, subst}
-use Rattle.tsm_host.specs.Streams.{has_host}
-use Rattle.tsm_host.specs.declared.operation.ExchangeReply.TheVariants as carried
-use Rattle.link_events.specs.declared.event.Lost.TheVariants.{Request, Reply}
-use Rattle.tsm_host.specs.declared.judge.Judged.TheVariants.{Lost as NotCarried}
+use Rattle.key_host.specs.Streams.{has_host}
+use Rattle.key_host.specs.declared.operation.ExchangeReply.TheVariants as carried
+use Rattle.run_events.specs.declared.event.Lost.TheVariants.{Request, Reply}
+use Rattle.key_host.specs.declared.judge.Judged.TheVariants.{Lost as NotCarried}
 use Rattle.link_ends.proofs.Carried.{IsAsking, is_asking, not_lost, is_lost, IsDelivered, is_delivered, exchange_ends}
 use Rattle.link_ends.proofs.Ports.{PortMoves}
 use Rattle.link_ends.proofs.Calls.{host_units, device_units, device_interfaces}

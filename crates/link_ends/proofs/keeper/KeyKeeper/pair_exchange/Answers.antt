@@ -1,14 +1,14 @@
 use Rattle.link_ends.proofs.Terms.{false, ◌≡◌, ◌∙◌, sym, refl, Some, None, slice_set, request_asked, outcome_of}
 use Rattle.link_ends.proofs.Terms.{taken_stream, taken_calls, asking_after, judged_bytes, lost_message, HasStream}
 use Rattle.link_ends.proofs.Terms.{PortEnd, ap, subst, IsSome, Current, current, calls_taken, object_spelling}
-use Rattle.link_events.specs.declared.event.Lost.TheVariants.{Request, Reply}
-use Rattle.tsm_host.specs.Streams.{end_asked, has_host}
-use Rattle.tsm_host.specs.declared.judge.Judged.TheVariants.{Lost as NotCarried}
+use Rattle.run_events.specs.declared.event.Lost.TheVariants.{Request, Reply}
+use Rattle.key_host.specs.Streams.{end_asked, has_host}
+use Rattle.key_host.specs.declared.judge.Judged.TheVariants.{Lost as NotCarried}
 use Rattle.join_keys.specs.Paired.{PairExchanged}
 use Rattle.link_ends.proofs.Ports.{PortMoves}
 use Rattle.link_ends.proofs.PairCarried.{IsPairAsking, pair_is_asking, IsPairDelivered, is_pair_delivered}
 use Rattle.link_ends.proofs.PairCarried.{pair_exchange_ends, near_same, pair_lost}
-use Rattle.tsm_host.specs.declared.operation.ExchangeReply.TheVariants as carried
+use Rattle.key_host.specs.declared.operation.ExchangeReply.TheVariants as carried
 use Rattle.link_ends.specs.PairKeepers.{NoMorePairUnits}
 use Rattle.link_ends.proofs.Calls.{host_units, pair_units}
 use Rattle.ide_port.proofs.Units.{stays, grow-on}

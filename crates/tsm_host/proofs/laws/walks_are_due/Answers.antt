@@ -1,5 +1,0 @@
-use Rattle.tsm_host.proofs.Dues.{all_due}
-use Rattle.tsm_host.proofs.laws.walks_are_due.Goals as goal
-
-pub returns : goal.returns
-returns c = all_due
