@@ -20,9 +20,8 @@ holds true e = tt
 holds false e = absurd (true≢false (sym e))
 
 -- a test of all bytes holds of each lane of f
-pub placed : (f : ℕ → ℕ) (v js : List ℕ) → Each1 (Fits w8) v → js ≡ map f v → all_below (λ x. is_lookup_place (f x)) 256
-    ≡ true
-    → Each1 (λ j. T (is_lookup_place j)) js
+pub placed : (f : ℕ → ℕ) (v js : List ℕ) → Each1 (Fits w8) v → js ≡ map f v
+    → all_below (λ x. is_lookup_place (f x)) 256 ≡ true → Each1 (λ j. T (is_lookup_place j)) js
 placed f v js fits e test =
     rw e (go v fits)
   where

@@ -146,8 +146,7 @@ module _ (v : EndsView) (w : IsWired v) where
       (set-append_right first_rows near_rows 16 (16 + n) y sixteen (omega arith)
       ∙ ap (λ (m : ℕ). first_rows ++ slice_set near_rows m y) back)
 
-  pair_set : (n : ℕ) (y : Row)
-      → slice_set (rows_of v) (32 + n) y ≡ first_rows ++ near_rows ++ slice_set pair_rows n y
+  pair_set : (n : ℕ) (y : Row) → slice_set (rows_of v) (32 + n) y ≡ first_rows ++ near_rows ++ slice_set pair_rows n y
   pair_set n y =
       let back : (32 + n) - 32 ≡ n = omega arith in
       set-append_right (first_rows ++ near_rows) pair_rows 32 (32 + n) y both_rows (omega arith)
@@ -274,8 +273,7 @@ module _ (plan : Plan) (v : EndsView) (k : KeeperView) (links : AreLinks plan v 
 
 module _ (plan : Plan) (v : EndsView) (k : KeeperView) (packets : List LinkPacket) (w : IsWired v) (end : PortName)
     (e : PortEnd) (is : port_on v end ≡ Some e) where
-  pub find_at : (id : ℕ) → IsPort plan end e
-      → find plan (state_of plan v k packets) end id
+  pub find_at : (id : ℕ) → IsPort plan end e → find plan (state_of plan v k packets) end id
       ≡ option_map (λ (f : Found). f.state) (found_stream e.plans e.states id)
   unfolding find
   find_at id at_port =

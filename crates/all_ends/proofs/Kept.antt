@@ -308,8 +308,7 @@ module _ (n : ℕ) (v : EndsView) (i : ℕ) where
       units_at s (Near j) y is = units_after n (λ (l : LinkEnds). port_in s l) f v.near i j (grow s) y is
       units_at s (Pair j) y is = (y, is, stays n y)
 
-  pub pairs_grow : (f : PairEnds → PairEnds)
-      → ((s : Side) (l : PairEnds) → slice_get v.pairs i ≡ Some l
+  pub pairs_grow : (f : PairEnds → PairEnds) → ((s : Side) (l : PairEnds) → slice_get v.pairs i ≡ Some l
       → UnitsGrow n (pair_port s l) (pair_port s (f l)))
       → Grows n v (record v { pairs = changed_at v.pairs i f })
   pairs_grow f grow = record {

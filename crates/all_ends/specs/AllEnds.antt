@@ -57,8 +57,7 @@ pub record Sends (old : EndsView) (side : Side) (place : LinePlace) (tlp : List 
     (new : EndsView) (sealed : List ℕ) (e : PortEnd) : Type 0 where
   pub port : PortEnd
   pub new_is : new ≡ with_port_at_place old side place port
-  pub sent : (number : ℕ)
-      → IsSentAtPort e tlp more (trust_at_place old side place trusted) number answer port sealed
+  pub sent : (number : ℕ) → IsSentAtPort e tlp more (trust_at_place old side place trusted) number answer port sealed
 
 abbrev pub SendsIn : EndsView → Side → LinePlace → List ℕ → Bool → Bool → Sent → EndsView → List ℕ → Type 0
 SendsIn old side place tlp more trusted answer new sealed =
@@ -237,8 +236,7 @@ pub record IsEnded (outcome : InterfaceOutcome) (m : InterfacesView) (d : Device
   pub device_is : d ≡ e.device
 
 abbrev pub AsksAt : EndsView → ℕ → HostKeeper → ℕ → InterfaceOperation → Option Loss → InterfaceOutcome → EndsView
-    → HostKeeper
-    → Type 0
+    → HostKeeper → Type 0
 AsksAt old link k interface o loss outcome new k' =
     Changes old link new
     (λ l l'. Asks k interface o loss (peer_live old link) (IsEnded outcome k'.interfaces l'.device.interfaces) k' l l')
@@ -252,8 +250,7 @@ pub record IsThere (v : EndsView) (link place : ℕ) : Type 0 where
 pub record Calls (place : ℕ) (call : Call) (code : ℕ) (l l' : LinkEnds) : Type 0 where
   pub ends : (tdi : Tdi) → slice_get l.device.interfaces.interfaces place ≡ Some tdi
       → l' ≡ record l { device = record l.device { interfaces = called_at l.device.interfaces place tdi call } }
-  pub code_is : (tdi : Tdi) → slice_get l.device.interfaces.interfaces place ≡ Some tdi
-      → code ≡ code_behind tdi call
+  pub code_is : (tdi : Tdi) → slice_get l.device.interfaces.interfaces place ≡ Some tdi → code ≡ code_behind tdi call
 
 abbrev pub CallsAt : EndsView → ℕ → ℕ → Call → ℕ → EndsView → Type 0
 CallsAt old link place call code new = Changes old link new (λ l l'. Calls place call code l l')

@@ -30,14 +30,14 @@ use ide_types::{
 };
 use interface_ends::InterfaceKeeper;
 use interface_host::InterfaceOperation;
+use key_host::{NamedOperation, StreamOutcome};
 use link_ends::{HostKeeper, LinkEnds, PairEnds, PeerStreams};
-use run_events::Loss;
 use link_stores::{Accesses, LinkAccesses};
+use run_events::Loss;
 use run_verdicts::Verdict;
 use std::alloc::Global;
 use std::marker::Model;
 use trusted_memory::Trusted;
-use key_host::{NamedOperation, StreamOutcome};
 
 /// How many lines of hops come before those of streams between devices, among those that are keyed by messages at both
 /// ends.

@@ -215,8 +215,7 @@ module _ (q : StreamStage) (before after : ℕ) (m : InterfacesView) where
   told_link (call.Refresh line id) loss result verdict says = grind arith
 
   -- of another line
-  told_other : (c : OpCall) (begins : Bool) (result : StreamOutcome) (near : Bool)
-      → nat_lt (op_name c).line 16 ≡ near
+  told_other : (c : OpCall) (begins : Bool) (result : StreamOutcome) (near : Bool) → nat_lt (op_name c).line 16 ≡ near
       → told_by_place (if near then Near ((op_name c).line - 8) else Pair ((op_name c).line - 16)) c begins drew before
       result
       m

@@ -1,13 +1,12 @@
 -- Sends at an end of a line, as the machine has them.
 use Rattle.std.specs.Prelude.{not, Result, Ok, Err}
-use Rattle.all_links.proofs.Terms.{◌≡◌, ℕ, ◌+◌, Bool, true, false, List, [], ◌++◌, length, refl, ap, sym, ◌∙◌}
-use Rattle.all_links.proofs.Terms.{subst, arith, Option, Some, None, IsSome, slice_get, map, sum_by, if◌then◌else◌}
-use Rattle.all_links.proofs.Terms.{is_some, PortName, Plan, Verdict, MeasuredPacket}
-use Rattle.all_links.proofs.Terms.{LinkPacket, Stepped, kept_packet, step_of, Sent, PortEnd, SendStep}
-use Rattle.all_links.proofs.Terms.{send_step, sent_verdict, lengths_sent, IsSentAtPort, LinkEnds, Links, SendsAt}
-use Rattle.all_links.proofs.Terms.{state_of, IsBounded, AreLinks, links_state, EndsWith, EndsSending, Send, EndsView}
-use Rattle.all_links.proofs.Terms.{port_on, trusting_on, with_port_on, beside_in, BesidePorts}
-use Rattle.all_links.proofs.Terms.{LinkState, has_port, stepped_bytes, KeeperView}
+use Rattle.all_links.proofs.Terms.{◌≡◌, ℕ, ◌+◌, Bool, true, false, List, [], ◌++◌, length, refl, ap, sym, ◌∙◌, subst}
+use Rattle.all_links.proofs.Terms.{arith, Option, Some, None, IsSome, slice_get, map, sum_by, if◌then◌else◌, is_some}
+use Rattle.all_links.proofs.Terms.{PortName, Plan, Verdict, MeasuredPacket, LinkPacket, Stepped, kept_packet, step_of}
+use Rattle.all_links.proofs.Terms.{Sent, PortEnd, SendStep, send_step, sent_verdict, lengths_sent, IsSentAtPort}
+use Rattle.all_links.proofs.Terms.{LinkEnds, Links, SendsAt, state_of, IsBounded, AreLinks, links_state, EndsWith}
+use Rattle.all_links.proofs.Terms.{EndsSending, Send, EndsView, port_on, trusting_on, with_port_on, beside_in}
+use Rattle.all_links.proofs.Terms.{BesidePorts, LinkState, has_port, stepped_bytes, KeeperView}
 use Rattle.line_arrivals.specs.{cut_packets, end_sent_verdict, line_place}
 use Rattle.std.proofs.lemmas.Bool.{and_parts}
 use Rattle.tlp_layout.specs.Outgoing.{Outgoing, outgoing_of}

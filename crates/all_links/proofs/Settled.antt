@@ -168,8 +168,7 @@ one_cleared v s (Near k) i = refl
 one_cleared v s (Pair k) i = refl
 
 each_cleared : (es : List PortName) (v : EndsView) (i : ℕ)
-    → option_map interfaces_of (slice_get (all_cleared v es).links i)
-    ≡ option_map interfaces_of (slice_get v.links i)
+    → option_map interfaces_of (slice_get (all_cleared v es).links i) ≡ option_map interfaces_of (slice_get v.links i)
 each_cleared [] v i = refl
 each_cleared (e ∷ es) v i = each_cleared es (cleared_on v e) i ∙ one_cleared v e.side (line_place e.line) i
 
@@ -277,8 +276,7 @@ both_settle v k n y p k_is p_is j l l' at at' = by (j == p.near) (j == p.far) re
     as_near true same x = ap (λ (i : ℕ). settled_ends (peer_live u i) x) (sym (eqb-true j p.near same))
     as_near false other x = refl
 
-    as_far : (b : Bool) → far ≡ b → (x : LinkEnds)
-        → settled_if b (peer_live u p.far) x ≡ settled_if b (peer_live u j) x
+    as_far : (b : Bool) → far ≡ b → (x : LinkEnds) → settled_if b (peer_live u p.far) x ≡ settled_if b (peer_live u j) x
     as_far true same x = ap (λ (i : ℕ). settled_ends (peer_live u i) x) (sym (eqb-true j p.far same))
     as_far false other x = refl
 
@@ -353,8 +351,7 @@ module _ (old : EndsView) (k : KeeperView) (c : OpCall) (loss : Option Loss) (ou
           none-some p (sym is ∙ (ap (λ (m : ℕ). slice_get old.peers m) number ∙ p_is)))
       joined (Some p) is most = both_settle old i (i - 8) x.ends p (omega (arith, most)) is
 
-      by : (b : Bool) → nat_lt i 8 ≡ b
-          → AllFollow old (if b then u else settled_peer (slice_get old.peers (i - 8)) u)
+      by : (b : Bool) → nat_lt i 8 ≡ b → AllFollow old (if b then u else settled_peer (slice_get old.peers (i - 8)) u)
       by true low = stays (λ n p i_is p_is.
           (let less : i < 8 = grind (arith, nat_tests, low) in omega (arith, less, i_is)))
       by false late = joined (slice_get old.peers (i - 8)) refl (grind (arith, nat_tests, late))

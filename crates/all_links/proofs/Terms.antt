@@ -11,8 +11,7 @@ pub use Rattle.spec_keys.specs.History.{History}
 pub use Rattle.spec_keys.specs.Operations.{StreamStage, work_of}
 pub use Rattle.line_arrivals.specs.{OperatesAt, ResetsAt, SendsAt, both_of, statuses_of, told_by_line, drawn_on_line}
 pub use Rattle.line_arrivals.specs.{EndsView, peer_live, port_on, trusting_on, with_port_on, stream_named, AreLinks}
-pub use Rattle.line_arrivals.specs.{IsBounded, ports_in, state_of, port_in, KeeperView, LinkEnds}
-pub use Rattle.line_arrivals.specs.{InterfacesView}
+pub use Rattle.line_arrivals.specs.{IsBounded, ports_in, state_of, port_in, KeeperView, LinkEnds, InterfacesView}
 pub use Rattle.all_links.specs.Events.{operation_event}
 pub use Rattle.all_links.specs.States.{links_state}
 pub use Rattle.all_links.specs.Links.{Ends, StepEndsBy, EndsIf, EndsAs, EndsSending, EndsWith, HasNoVerdict}

@@ -120,8 +120,7 @@ pub record BesideReset (link : ℕ) (old new : Links) : Type 0 where
       → slice_get new.ends.links i ≡ Some l' → l'.device.interfaces
       ≡ settled_interfaces (secure_or_live l'.device.port (peer_live new.ends i))
       (reset_if (i == link) l.device.interfaces)
-  pub keeper : link < length old.ends.links
-      → new.keeper.interfaces ≡ reset_interface_manager link old.keeper.interfaces
+  pub keeper : link < length old.ends.links → new.keeper.interfaces ≡ reset_interface_manager link old.keeper.interfaces
   pub absent : length old.ends.links ≤ link → BesideStays old new
 
 -- ---- events on interfaces

@@ -1,9 +1,8 @@
 -- Effects of an accepted unit, one packet after another: what one packet makes, and then those behind it.
 use Rattle.std.proofs.Common.{◌≡◌, ℕ, ◌+◌, ◌==◌, Bool, true, false, List, [], ◌∷◌, ◌++◌, drop, length}
 use Rattle.std.proofs.Common.{length-append, arith, refl, ap, sym, ◌∙◌, subst}
-use Rattle.std.proofs.lemmas.List.{append-nil, append_assoc}
+use Rattle.std.proofs.lemmas.List.{append-nil, append_assoc, drop_more}
 use Rattle.std.specs.Prelude.{map, slice_get, if◌then◌else◌, Some, None, Option, Result, Ok, Err}
-use Rattle.std.proofs.lemmas.List.{drop_more}
 use Rattle.std.proofs.lemmas.Option.{get_or_from_slice_get, slice_get_within}
 use Rattle.run_verdicts.specs.declared.verdict.UnitName.{UnitName}
 use Rattle.ide_types.specs.declared.plan.Region.{Region}
@@ -34,9 +33,8 @@ use Rattle.guarded_memory.specs.{claim_effect, cause_effect, claim_of}
 use Rattle.spec_links.specs.Admission.{waiting_then}
 use Rattle.spec_links.specs.Sent.{drawn_read, reads_by}
 use Rattle.link_stores.specs.Accesses.{waiting_with, reads_after}
-use Rattle.arrival_verdicts.specs.Verdicts.{head_effect, head_grant, claimed_effect}
-use Rattle.arrival_verdicts.specs.Verdicts.{queued_by, effects_from, packet_effect, packet_write, packet_stored}
-use Rattle.arrival_verdicts.specs.Verdicts.{PacketCame, UnitCame}
+use Rattle.arrival_verdicts.specs.Verdicts.{head_effect, head_grant, claimed_effect, queued_by, effects_from}
+use Rattle.arrival_verdicts.specs.Verdicts.{packet_effect, packet_write, packet_stored, PacketCame, UnitCame}
 
 -- ---- reads that wait
 
@@ -197,8 +195,7 @@ carried_fits p o head has is =
     let read : HasTlp p (Some head) = subst (HasTlp p) is has in
     ((read_head_spells head p.head).1 read.1).fits
 
-pub packet_there : (ps : List Packet) (i : ℕ) (p : Packet) → slice_get ps i ≡ Some p
-    → drop i ps ≡ p ∷ drop (i + 1) ps
+pub packet_there : (ps : List Packet) (i : ℕ) (p : Packet) → slice_get ps i ≡ Some p → drop i ps ≡ p ∷ drop (i + 1) ps
 packet_there ps i p at =
     drop_more ps i p (slice_get_within ps i p at)
     ∙ ap (λ (x : Packet). x ∷ drop (i + 1) ps) (get_or_from_slice_get ps i p p at)

@@ -24,8 +24,7 @@ abbrev pub own_tlps : List Packet → List HopTlp
 own_tlps [] = []
 own_tlps (p ∷ ps) = packet_tlps p.prefix.sub p ++ own_tlps ps
 
-one_first : (b : Bool) (x : HopTlp) (xs : List HopTlp) → (if b then xs else x ∷ xs)
-    ≡ (if b then [] else x ∷ []) ++ xs
+one_first : (b : Bool) (x : HopTlp) (xs : List HopTlp) → (if b then xs else x ∷ xs) ≡ (if b then [] else x ∷ []) ++ xs
 one_first true x xs = refl
 one_first false x xs = refl
 

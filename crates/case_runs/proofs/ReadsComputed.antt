@@ -99,8 +99,7 @@ completed = refl
 bytes_are : sent_bytes interface_plan waiting_history answer ≡ read_completion
 bytes_are = bytes_from_both ∙ completed
 
-due_from_both : due interface_plan waiting_history answer
-    ≡ answer_first interface_plan waiting_history (host_port 0)
+due_from_both : due interface_plan waiting_history answer ≡ answer_first interface_plan waiting_history (host_port 0)
     (drop (reads_taken waiting_history 0) (waiting_read ∷ []))
     (outgoing_of (streams_of interface_plan 0) Host read_completion)
 unfolding due_on_literals

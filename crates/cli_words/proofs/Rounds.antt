@@ -85,14 +85,12 @@ pub few_script_rounds : (words : List Text) (seed count : ℕ) → command_asked
 unfolding Within Few FewIn
 few_script_rounds words seed count asks = few_asked (is_refused words) words (generate_script seed count) asks
 
-pub few_topology_rounds : (words : List Text) (seed count : ℕ) → command_asked words
-    ≡ Some (generate_topology seed count)
-    → (1 ≤ count) × (count ≤ 100000)
+pub few_topology_rounds : (words : List Text) (seed count : ℕ)
+    → command_asked words ≡ Some (generate_topology seed count) → (1 ≤ count) × (count ≤ 100000)
 unfolding Within Few FewIn
 few_topology_rounds words seed count asks = few_asked (is_refused words) words (generate_topology seed count) asks
 
-pub named_event : (words : List Text) (topology script : Text) (n : ℕ) → command_asked words
-    ≡ Some (why topology script n)
-    → (1 ≤ n) × (n ≤ 67108864)
+pub named_event : (words : List Text) (topology script : Text) (n : ℕ)
+    → command_asked words ≡ Some (why topology script n) → (1 ≤ n) × (n ≤ 67108864)
 unfolding Within FewIn
 named_event words topology script n asks = few_asked (is_refused words) words (why topology script n) asks

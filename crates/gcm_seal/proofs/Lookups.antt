@@ -306,9 +306,8 @@ has k n = n / 2 ^ k % 2 == 1
 abbrev tells : List ℕ → ℕ → ℕ → Bool
 tells unset k n = slice_index unset n == cond (has k n) 0 128
 
-lane_of : (v unset : List ℕ) (j k n : ℕ) → j < 16 → n < 16 → length unset ≡ 16
-    → all_below (tells unset k) 16 ≡ true → slice_index (map (entry_picked v j) unset) n
-    ≡ term (has k n) (slice_index v j)
+lane_of : (v unset : List ℕ) (j k n : ℕ) → j < 16 → n < 16 → length unset ≡ 16 → all_below (tells unset k) 16 ≡ true
+    → slice_index (map (entry_picked v j) unset) n ≡ term (has k n) (slice_index v j)
 lane_of v unset j k n lj ln long test =
     get_or-map (entry_picked v j) unset n 0 0 (omega (arith, long))
     ∙ ap (entry_picked v j) (eqb-true (slice_index unset n) (cond (has k n) 0 128)

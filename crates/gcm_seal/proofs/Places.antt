@@ -55,8 +55,7 @@ bits-low u =
     λ i. (at3 i == 1) ∷ (at2 i == 1) ∷ (at1 i == 1) ∷ (at0 i == 1) ∷ []
 
 -- a polynomial of four terms
-pub act-four : (a b c d : Bool) (p : ℕ) → act (a ∷ b ∷ c ∷ d ∷ []) p
-    ≡ bit_xor (term a p) (bit_xor (term b (step_x p))
+pub act-four : (a b c d : Bool) (p : ℕ) → act (a ∷ b ∷ c ∷ d ∷ []) p ≡ bit_xor (term a p) (bit_xor (term b (step_x p))
     (bit_xor (term c (step_x (step_x p))) (term d (step_x (step_x (step_x p))))))
 act-four a b c d p =
     let q : ℕ = step_x p in

@@ -67,9 +67,8 @@ get_or-set s i k v less = elim (cases_Bool (eqb i k)) [
 
 byte_put : (i b offset j c a v : ℕ) (old : List ℕ) (es es' : List (PageName × List ℕ)) (t : Bool)
     → is_page_name (name_at i b offset) (name_at j c a) ≡ t → bytes_of_page es (name_at i b offset) ≡ old
-    → offset % 4096 < length old
-    → PutsPage (name_at i b offset) (set old (offset % 4096) v) es es' → byte_in_pages es' j c a
-    ≡ cond (t && eqb (offset % 4096) (a % 4096)) v (byte_in_pages es j c a)
+    → offset % 4096 < length old → PutsPage (name_at i b offset) (set old (offset % 4096) v) es es'
+    → byte_in_pages es' j c a ≡ cond (t && eqb (offset % 4096) (a % 4096)) v (byte_in_pages es j c a)
 byte_put i b offset j c a v old es es' true e was less puts =
     let here = bytes_put (name_at i b offset) (name_at j c a) true (set old (offset % 4096) v) es es' puts e in
     let before : bytes_of_page es (name_at j c a) ≡ old =
@@ -140,9 +139,8 @@ left_or_zero : (t : Bool) (o : Option (List ℕ)) (k : ℕ) → get_or (unwrap_o
 left_or_zero true o k = refl
 left_or_zero false o k = refl
 
-pub byte_left : (taken : PageName → Bool) (es es' : List (PageName × List ℕ))
-    → es' ≡ filter (λ e. not (taken e.0)) es → (j c a : ℕ)
-    → byte_in_pages es' j c a ≡ cond (taken (name_at j c a)) 0 (byte_in_pages es j c a)
+pub byte_left : (taken : PageName → Bool) (es es' : List (PageName × List ℕ)) → es' ≡ filter (λ e. not (taken e.0)) es
+    → (j c a : ℕ) → byte_in_pages es' j c a ≡ cond (taken (name_at j c a)) 0 (byte_in_pages es j c a)
 byte_left taken es es' is j c a =
     let n = name_at j c a in
     let alike : (k : PageName) → is_page_name n k ≡ true → not (taken k) ≡ not (taken n) =

@@ -34,15 +34,13 @@ nothing_read call a is same none = subst
     by_told None = tt
     by_told (Some contents) = (0, (omega (arith, given), omega (arith, given)), none contents _)
 
-    by_outcome : (r : Result End Fault)
-        → IfOk r (λ e. ReadAsFar (AskedNoFurther a) call.shelf_before call.shelf_after)
+    by_outcome : (r : Result End Fault) → IfOk r (λ e. ReadAsFar (AskedNoFurther a) call.shelf_before call.shelf_after)
     by_outcome (Ok e) = by_told call.shelf_before.contents
     by_outcome (Err e) = tt
 
 -- ---- the names that are asked for
 
-pub asked_names : (words : Option CommandRequest) (a : CommandRequest) (before now : Option (List Text)) → words
-    ≡ Some a
-    → AsksOnly (Names (Some a)) before now → AsksOnly (Names words) before now
+pub asked_names : (words : Option CommandRequest) (a : CommandRequest) (before now : Option (List Text))
+    → words ≡ Some a → AsksOnly (Names (Some a)) before now → AsksOnly (Names words) before now
 asked_names words a before now is asks = subst (λ (o : Option CommandRequest). AsksOnly (Names o) before now) (sym is)
     asks

@@ -101,9 +101,8 @@ so_many : (plan : Plan) (h : History) (events : List Event) → length (history_
 so_many plan h [] = omega arith
 so_many plan h (e ∷ events) = omega (arith, so_many plan (history_with_event plan h e) events)
 
-few_generated : (seed count : ℕ) → count ≤ 100000 → (first later : List Event) → first ++ later
-    ≡ generated_events seed count
-    → length (history_on the_plan [] first) ≤ 4294967296
+few_generated : (seed count : ℕ) → count ≤ 100000 → (first later : List Event)
+    → first ++ later ≡ generated_events seed count → length (history_on the_plan [] first) ≤ 4294967296
 few_generated seed count few first later same = omega
     (arith, so_many the_plan [] first, length-append first later, ap length same, few_events seed count, few)
 

@@ -135,11 +135,9 @@ pub record IsEventAt (plan : Plan) (script : Script) (n : ℕ) (h : History) (e 
 -- The sink gained the text of that event, and the line that is refused, if one is; or, if a script that was read to its
 -- end has fewer events, the line that says so.
 pub record ToldWhy (plan : Plan) (script : Script) (n : ℕ) (held : Text) (call : CallSeen) (e : End) : Type 0 where
-  pub told : (h : History) (x : Event) → IsEventAt plan script n h x
-      → (e ≡ run_end script.ending)
+  pub told : (h : History) (x : Event) → IsEventAt plan script n h x → (e ≡ run_end script.ending)
       × (call.sink_after.held ≡ Some (held ++ (event_told plan h x ++ left_line script.ending)))
-  pub none : length (events_on plan script) < n → script.ending ≡ AtEnd
-      → (e ≡ end.NoEvent)
+  pub none : length (events_on plan script) < n → script.ending ≡ AtEnd → (e ≡ end.NoEvent)
       × (call.sink_after.held ≡ Some (held ++ no_event_line n (length (events_on plan script))))
 
 -- if a call that is asked why an event got its verdict comes to an end of its own

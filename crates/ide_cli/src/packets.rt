@@ -12,8 +12,8 @@ ghost use Rattle.ide_cli.specs.SoFar.{shown_so_far};
 ghost use Rattle.ide_runs.specs.SoFar.{WroteBy};
 
 use cli_files::{Shelf, Sink};
-use ide_types::{Bytes, OutOfMemory};
 use file_runs::{End, Fault, LineWork, parse_packet, run_file, show};
+use ide_types::{Bytes, OutOfMemory};
 use run_events::LineError;
 use std::alloc::Global;
 use std::marker::Model;

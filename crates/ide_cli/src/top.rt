@@ -35,9 +35,9 @@ use crate::status::Status;
 use crate::texts::{generate_script, generate_topology};
 use cli_files::{Shelf, Sink};
 use cli_words::{Request, WordsError, read_words};
+use file_runs::{End, Fault, finish};
 use ide_runs::{check_topology, generate, judge, migrate_topology, run_files, why};
 use law_text::lines_tell;
-use file_runs::{End, Fault, finish};
 use std::alloc::Global;
 
 // Does what the words ask for.

@@ -71,8 +71,7 @@ module _ (p : Inside) (kept : Keeps p) (id place : ℕ) (x : StreamEnd) (at : pl
       kept-with y _ _ (Some place) after (none-taken x.state packet (end_outcome x packet) there.of_plan.receivers)
       lends
 
-  pub kept-stream_after_call : (y : StreamEnd) (d : Direction) (u : SubKind) (c : KeyCall)
-      → y ≡ called_end x d u c
+  pub kept-stream_after_call : (y : StreamEnd) (d : Direction) (u : SubKind) (c : KeyCall) → y ≡ called_end x d u c
       → IsKept p.name.side p.limit p.plans (slice_set p.streams.items place y) None
   kept-stream_after_call y d u c after =
       kept-with y _ [] None after (none-stream_after_call _ u c x.state there.of_plan.receivers) (lends-none _)
@@ -85,9 +84,8 @@ lends-there [] i y lt = absurd (omega arith)
 lends-there (x ∷ xs) zero y lt = refl
 lends-there (x ∷ xs) (suc i) y lt = lends-there xs i y (omega arith)
 
-same-lent : (xs : List StreamEnd) (i k : ℕ) (x y : StreamEnd) → i < length xs → x ≡ get_or xs i x → y.delivered
-    ≡ x.delivered
-    → packets_lent (slice_get (slice_set xs i y) k) ≡ packets_lent (slice_get xs k)
+same-lent : (xs : List StreamEnd) (i k : ℕ) (x y : StreamEnd) → i < length xs → x ≡ get_or xs i x
+    → y.delivered ≡ x.delivered → packets_lent (slice_get (slice_set xs i y) k) ≡ packets_lent (slice_get xs k)
 same-lent [] i k x y lt is same = absurd (omega arith)
 same-lent (z ∷ xs) zero zero x y lt is same = same ∙ ap (λ (w : StreamEnd). w.delivered) is
 same-lent (z ∷ xs) zero (suc k) x y lt is same = refl

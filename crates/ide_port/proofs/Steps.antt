@@ -60,8 +60,7 @@ module _ (p : Inside) (e : PortEnd) (view : now p ≡ e) (kept : Keeps p) (id pl
     (at : plan_place p.plans id ≡ Some place)
     (is : x ≡ get_or p.streams.items place x) where
   -- what is read of it
-  pub reads : {A : Type 0} (read : Option Found → A)
-      → read (found_stream e.plans e.states id) ≡ read
+  pub reads : {A : Type 0} (read : Option Found → A) → read (found_stream e.plans e.states id) ≡ read
       (Some (record { plan = (there p kept id place x at is).plan; state = x.state }))
   reads read = rw (← view) (ap read (there p kept id place x at is).is_found)
 
@@ -145,16 +144,14 @@ lane_in three o s place u e = grind arith
 none_in : (three : Bool) (o : Option ℕ) (s : SubKind) → lane_by three o s ≡ None → three ≡ true → o ≡ None
 none_in three o s e t = grind arith
 
-pub lane-some : (plans : List StreamPlan) (id sub place : ℕ) (u : SubKind) → place_and_sub plans id sub
-    ≡ Some (place, u)
-    → IsLane plans id sub place u
+pub lane-some : (plans : List StreamPlan) (id sub place : ℕ) (u : SubKind)
+    → place_and_sub plans id sub ≡ Some (place, u) → IsLane plans id sub place u
 lane-some plans id sub place u e =
     let l = lane_in (nat_lt sub 3) (plan_place plans id) (sub_from sub) place u e in record
     { place_is = l.0; sub_is = l.1; three = l.2 }
 
-pub lane-inside : (p : Inside) (id sub place : ℕ) (u : SubKind) → Keeps p → place_and_sub p.plans id sub
-    ≡ Some (place, u)
-    → place < length p.streams.items
+pub lane-inside : (p : Inside) (id sub place : ℕ) (u : SubKind) → Keeps p
+    → place_and_sub p.plans id sub ≡ Some (place, u) → place < length p.streams.items
 lane-inside p id sub place u kept at = inside p id place kept (lane-some p.plans id sub place u at).place_is
 
 -- the slots that key management sees of the place, and what the call makes of the port

@@ -13,9 +13,8 @@ state_of x = x.state
 
 -- ---- found among states
 
-pub found_stream-id : (ss : List StreamPlan) (xs : List StreamState) (id : ℕ) (f : Found) → found_stream ss xs id
-    ≡ Some f → f.plan.id
-    ≡ id
+pub found_stream-id : (ss : List StreamPlan) (xs : List StreamState) (id : ℕ) (f : Found)
+    → found_stream ss xs id ≡ Some f → f.plan.id ≡ id
 found_stream-id [] xs id f e = absurd cc
 found_stream-id (s ∷ ss) [] id f e = absurd cc
 found_stream-id (s ∷ ss) (x ∷ xs) id f e = grind (arith, nat_tests, found_stream-id ss xs id f)

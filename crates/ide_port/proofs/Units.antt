@@ -64,8 +64,7 @@ sealed-more : (m n : ℕ) (e : StreamEnd) (head payload : List ℕ) (s : Sending
     → UnitsAtMost m e.state → UnitsAtMost n (end_sent e head payload s number).state
 sealed-more m n e head payload s number le h = by_refusal (sending_refusal e s)
   where
-    by_refusal : (o : Option Verdict)
-        → UnitsAtMost n (unless_verdict o e.state
+    by_refusal : (o : Option Verdict) → UnitsAtMost n (unless_verdict o e.state
         (record e.state { tx = (packets_and_senders e head payload s number).1 }))
     by_refusal (Some verdict) = units-more m n e.state (omega (arith, le)) h
     by_refusal None = (

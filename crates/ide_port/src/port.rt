@@ -16,6 +16,7 @@ use crate::trusting::Trusting;
 use crate::{SendBuffer, Stream};
 use ide_prefix::{Cut, PacketView, cut};
 use ide_types::{Items, KeySet, OutOfMemory, PortName, Side, StreamPlan, StreamStatus, SubKind};
+use key_host::HostPort;
 use key_messages::{Place, ProgramFault, SlotPort};
 use key_slots::{Key, OnlyLive};
 use run_verdicts::UnitName;
@@ -23,7 +24,6 @@ use std::alloc::Global;
 use std::marker::Model;
 use sub_stream::{Delivered, StreamFacts, Taken};
 use tlp_layout::{ChosenStream, HeadView, TlpView, choose, read};
-use key_host::HostPort;
 
 /// A port at an end of a line with the line's streams (PCI Express Base 6.0 section 6.33, in this profile).
 #[derive(Drop)]

@@ -150,9 +150,8 @@ cut_plain s e = rw e refl
 abbrev value_in : List ℕ → CutValue
 value_in s = IdePacket (packet_read s)
 
-cut_ide : (s : List ℕ) → is_plain s ≡ false → cut_of s
-    ≡ whole_reading wants_packet packet_may_follow value_in packet_fault_at
-    s
+cut_ide : (s : List ℕ) → is_plain s ≡ false
+    → cut_of s ≡ whole_reading wants_packet packet_may_follow value_in packet_fault_at s
 unfolding cut_of
 cut_ide s e = rw e refl
 

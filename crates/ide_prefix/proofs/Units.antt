@@ -148,9 +148,8 @@ packet_is : (p q : Packet) → p.prefix ≡ q.prefix → p.head ≡ q.head → p
 packet_is p q e1 e2 e3 = cc
 
 same_packets : (ps qs : List Packet) → AllByRecursion FitsPacket ps → AllByRecursion FitsPacket qs
-    → authenticated_bytes ps
-    ≡ authenticated_bytes qs → encrypted_bytes ps ≡ encrypted_bytes qs → map packet_without_tag ps
-    ≡ map packet_without_tag qs
+    → authenticated_bytes ps ≡ authenticated_bytes qs → encrypted_bytes ps ≡ encrypted_bytes qs
+    → map packet_without_tag ps ≡ map packet_without_tag qs
 same_packets [] [] fp fq a c = refl
 same_packets [] (q ∷ qs) fp fq a c = absurd cc
 same_packets (p ∷ ps) [] fp fq a c = absurd cc

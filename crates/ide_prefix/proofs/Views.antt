@@ -76,9 +76,8 @@ laid-added aggregation ahead x y head body es n m xs ys xs' ys' p less short_hea
 -- ---- one packet
 
 pub packet_at : (aggregation ahead : ℕ) (x y : List ℕ) (es : List PacketEnds) (i : ℕ) (s t : PacketEnds) (v : Collected)
-    → view aggregation ahead x y es ≡ v
-    → i < length es → s ≡ get_or (record { head = ahead; body = 0 } ∷ es) i s → t ≡ get_or es i t
-    → slice_get v.packets i ≡ Some (slice_range x s.head t.head, slice_range y s.body t.body)
+    → view aggregation ahead x y es ≡ v → i < length es → s ≡ get_or (record { head = ahead; body = 0 } ∷ es) i s
+    → t ≡ get_or es i t → slice_get v.packets i ≡ Some (slice_range x s.head t.head, slice_range y s.body t.body)
 packet_at aggregation ahead x y es i s t v is less es' et =
     rw (← is) (subst (λ (u : PacketEnds). slice_get (parts x y ahead 0 es) i
     ≡ Some (slice_range x u.head t.head, slice_range y u.body t.body)) (sym es')
@@ -92,9 +91,8 @@ packet_at aggregation ahead x y es i s t v is less es' et =
     (parts_at x y ahead 0 es i s t less)))
 
 pub lies_within : (ahead : ℕ) (x y : List ℕ) (es : List PacketEnds) (i : ℕ) (s t : PacketEnds)
-    → Rises ahead 0 es (length x) (length y)
-    → i < length es → s ≡ get_or (record { head = ahead; body = 0 } ∷ es) i s → t ≡ get_or es i t
-    → LieWithin s t (length x) (length y)
+    → Rises ahead 0 es (length x) (length y) → i < length es → s ≡ get_or (record { head = ahead; body = 0 } ∷ es) i s
+    → t ≡ get_or es i t → LieWithin s t (length x) (length y)
 lies_within ahead x y es i s t r less es' et =
     subst (λ (u : PacketEnds). LieWithin u t (length x) (length y)) (sym es')
     (subst (λ (w : PacketEnds). LieWithin (get_or (record { head = ahead; body = 0 } ∷ es) i s) w (length x) (length y))
@@ -136,9 +134,8 @@ nothing_left ahead x y [] none no_packets r =
     }
 nothing_left ahead x y (e ∷ es) none no_packets r = absurd cc
 
-pub emptied : (aggregation mode' ahead : ℕ) (x y : List ℕ) (es : List PacketEnds) → view aggregation ahead x y es
-    ≡ empty_unit mode'
-    → Rises ahead 0 es (length x) (length y) → IsEmpty ahead x y es
+pub emptied : (aggregation mode' ahead : ℕ) (x y : List ℕ) (es : List PacketEnds)
+    → view aggregation ahead x y es ≡ empty_unit mode' → Rises ahead 0 es (length x) (length y) → IsEmpty ahead x y es
 emptied aggregation mode' ahead x y es is r =
     nothing_left ahead x y es (ap (λ (u : Collected). u.ahead) is) (ap (λ (u : Collected). u.packets) is) r
 
@@ -158,10 +155,8 @@ laid-ahead aggregation ahead x y bytes es xs ys xs' p e long wider =
     })
 
 pub view-ahead : (aggregation ahead : ℕ) (x y bytes : List ℕ) (es : List PacketEnds) (old : Collected)
-    → IsEmpty ahead x y es → length bytes ≡ 8
-    → view aggregation ahead x y es ≡ empty_unit old.aggregation → old.packets ≡ []
-    → view aggregation 8 (x ++ bytes) y es
-    ≡ record old { ahead = bytes }
+    → IsEmpty ahead x y es → length bytes ≡ 8 → view aggregation ahead x y es ≡ empty_unit old.aggregation
+    → old.packets ≡ [] → view aggregation 8 (x ++ bytes) y es ≡ record old { ahead = bytes }
 view-ahead aggregation ahead x y bytes es old e long is none =
     let whole : take 8 bytes ≡ bytes = take_all 8 bytes (omega (arith, long)) in
     rw (e.ends, e.heads) (λ i. record

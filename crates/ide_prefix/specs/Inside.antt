@@ -53,6 +53,5 @@ pub record SizesAre (s : List ℕ) (tlp : Option HeadView) (size wanted : ℕ) :
   pub within : 4 + size ≤ length s
   pub wanted_is : wanted ≡ (if begins_sync (prefix_read s).sub (slice_index s 4) then 0 else rest_size (drop 4 s))
   pub small : wanted ≤ 4096
-  pub zeros : begins_sync (prefix_read s).sub (slice_index s 4) ≡ true
-      → (i : ℕ) → 5 ≤ i → i < 16 → slice_index s i ≡ 0
+  pub zeros : begins_sync (prefix_read s).sub (slice_index s 4) ≡ true → (i : ℕ) → 5 ≤ i → i < 16 → slice_index s i ≡ 0
   pub in_clear : IsInClear s tlp

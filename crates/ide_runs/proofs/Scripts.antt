@@ -85,9 +85,8 @@ verdict_comes past t now e old new v follows step more =
     (due_is ∙ ap (λ (p : Plan). due p past.history e) follows.plan_is))
 
 -- the line of that verdict
-pub event_comes : (past : ScriptPast) (e : Event) (r : RunningView) (v : Verdict) (text : Text)
-    → VerdictCame past e r v → text ≡ line_of r.world.steps (verdict_by_ports r.world.plan.peers v)
-    → EventCame (ran_event past e) r text
+pub event_comes : (past : ScriptPast) (e : Event) (r : RunningView) (v : Verdict) (text : Text) → VerdictCame past e r v
+    → text ≡ line_of r.world.steps (verdict_by_ports r.world.plan.peers v) → EventCame (ran_event past e) r text
 event_comes past e r v text came line =
     let number : r.world.steps ≡ length past.history + 1 = omega (arith, came.follows.steps_are) in
     record {

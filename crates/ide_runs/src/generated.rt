@@ -14,9 +14,9 @@ ghost use Rattle.ide_runs.specs.Works.{Follows, IsEarly};
 
 use crate::script::Running;
 use cli_files::Sink;
+use file_runs::{End, Fault, finish};
 use ide_types::OutOfMemory;
 use ide_why::World;
-use file_runs::{End, Fault, finish};
 use run_verdicts::totals_line;
 use script_events::{Generator, generated_are_allowed, topology};
 use std::alloc::Global;

@@ -22,9 +22,9 @@ ghost use Rattle.law_text.specs.Runs.{is_blocked, sealed_count, accepted_in, fai
 
 use crate::topologies::{Loaded, load, refuse};
 use cli_files::{Shelf, Sink};
+use file_runs::{End, Fault, LineWork, run_file};
 use ide_types::{Bytes, OutOfMemory, Plan, ValidPlan};
 use ide_why::World;
-use file_runs::{End, Fault, LineWork, run_file};
 use run_events::{Event, LineError, ScriptEvent, lines_spell, parse_line};
 use run_verdicts::{Effect, Totals, Verdict, line, shown, totals_line};
 use script_events::{event_of, events_are_allowed};

@@ -12,8 +12,8 @@ ghost use Rattle.ide_runs.specs.Topologies.{check_due, loaded_topology, plan_ref
 ghost use Rattle.ide_runs.specs.Topologies.{report as report_of, HasFitting};
 
 use cli_files::{Shelf, Sink};
-use ide_types::{OutOfMemory, Plan};
 use file_runs::{End, Fault, Unread, finish, read_front};
+use ide_types::{OutOfMemory, Plan};
 use std::alloc::Global;
 use topology::{PlanError, PlanFault};
 

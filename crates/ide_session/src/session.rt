@@ -3,9 +3,9 @@
 ghost use Rattle.std.specs.Prelude.{◌≡◌, ◌<◌, ◌+◌, ◌^◌, ◌↔◌, IfOk, IfSome, IsTrue, IsSome, Some, []};
 ghost use Rattle.ide_runs.specs.Works.{IsEarly, MayAsk};
 
+use file_runs::LineWork;
 use ide_runs::{ScriptWork, World, asked};
 use ide_types::{Bytes, OutOfMemory};
-use file_runs::LineWork;
 use run_events::{LineError, LineFault, ScriptEvent};
 use std::alloc::Global;
 

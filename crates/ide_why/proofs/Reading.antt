@@ -48,8 +48,7 @@ module _ (plan : Plan) (s : WholeLinks) (links : AreLinks plan s.links.ends s.li
 
   -- ---- operations
 
-  pub stage_is : (line stream : ℕ)
-      → op_named (named_stream s.links.keeper.keys.manager line stream)
+  pub stage_is : (line stream : ℕ) → op_named (named_stream s.links.keeper.keys.manager line stream)
       ≡ find_op plan (state_of_whole plan s) line stream
   stage_is line stream =
       sym (op_is plan s.links.ends s.links.keeper.keys s.links.packets.packets line stream links)
@@ -102,8 +101,7 @@ pub face_made : (s : WholeLinks) (number link place state : ℕ) (l : LinkEnds) 
     → interface_named s.links.keeper.interfaces s.links.ends.links number ≡ Some (link, place)
     → slice_get s.links.ends.links link ≡ Some l
     → IfSome (slice_get l.device.interfaces.interfaces place) (λ (t : Tdi). state ≡ state_code t.state)
-    → IfSome (slice_get s.links.keeper.interfaces.interfaces number)
-    (λ (i : HostTdi). facts ≡ interface_facts i)
+    → IfSome (slice_get s.links.keeper.interfaces.interfaces number) (λ (i : HostTdi). facts ≡ interface_facts i)
     → Some (record { number = number; state = state; manager = facts }) ≡ face_read s number
 face_made s number link place state l facts is there state_is facts_are =
     let n = named_face s number link place is in

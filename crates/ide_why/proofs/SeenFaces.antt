@@ -136,8 +136,7 @@ module _ (plan : Plan) (s : WholeLinks) (links : AreLinks plan s.links.ends s.li
           (subst (λ f. AreFacesSeen stood.whole.draw (tdi_read s) (Some (x.0, p.face)) f) (sym (face_there i x.0 p x.1))
           (placed_seen i x.0 p x.1))
 
-      nowhere : length (sites plan) ≤ i
-          → AreFacesSeen stood.whole.draw (tdi_read s)
+      nowhere : length (sites plan) ≤ i → AreFacesSeen stood.whole.draw (tdi_read s)
           (find_face (λ x. x.number == i) (sites plan) stood.whole.faces.list)
           (face_read s i)
       nowhere le =
@@ -184,8 +183,7 @@ module _ (plan : Plan) (s : WholeLinks) (links : AreLinks plan s.links.ends s.li
       (eq-eqb p.interface.requester requester (p.keeps.managed.laid_out.requester ∙ mine.1)))
       (λ k y lt there. ahead k y lt there (cases_Bool (is_requester link requester y)))
     where
-      ahead : (k : ℕ) (y : HostTdi) → k < place
-          → slice_get s.links.keeper.interfaces.interfaces k ≡ Some y
+      ahead : (k : ℕ) (y : HostTdi) → k < place → slice_get s.links.keeper.interfaces.interfaces k ≡ Some y
           → (is_requester link requester y ≡ true) ⊎ (is_requester link requester y ≡ false)
           → is_requester link requester y ≡ false
       ahead k y lt there cases = ⊎_elim
@@ -270,8 +268,7 @@ module _ (plan : Plan) (s : WholeLinks) (links : AreLinks plan s.links.ends s.li
           (subst (λ f. AreFacesSeen stood.whole.draw (tdi_read s) None f)
           (sym (ap (option_and_then (face_read s)) (reader_unknown link requester fails))) tt)
 
-  pub known : (link requester : ℕ)
-      → known_read (requester_read s link requester) ≡ known_facts
+  pub known : (link requester : ℕ) → known_read (requester_read s link requester) ≡ known_facts
       (with_requester plan stood.whole.faces link requester)
   known link requester = known_is stood.whole.draw (tdi_read s) (with_requester plan stood.whole.faces link requester)
       (requester_read s link requester) (requester_read_is link requester)

@@ -54,8 +54,7 @@ sets_are : (p : Place) (closed : Bool) (x : StreamState)
     → lane_sets p (stream_facts closed x) ≡ set_facts (slots_at p.sends p.sub x)
 sets_are p closed x = by p.sends p.sub
   where
-    by : (sends : Bool) (u : SubKind)
-        → (if sends then (lane_seen (stream_facts closed x) u).sender.sets
+    by : (sends : Bool) (u : SubKind) → (if sends then (lane_seen (stream_facts closed x) u).sender.sets
         else (lane_seen (stream_facts closed x) u).receiver.sets) ≡ set_facts (slots_at sends u x)
     by true Pr = refl
     by true Npr = refl

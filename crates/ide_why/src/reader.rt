@@ -8,9 +8,9 @@ ghost use Rattle.world.specs.{IsWorld, links_state};
 ghost use Rattle.ide_why.specs.Reading.{face_read, owner_face, requester_read, stream_read};
 
 use ide_types::{PortName, ValidPlan};
+use key_host::StageFacts;
 use sub_stream::StreamFacts;
 use tlp_layout::{HeadView, owner};
-use key_host::StageFacts;
 use why_facts::FaceSeen;
 use world::WholeLinks;
 

@@ -13,8 +13,7 @@ use Rattle.interface_ends.specs.Replies.{DeviceTdis, next_nonce, interface_call,
 use Rattle.interface_ends.specs.Replies.{takes_nonce, used_after, interfaces_after_call}
 
 -- a lock that is accepted had a nonce
-given_some : (tdi : Tdi) (flags offset : ℕ) (secure : Bool) → is_ok (lock_answer tdi flags offset secure None)
-    ≡ false
+given_some : (tdi : Tdi) (flags offset : ℕ) (secure : Bool) → is_ok (lock_answer tdi flags offset secure None) ≡ false
 given_some tdi flags offset secure = grind arith
 
 pub taken_some : (tdi : Tdi) (request : RequestView) (said : StreamSaid) (drawn : Option (List ℕ))

@@ -28,17 +28,15 @@ use Rattle.interface_ends.specs.Laws.{ErrorsChangeNothing}
 
 -- ---- the interface that is meant
 
-at_place : (xs : List Tdi) (p : ℕ) (t : Option Tdi) (n : NamedTdi) → slice_get xs p ≡ t → named_interface_if_there p t
-    ≡ Some n
-    → slice_get xs n.place ≡ Some n.tdi
+at_place : (xs : List Tdi) (p : ℕ) (t : Option Tdi) (n : NamedTdi) → slice_get xs p ≡ t
+    → named_interface_if_there p t ≡ Some n → slice_get xs n.place ≡ Some n.tdi
 at_place xs p None n g e = absurd cc
 at_place xs p (Some t) n g e =
     let same : (let k : NamedTdi = record { place = p; tdi = t } in k) ≡ n = cc in
     subst (λ (k : NamedTdi). slice_get xs k.place ≡ Some k.tdi) same g
 
 pub in_list : (xs : List Tdi) (place : Option ℕ) (n : NamedTdi) → named_interface_in xs place ≡ Some n
-    → slice_get xs n.place
-    ≡ Some n.tdi
+    → slice_get xs n.place ≡ Some n.tdi
 in_list xs None n e = absurd cc
 in_list xs (Some p) n e = at_place xs p (slice_get xs p) n refl e
 

@@ -35,15 +35,13 @@ asked : RequestsRead → (r : RequestView) → FitsRequest r → request_checked
 asked reads r fits = rw
     (lt-false (length (request_spelling r)) 17 (long (request_type r) (request_function r) _), reads r fits) refl
 
-device : (d : DeviceTdis) (n : NamedTdi) (r : RequestView) (bytes : List ℕ) (said : StreamSaid) → request_checked bytes
-    ≡ Ok r
-    → named_interface d (request_function r) ≡ Some n
+device : (d : DeviceTdis) (n : NamedTdi) (r : RequestView) (bytes : List ℕ) (said : StreamSaid)
+    → request_checked bytes ≡ Ok r → named_interface d (request_function r) ≡ Some n
     → interfaces_after_answer d bytes said ≡ interfaces_after_call d n r said
 device d n r bytes said is found = ap (interfaces_by d said) is ∙ ap (interfaces_asked_by d r said) found
 
-replied : (d : DeviceTdis) (n : NamedTdi) (r : RequestView) (bytes : List ℕ) (said : StreamSaid) → request_checked bytes
-    ≡ Ok r
-    → named_interface d (request_function r) ≡ Some n
+replied : (d : DeviceTdis) (n : NamedTdi) (r : RequestView) (bytes : List ℕ) (said : StreamSaid)
+    → request_checked bytes ≡ Ok r → named_interface d (request_function r) ≡ Some n
     → tdi_answer d bytes said ≡ interface_reply n.tdi r said (next_nonce d)
 replied d n r bytes said is found = ap (interface_reply_from d said (function_or_none bytes)) is ∙ ap
     (named_reply d r said)

@@ -26,8 +26,7 @@ use Rattle.interface_ends.proofs.Errors.{in_list}
 -- ---- a device that is asked what changes nothing
 
 pub same_set : (d : DeviceTdis) (f : ℕ) (n : NamedTdi) → named_interface d f ≡ Some n
-    → slice_set d.interfaces n.place n.tdi
-    ≡ d.interfaces
+    → slice_set d.interfaces n.place n.tdi ≡ d.interfaces
 same_set d f n is = set_read d.interfaces n.place n.tdi (in_list d.interfaces (interface_place d f) n is)
 
 -- ---- an exchange

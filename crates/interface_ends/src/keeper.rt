@@ -13,10 +13,10 @@ ghost use Rattle.interface_ends.specs.Keepers.{IsInterfaceExchanged, Ended, mana
 use crate::{DeviceInterfaces, StreamSaid, TDISP_REPLY_ROOM};
 use ide_types::{Items, LinkPlan, OutOfMemory, StreamStatus};
 use interface_host::{InterfaceOperation, InterfaceOutcome, Interfaces};
+use key_host::ExchangeReply;
 use run_events::{Loss, Lost};
 use std::alloc::Global;
 use std::marker::Model;
-use key_host::ExchangeReply;
 
 /// The room that a request needs, in bytes.
 const REQUEST_ROOM: usize = 49;

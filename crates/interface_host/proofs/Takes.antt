@@ -27,9 +27,8 @@ asked_in xs asking a i asked is some = rw asked
     (at_place a xs a.place i is (subst (λ x. IsSome (current_interface_in xs x)) asked some))
 
 -- the exchange that is asked, by what is read of the fields
-pub asked_now : (m : InterfaceManagerView) (a : Asking) (i : HostTdi) → m.asking ≡ Some a → i
-    ≡ get_or m.interfaces a.place i
-    → IsSome (current_interface m) → current_interface m ≡ Some (asked_as a i)
+pub asked_now : (m : InterfaceManagerView) (a : Asking) (i : HostTdi) → m.asking ≡ Some a
+    → i ≡ get_or m.interfaces a.place i → IsSome (current_interface m) → current_interface m ≡ Some (asked_as a i)
 asked_now m a i asked is some = asked_in m.interfaces m.asking a i asked is some
 
 pub outcome_now : (m : InterfaceManagerView) (a : Asking) (i new : HostTdi) (carried : ExchangeReply)

@@ -16,10 +16,10 @@ use crate::operation::{InterfaceOperation, InterfaceOutcome, InterfaceRefusal};
 use crate::portions::Portions;
 use crate::step::{Step, first_step};
 use ide_types::{Binding, InterfacePlan, Items, LinkPlan, OutOfMemory, StreamStatus, View};
+use key_host::ExchangeReply;
 use std::alloc::Global;
 use std::marker::Model;
 use tdisp_codec::request_write;
-use key_host::ExchangeReply;
 
 /// The exchange that is to be asked and taken: of the interface at this place; so many draws were made as its operation
 /// began.

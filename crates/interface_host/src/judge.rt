@@ -6,8 +6,8 @@ ghost use Rattle.interface_host.specs.Judging.{answer_shown, if_same, error_judg
 ghost use Rattle.interface_host.specs.Judging.{step_judged, interface_reply_judged, interface_judged, HasRoom};
 
 use crate::step::Step;
-use tdisp_codec::{ReplyView, reply_read};
 use key_host::ExchangeReply;
+use tdisp_codec::{ReplyView, reply_read};
 
 /// What was carried in answer to a request: the expected reply with its value, a refusal with its code, nothing at all,
 /// or anything else (this profile).

@@ -89,9 +89,8 @@ lock_is_entered tdi LinkReset lock nonce e = cc
 
 -- ---- RUN
 
-locked_run : (tdi : Tdi) (lock new : Lock) (answer : Result (List ℕ) ℕ) → (interface_after_lock tdi new answer).state
-    ≡ Run lock
-    → tdi.state ≡ Run lock
+locked_run : (tdi : Tdi) (lock new : Lock) (answer : Result (List ℕ) ℕ)
+    → (interface_after_lock tdi new answer).state ≡ Run lock → tdi.state ≡ Run lock
 locked_run tdi lock new answer e = grind (arith, nat_tests)
 
 runs : (lock held : Lock) (nonce asked : List ℕ) (b : Bool) → bytes_eq asked nonce ≡ b

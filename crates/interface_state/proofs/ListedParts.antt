@@ -29,8 +29,7 @@ set_changes bars n value lt e = sym (get_or-set_same bars n value 0 lt) ∙ ap (
 
 pub unchanged : (flags : ℕ) (registers : Registers) (register : Register) (value : ℕ)
     → changes_listed flags registers register value ≡ false
-    → listed_registers flags (with_value registers register value)
-    ≡ listed_registers flags registers
+    → listed_registers flags (with_value registers register value) ≡ listed_registers flags registers
 unchanged flags registers (Bar n) value e = ap (λ (x : List ℕ). record (listed_registers flags registers) { bars = x })
     (set_back registers.bars n value (grind arith))
 unchanged flags registers register value e = grind (arith, nat_tests)

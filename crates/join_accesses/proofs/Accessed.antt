@@ -215,8 +215,7 @@ module _ (plan : Plan) (ends : List LinkEnds) (m : InterfacesView) (memory : Mem
       (f.0, on_link_at plan link k w.faces.list beside.faced lt ∙ f.1))
       (on_link_past plan link (length (planned_on plan.links link)) w.faces.list beside.faced (omega arith))
 
-  floors_many : (ns : List ℕ) (link : ℕ) (l : LinkEnds) → slice_get ends link ≡ Some l
-      → length ns ≡ length (sites plan)
+  floors_many : (ns : List ℕ) (link : ℕ) (l : LinkEnds) → slice_get ends link ≡ Some l → length ns ≡ length (sites plan)
       → length (on_link link (sites plan) ns) ≡ length (planned_on plan.links link)
   floors_many ns link l is floored =
       length_on (on_link link (sites plan) ns) (length (planned_on plan.links link))

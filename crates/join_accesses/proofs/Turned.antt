@@ -153,8 +153,7 @@ module _ (plan : Plan) (old new : WholeLinks) (w : Whole) (verdict : Verdict)
   turned e reads_then floors_then happens carried_then after turn reads floors same carried = record {
     floored = floors_many e (device_draw_at plan w.links) (sites plan) w.faces.list (faces_now e) w.accesses.floors
         (are_many e after);
-    reads = λ link. turn.reads link ∙ (ap (reads_then link) (before.reads link)
-        ∙ reads link (w.accesses.waiting link));
+    reads = λ link. turn.reads link ∙ (ap (reads_then link) (before.reads link) ∙ reads link (w.accesses.waiting link));
     bytes = λ link. subst (λ (hs : List (Option Happened)). AreLeftBy (mmio_at new.accesses link)
         (newest_happened hs (w.accesses.happened link))) (same link)
         (turn.bytes link (w.accesses.happened link) (before.bytes link));
@@ -352,8 +351,7 @@ module _ (plan : Plan) (old new : WholeLinks) (w : Whole) (verdict : Verdict)
           ∙ (happens_same b (x.link == link) (which (place_of plan x) x.plan.bars)
           ∙ (sym (there x) ∙ sym (ap by_site (site_found plan i x is)))))
 
-  halt_happens : (i : ℕ) (loss : Option Loss) (w' : Verdict) (link : ℕ)
-      → halted_at plan w' link (site_at plan i)
+  halt_happens : (i : ℕ) (loss : Option Loss) (w' : Verdict) (link : ℕ) → halted_at plan w' link (site_at plan i)
       ≡ happens_by plan statuses [] (event.Interface (ie.Halt i loss)) w' link
   halt_happens i loss (v.Accepted port unit effects) link =
       by (site_at plan i) ∙ none_stored plan statuses (event.Interface (ie.Halt i loss)) port unit effects link
@@ -475,8 +473,7 @@ module _ (plan : Plan) (old new : WholeLinks) (w : Whole) (verdict : Verdict)
             (sym (on_link_set plan x.link q.place w.accesses.floors draw before.floored in_place)
             ∙ ap (λ (n : ℕ). on_link x.link (sites plan) (slice_set w.accesses.floors n draw)) (sym number_is))
 
-        set_elsewhere : (link draw : ℕ) → (x.link == link) ≡ false
-            → on_link link (sites plan) w.accesses.floors
+        set_elsewhere : (link draw : ℕ) → (x.link == link) ≡ false → on_link link (sites plan) w.accesses.floors
             ≡ on_link link (sites plan) (slice_set w.accesses.floors i draw)
         set_elsewhere link draw far =
             sym (on_link_other plan link i w.accesses.floors draw before.floored (⊎_elim

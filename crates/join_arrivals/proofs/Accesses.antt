@@ -239,8 +239,7 @@ module _ (plan : Plan) (statuses : ℕ → List InterfaceStatus) (ps : List Pack
 
 module _ (xs : List InterfaceStatus) (plan : Plan) (end port : PortName) (at : port_of plan end ≡ port)
     (apart : at_switch plan port ≡ false) where
-  store_same : (unit : UnitName) (p : Packet) (plain : List ℕ) → port.side ≡ Device
-      → stored_packet xs unit p plain
+  store_same : (unit : UnitName) (p : Packet) (plain : List ℕ) → port.side ≡ Device → stored_packet xs unit p plain
       ≡ packet_stored xs port unit (record { prefix = p.prefix; head = p.head; body = plain; tag = [] })
   store_same unit p plain device = grind (arith, device)
 
@@ -272,8 +271,7 @@ module _ (xs : List InterfaceStatus) (plan : Plan) (end port : PortName) (at : p
       ap (λ (q : PortName). is_device_port plan q) at
       ∙ (λ i. not (apart i) && (sent_direction (host i) == 1))
 
-  stores_open : port.side ≡ Device
-      → OpensAs plan end (λ unit ps. unit_happenings xs plan end unit ps)
+  stores_open : port.side ≡ Device → OpensAs plan end (λ unit ps. unit_happenings xs plan end unit ps)
       (λ unit ps. map (packet_stored xs port unit) ps)
   unfolding open_of
   stores_open device unit ps =

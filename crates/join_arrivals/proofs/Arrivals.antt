@@ -46,9 +46,8 @@ pub take_keeps : (e : PortEnd) (r : Result CutValue PacketFault) → Keeps e (ta
 take_keeps e r = grind arith
 
 -- an end of the plan, whose states are the machine's
-pub end_of : (plan : Plan) (ends : EndsView) (k : KeeperView) (packets : List LinkPacket) (end : PortName)
-    (e : PortEnd) → AreLinks plan ends k → port_on ends end ≡ Some e
-    → IsEndOf plan (state_of plan ends k packets) end e
+pub end_of : (plan : Plan) (ends : EndsView) (k : KeeperView) (packets : List LinkPacket) (end : PortName) (e : PortEnd)
+    → AreLinks plan ends k → port_on ends end ≡ Some e → IsEndOf plan (state_of plan ends k packets) end e
 end_of plan ends k packets end e links is =
     let at_port = port_is plan ends k links end e is in
     record {
@@ -186,8 +185,7 @@ module _ (b : BesidePorts) (plan : Plan) (end port : PortName) (at : port_of pla
 
 -- ---- a packet by its number
 
-pub dumps : (b : BesidePorts) (plan : Plan) (st : LinkState) (n : ℕ) (o : Option LinkPacket) → o
-    ≡ packet_numbered st.packets n
-    → step_of plan b st (Dump n) ≡ (packet_verdict n o, st)
+pub dumps : (b : BesidePorts) (plan : Plan) (st : LinkState) (n : ℕ) (o : Option LinkPacket)
+    → o ≡ packet_numbered st.packets n → step_of plan b st (Dump n) ≡ (packet_verdict n o, st)
 unfolding step_of
 dumps b plan st n o is = ap (λ (p : Option LinkPacket). (packet_verdict n p, st)) (sym is)

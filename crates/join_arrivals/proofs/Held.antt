@@ -11,9 +11,8 @@ use Rattle.spec_links.specs.Plan.{aggregation_of}
 one_holds : (m : Bool) (aggregation n : ℕ) → m ≡ false → aggregation ≡ 1 → (not m && nat_le aggregation (n + 1)) ≡ true
 one_holds m aggregation n goes_on one = grind (arith, nat_tests)
 
-pub held_none : (plan : Plan) (h : History) → CauseLaw plan h → (s : SubStream) → aggregation_of plan s.line s.stream
-    ≡ 1
-    → (j n : ℕ) → packets_in_hold plan h s j n ≡ []
+pub held_none : (plan : Plan) (h : History) → CauseLaw plan h → (s : SubStream)
+    → aggregation_of plan s.line s.stream ≡ 1 → (j n : ℕ) → packets_in_hold plan h s j n ≡ []
 unfolding packets_in_hold
 held_none plan [] cause s one j n = refl
 held_none plan ((e, Held port unit) ∷ h) cause s one j n =

@@ -62,8 +62,7 @@ module _ (plan : Plan) (fits : FitsPlan plan) where
   line_by : (line : ℕ) → has_line_by plan line ≡ true → LineIs plan line
   line_by line is = by (nat_lt line 8) (nat_lt line 16) (nat_lt line 24) refl refl refl is
     where
-      by : (a b c : Bool) → nat_lt line 8 ≡ a → nat_lt line 16 ≡ b → nat_lt line 24 ≡ c
-          → (if a then has_link plan line
+      by : (a b c : Bool) → nat_lt line 8 ≡ a → nat_lt line 16 ≡ b → nat_lt line 24 ≡ c → (if a then has_link plan line
           else if b then is_some (link_hop (slice_get plan.links (line - 8)))
           else if c then is_some (link_hop (slice_get plan.links (line - 16)))
           else nat_lt (line - 24) (length plan.peers)) ≡ true → LineIs plan line
@@ -414,8 +413,7 @@ module _ (plan : Plan) (fits : FitsPlan plan) where
 
   -- ---- units on the segments of hops have one packet
 
-  aggregation_in : (links : List LinkPlan) (i id : ℕ)
-      → option_map_or (λ (s : StreamPlan). s.aggregation)
+  aggregation_in : (links : List LinkPlan) (i id : ℕ) → option_map_or (λ (s : StreamPlan). s.aggregation)
       (with_id (slice_index_or (map (λ (l : LinkPlan). hop_streams l.hop) links) i []) id) 1 ≡ 1
   aggregation_in [] i id = refl
   aggregation_in (l ∷ links) zero id = of_hop l.hop

@@ -35,5 +35,4 @@ pub record Brings (m : InterfacesView) (end port : PortName) (bytes : List ℕ) 
     Type 0 where
   pub arrives : ArrivesAt old xs c.regions (grants_in m) end port bytes verdict c d new ys
   pub regions : d.regions ≡ c.regions
-  pub absent : is_some (port_on old end) ≡ false
-      → (verdict ≡ Nothing) × (new ≡ old) × (d ≡ c) × AccessesStay xs ys
+  pub absent : is_some (port_on old end) ≡ false → (verdict ≡ Nothing) × (new ≡ old) × (d ≡ c) × AccessesStay xs ys

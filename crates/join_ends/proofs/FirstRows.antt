@@ -78,8 +78,7 @@ peers_rows : (line : ℕ) (ps : List PeerPlan) → peers_from line ps
 peers_rows line [] = refl
 peers_rows line (p ∷ ps) = ap (λ (vs : List StreamView). new_stream line p.id ∷ vs) (peers_rows (line + 1) ps)
 
-rows_both : (line : ℕ) (xs ys : Rows) → rows_from line (xs ++ ys)
-    ≡ rows_from line xs ++ rows_from (line + length xs) ys
+rows_both : (line : ℕ) (xs ys : Rows) → rows_from line (xs ++ ys) ≡ rows_from line xs ++ rows_from (line + length xs) ys
 rows_both line [] ys = let same : line ≡ line + 0 = omega arith in ap (λ (n : ℕ). rows_from n ys) same
 rows_both line (x ∷ xs) ys =
     let next : line + 1 + length xs ≡ line + suc (length xs) = omega arith in

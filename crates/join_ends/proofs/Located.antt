@@ -36,9 +36,8 @@ next_located link l ls at x = record {
 }
 
 by_test : (link n : ℕ) (l : LinkEnds) (ls : List LinkEnds) (at : ℕ × ℕ) (b : Bool) (rest : Option (ℕ × ℕ))
-    → nat_lt n (length l.device.interfaces.interfaces) ≡ b
-    → (rest ≡ Some at → IsLocated ls (link + 1) at) → (if b then Some (link, n) else rest) ≡ Some at
-    → IsLocated (l ∷ ls) link at
+    → nat_lt n (length l.device.interfaces.interfaces) ≡ b → (rest ≡ Some at → IsLocated ls (link + 1) at)
+    → (if b then Some (link, n) else rest) ≡ Some at → IsLocated (l ∷ ls) link at
 by_test link n l ls at true rest lt more is = first_located link n l ls at lt is
 by_test link n l ls at false rest lt more is = next_located link l ls at (more is)
 

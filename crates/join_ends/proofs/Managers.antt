@@ -46,9 +46,8 @@ first_other line other (s ∷ ss) (v ∷ vs) rest id apart names =
     let more : map name_of vs ≡ names_of line ss ++ rest = cc in
     grind (arith, name, first_other line other ss vs rest id apart more)
 
-first_here : (line : ℕ) (ss : List StreamPlan) (vs : List StreamView) (rest : List (ℕ × ℕ)) (id : ℕ) → map name_of vs
-    ≡ names_of line ss ++ rest
-    → Apart line rest
+first_here : (line : ℕ) (ss : List StreamPlan) (vs : List StreamView) (rest : List (ℕ × ℕ)) (id : ℕ)
+    → map name_of vs ≡ names_of line ss ++ rest → Apart line rest
     → option_map (λ (v : StreamView). v.op) (first_named line id vs) ≡ machine.found_by_id ss (line_ops ss vs) id
 first_here line [] vs rest id names apart =
     ap (λ (o : Option StreamView). option_map (λ (v : StreamView). v.op) o)

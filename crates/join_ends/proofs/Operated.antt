@@ -62,9 +62,8 @@ set_other line id w from (s ∷ ss) (x ∷ vs) rest differs names =
     (grind (arith, nat_tests, name, more.0), grind (arith, nat_tests, name, more.1))
 
 -- an operation put back
-put_back : (ss : List StreamPlan) (os : List StreamStage) (id : ℕ) (q : StreamStage) → machine.found_by_id ss os id
-    ≡ Some q
-    → machine.changed_by_id ss os id q ≡ os
+put_back : (ss : List StreamPlan) (os : List StreamStage) (id : ℕ) (q : StreamStage)
+    → machine.found_by_id ss os id ≡ Some q → machine.changed_by_id ss os id q ≡ os
 put_back [] os id q is = refl
 put_back (s ∷ ss) [] id q is = refl
 put_back (s ∷ ss) (o ∷ os) id q is = grind (arith, nat_tests, put_back ss os id q)

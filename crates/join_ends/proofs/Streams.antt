@@ -110,8 +110,7 @@ module _ (plan : Plan) (v : EndsView) (k : KeeperView) (links : AreLinks plan v 
             ∙ (ap (λ (n : ℕ). slice_index_or (behind_near plan) n []) second
             ∙ (behind_eight (hop_by_link plan) (peer_streams plan) i (omega (arith, past, many))
             ∙ get_or_past (peer_streams plan) (i - 8) [] (omega (arith, past, many, peers))))));
-        no_states = ap (λ (n : ℕ). slice_index_or (rows_of v) n []) row
-            ∙ (pair_at v w (2 * i + sent_direction side)
+        no_states = ap (λ (n : ℕ). slice_index_or (rows_of v) n []) row ∙ (pair_at v w (2 * i + sent_direction side)
             ∙ get_or_past (pair_ports v.pairs) (2 * i + sent_direction side) [] (omega (arith, past, all)));
       }
 
@@ -127,9 +126,8 @@ pub end_found : (plan : Plan) (v : EndsView) (k : KeeperView) (packets : List Li
 end_found plan v k packets end e stream links is =
     find_at plan v k packets (wired plan v k links) end e is stream (port_is plan v k links end e is)
 
-pub none_found : (plan : Plan) (v : EndsView) (k : KeeperView) (packets : List LinkPacket) (end : PortName)
-    (stream : ℕ) → AreLinks plan v k → port_on v end ≡ None
-    → find plan (state_of plan v k packets) end stream ≡ None
+pub none_found : (plan : Plan) (v : EndsView) (k : KeeperView) (packets : List LinkPacket) (end : PortName) (stream : ℕ)
+    → AreLinks plan v k → port_on v end ≡ None → find plan (state_of plan v k packets) end stream ≡ None
 unfolding find
 none_found plan v k packets end stream links is =
     ap (λ (ss : List StreamPlan). machine.found_by_id ss (slice_index_or (rows_of v) (port_place end) []) stream)

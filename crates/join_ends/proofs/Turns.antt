@@ -234,8 +234,7 @@ one_more : (ends : List PortName) (link k : ℕ) (ts : List HopTlp) → clears_h
     ≡ (if nat_lt k (link + 1) && clears_hop ends k then [] else ts)
 one_more ends link k ts clears = by (link == k) refl
   where
-    by : (b : Bool) → (link == k) ≡ b
-        → (if b then [] else (if nat_lt k link && clears_hop ends k then [] else ts))
+    by : (b : Bool) → (link == k) ≡ b → (if b then [] else (if nat_lt k link && clears_hop ends k then [] else ts))
         ≡ (if nat_lt k (link + 1) && clears_hop ends k then [] else ts)
     by true is =
         let there : nat_lt k (link + 1) ≡ true = grind (arith, nat_tests) in
@@ -251,8 +250,7 @@ none_more : (ends : List PortName) (link k : ℕ) (ts : List HopTlp) → clears_
     ≡ (if nat_lt k (link + 1) && clears_hop ends k then [] else ts)
 none_more ends link k ts stays = by (link == k) refl
   where
-    by : (b : Bool) → (link == k) ≡ b
-        → (if nat_lt k link && clears_hop ends k then [] else ts)
+    by : (b : Bool) → (link == k) ≡ b → (if nat_lt k link && clears_hop ends k then [] else ts)
         ≡ (if nat_lt k (link + 1) && clears_hop ends k then [] else ts)
     by true is =
         let before : nat_lt k link ≡ false = grind (arith, nat_tests) in

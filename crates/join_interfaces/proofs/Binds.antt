@@ -133,8 +133,7 @@ module _ (x : Site) (draw drawn portion place : ℕ) (said : StreamSaid) (ps : P
       (managed_of x draw seen _ (told_seen seen m) key) is
 
   -- if the stream was keyed since
-  fresh : (seen : Seen) (stale : Bool) → IsKey (nonce_of seen)
-      → Comes x (state_asked seen) place (op.Bind peer) loss d
+  fresh : (seen : Seen) (stale : Bool) → IsKey (nonce_of seen) → Comes x (state_asked seen) place (op.Bind peer) loss d
       (if stale then v.Interface (iv.RefusedRefreshFirst (ps.draw peer.line peer.id) (managed_as_seen seen m).needs)
       else due_unless_lost loss 1 (verdict_of_bind x peer.line answered))
       (begun_walk (if stale then Some
@@ -165,8 +164,7 @@ module _ (x : Site) (draw drawn portion place : ℕ) (said : StreamSaid) (ps : P
   allowed seen status.Partial key = refused seen _ _ key refl refl refl
   allowed seen status.Insecure key = refused seen _ _ key refl refl refl
 
-  by_view : (seen : Seen) → IsKey (nonce_of seen)
-      → Comes x (state_asked seen) place (op.Bind peer) loss d
+  by_view : (seen : Seen) → IsKey (nonce_of seen) → Comes x (state_asked seen) place (op.Bind peer) loss d
       (bind_due x (state_asked seen) peer.line peer.id loss)
       (begun_walk (bind_refusal (op_status (ps.op peer.line peer.id))
       (ps.draw peer.line peer.id) (managed_as_seen seen m).needs seen) (host_of x draw seen m) read d
@@ -179,8 +177,7 @@ module _ (x : Site) (draw drawn portion place : ℕ) (said : StreamSaid) (ps : P
   by_view IsDoubt key = refused IsDoubt _ _ key refl refl refl
   by_view IsBroken key = refused IsBroken _ _ key refl refl refl
 
-  pub bind_comes : (seen : Seen) → IsKey (nonce_of seen)
-      → Comes x (state_asked seen) place (op.Bind peer) loss d
+  pub bind_comes : (seen : Seen) → IsKey (nonce_of seen) → Comes x (state_asked seen) place (op.Bind peer) loss d
       (bind_due x (state_asked seen) peer.line peer.id loss)
       (begun_walk (bind_refusal (op_status (ps.op peer.line peer.id)) peer.draw (managed_as_seen seen m).needs seen)
       (host_of x draw seen m) read d
@@ -221,8 +218,7 @@ module _ (x : Site) (draw drawn portion place : ℕ) (said : StreamSaid) (ps : P
   abbrev at_place : NamedTdi
   at_place = record { place = place; tdi = tdi }
 
-  carried_out : (seen : Seen) → IsKey (nonce_of seen)
-      → Comes x (standing_of seen) place (op.Unbind peer) loss d
+  carried_out : (seen : Seen) → IsKey (nonce_of seen) → Comes x (standing_of seen) place (op.Unbind peer) loss d
       (due_unless_lost loss 1 (unbound_as x peer.line (unbind_answer tdi peer.id)))
       (stated_alone (step.Unbind peer) portion drawn said loss (host_of x draw seen m) d at_place)
   carried_out seen key =
@@ -245,8 +241,7 @@ module _ (x : Site) (draw drawn portion place : ℕ) (said : StreamSaid) (ps : P
       (ap (λ b. interface_if_called b (UnbindStream peer.id) tdi) none) refl refl
       (managed_of x draw seen _ (told_seen seen m) key) is
 
-  pub unbind_comes : (seen : Seen) → IsKey (nonce_of seen)
-      → Comes x (standing_of seen) place (op.Unbind peer) loss d
+  pub unbind_comes : (seen : Seen) → IsKey (nonce_of seen) → Comes x (standing_of seen) place (op.Unbind peer) loss d
       (unbind_due x (standing_of seen) peer.line peer.id loss)
       (begun_walk (report_refusal seen) (host_of x draw seen m) read d
       (stated_alone (step.Unbind peer) portion drawn said loss (host_of x draw seen m) d at_place))

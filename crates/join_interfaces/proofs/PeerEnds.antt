@@ -40,9 +40,8 @@ end_near p ps n link id e has is =
       at_link = ap (λ (q : PortName). peer_link q.side p) (sym same) ∙ eqb-true p.near link parts.1;
     }
 
-end_far : (p : PeerPlan) (ps : List PeerPlan) (n link id : ℕ) (e : PortName)
-    → ((p.id == id) && (p.far == link)) ≡ true → Some (device_port (peer_line n)) ≡ Some e
-    → IsPeerEnd (p ∷ ps) n link id e
+end_far : (p : PeerPlan) (ps : List PeerPlan) (n link id : ℕ) (e : PortName) → ((p.id == id) && (p.far == link)) ≡ true
+    → Some (device_port (peer_line n)) ≡ Some e → IsPeerEnd (p ∷ ps) n link id e
 end_far p ps n link id e has is =
     let parts = and_parts (p.id == id) (p.far == link) has in
     let same = same_Some (device_port (peer_line n)) e is in

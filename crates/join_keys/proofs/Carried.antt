@@ -16,11 +16,10 @@ next_within : (p q n below : ℕ) (first second : KeyCall) → p < q → n < bel
     ≡ calls_within p q n below first second
 next_within p q n below first second lt low = grind (arith, nat_tests)
 
-pub carried_at : (made : ℕ → List StreamCall) (sends : Bool) (u : SubKind) (p q last below : ℕ)
-    (first second : KeyCall) → p < q → below ≤ last + 1
+pub carried_at : (made : ℕ → List StreamCall) (sends : Bool) (u : SubKind) (p q last below : ℕ) (first second : KeyCall)
+    → p < q → below ≤ last + 1
     → ((n : ℕ) → 1 ≤ n → n ≤ last → calls_at sends u (made n) ≡ one_if (p == n) first ++ one_if (q == n) second)
-    → (m n : ℕ) → 1 ≤ n → n + m ≡ below → calls_at sends u (calls_from made n m)
-    ≡ calls_within p q n below first second
+    → (m n : ℕ) → 1 ≤ n → n + m ≡ below → calls_at sends u (calls_from made n m) ≡ calls_within p q n below first second
 carried_at made sends u p q last below first second lt most each zero n low is = none_within p q n below first second is
 carried_at made sends u p q last below first second lt most each (suc m) n low is =
     let rest = carried_at made sends u p q last below first second lt most each m (n + 1) (omega arith) (omega arith)

@@ -158,8 +158,7 @@ module _ (plan : Plan) (st : LinkState) (h : History) (operation : Operation) (l
         ap (λ (o : Option Verdict). unwrap_or o verdict) (sym comes_is.verdict_is ∙
         ((λ i. verdict_of (same i) e.keeper.line e.keeper.id loss (told (same i)).outcome) ∙ is_due None free))
 
-    rest_comes : (more : ℕ) → 12 ≤ more
-        → Rest plan w e.keeper.id w.first (begun_from plan st operation e)
+    rest_comes : (more : ℕ) → 12 ≤ more → Rest plan w e.keeper.id w.first (begun_from plan st operation e)
         (operation_verdict (ports_of plan st) e.keeper.line e.keeper.id loss w)
         (told w.operation)
         (walk_on (suc more) loss requester (begun_from plan st operation e))

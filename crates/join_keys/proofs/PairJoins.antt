@@ -68,8 +68,7 @@ module _ (plan : Plan) (st : LinkState) (h : History) (operation : Operation) (l
   verdict = verdict_due plan st operation e.keeper.op e.keeper.line e.keeper.id loss
 
   -- an establish and a stop read nothing of a host's port
-  due_of : (o : Operation) → o ≢ op.Refresh
-      → WalkIsDue (is_hosted e.keeper.line) o (key_plan plan) (ports_of plan st)
+  due_of : (o : Operation) → o ≢ op.Refresh → WalkIsDue (is_hosted e.keeper.line) o (key_plan plan) (ports_of plan st)
       (machine_status plan st Host e.keeper.line e.keeper.id) host (pool_of plan st) loss e.keeper
   due_of op.Establish differs = establishes (key_plan plan) (ports_of plan st)
       (machine_status plan st Host e.keeper.line e.keeper.id) host (pool_of plan st) loss e.keeper.line e.keeper.id
@@ -172,8 +171,7 @@ module _ (plan : Plan) (st : LinkState) (h : History) (operation : Operation) (l
         ap (λ (o : Option Verdict). unwrap_or o verdict) (sym comes_is.verdict_is ∙
         ((λ i. verdict_of (same i) e.keeper.line e.keeper.id loss (told (same i)).outcome) ∙ is_due None free))
 
-    rest_comes : (more : ℕ) → 23 ≤ more
-        → PairRest plan w w.first (begun_from plan st operation e)
+    rest_comes : (more : ℕ) → 23 ≤ more → PairRest plan w w.first (begun_from plan st operation e)
         (operation_verdict (ports_of plan st) e.keeper.line e.keeper.id loss w)
         (told w.operation)
         (pair_walk (suc more) loss requester (begun_from plan st operation e))

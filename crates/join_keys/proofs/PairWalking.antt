@@ -217,8 +217,7 @@ module _ (plan : Plan) (ports : PortView) (w : Work) (line id requester : ℕ) (
       small : e.keeper.id ≤ 255
       small = omega (arith, knows.small, at.id_is)
 
-      by_turn : PairTurn w.operation (key_set w.set) n
-          → came_to_end (end_of false w.operation n) requester
+      by_turn : PairTurn w.operation (key_set w.set) n → came_to_end (end_of false w.operation n) requester
           (request_of e.keeper.id e.keeper.keys
           (wire_number false (end_of false w.operation n)
           (exchange_lane (exchange_of false w.operation (key_set w.set) n)))

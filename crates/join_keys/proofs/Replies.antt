@@ -20,12 +20,10 @@ use Rattle.key_host.specs.Judging.{judged_reply}
 -- ---- a request is read as it was written
 
 -- if a request makes this call, which is taken or not, and its reply is judged so
-comes_as : (requester draw id : ℕ) (request : KmView) (x : StreamState) → FitsObject request
-    → (call : Option PlaceCall) → object_call draw request ≡ call → (done : Bool) → is_done (shown_stream id x) call
-    ≡ done
-    → (judged : Judged) → judged_bytes request (object_bytes (object_reply requester request done)) ≡ judged
-    → (device : StreamState) → port_called call x ≡ device
-    → came_to requester request id draw x ≡ record { judged = judged; device = device }
+comes_as : (requester draw id : ℕ) (request : KmView) (x : StreamState) → FitsObject request → (call : Option PlaceCall)
+    → object_call draw request ≡ call → (done : Bool) → is_done (shown_stream id x) call ≡ done → (judged : Judged)
+    → judged_bytes request (object_bytes (object_reply requester request done)) ≡ judged → (device : StreamState)
+    → port_called call x ≡ device → came_to requester request id draw x ≡ record { judged = judged; device = device }
 comes_as requester draw id request x fits call call_is done done_is judged judged_is device device_is =
     rw (
       spells_read request (object_spelling request) (written_spells request fits),

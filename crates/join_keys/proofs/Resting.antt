@@ -52,8 +52,7 @@ goes_from w id n below = if makes_draw w.operation then
 
 -- which exchange makes the host's port go on
 go_at_host : (o : Operation) (set : KeySet) (n : ℕ) → 1 ≤ n → n ≤ last_exchange_of true o
-    → is_last_receiver_go (exchange_of true o set n)
-    ≡ (makes_draw o && (n == host_go o))
+    → is_last_receiver_go (exchange_of true o set n) ≡ (makes_draw o && (n == host_go o))
 go_at_host o set n least most = grind (arith, nat_tests)
 
 none_from : (w : Work) (id n : ℕ) → goes_from w id n n ≡ []
@@ -121,8 +120,7 @@ unfolding WorkFits
 standing_asked w n fits = grind arith
 
 done_says : (line id : ℕ) (w : Work) (n : ℕ) → is_hosted line ≡ true → n ≡ last_exchange_of true w.operation
-    → reach_of w.operation (finished_verdict line id w)
-    ≡ Some (reach (n + 1) (n + 1))
+    → reach_of w.operation (finished_verdict line id w) ≡ Some (reach (n + 1) (n + 1))
 done_says line id w n hosted is = grind arith
 
 module _ (plan : Plan) (ports : PortView) (w : Work) (line id requester : ℕ) (before : StreamState)

@@ -88,8 +88,7 @@ module _ (plan : Plan) (h : History) (law : CauseLaw plan h) (side : Side) (line
 
 -- counts are those of directions with a Live key
 out_is : (plan : Plan) (h : History) (port : PortName) (stream : ℕ)
-    → any_of (outs (stream_state_due plan h port stream))
-    ≡ has_live_out h port stream
+    → any_of (outs (stream_state_due plan h port stream)) ≡ has_live_out h port stream
 unfolding stream_state_due has_live_out
 out_is plan h port stream =
     let live = λ (u : SubKind). live_out_is plan (sealed_packets plan h) (lane_out port stream u)
@@ -97,8 +96,7 @@ out_is plan h port stream =
     λ i. live Pr i || live Npr i || live Cpl i
 
 into_is : (plan : Plan) (h : History) (port : PortName) (stream : ℕ)
-    → any_of (ins (stream_state_due plan h port stream))
-    ≡ has_live_in h port stream
+    → any_of (ins (stream_state_due plan h port stream)) ≡ has_live_in h port stream
 unfolding stream_state_due has_live_in
 into_is plan h port stream =
     let live = λ (u : SubKind). live_in_is plan h port (lane_in port stream u)
@@ -107,8 +105,7 @@ into_is plan h port stream =
     λ i. live Pr i || live Npr i || live Cpl i
 
 settled_standing : (plan : Plan) (h : History) (port : PortName) (stream : ℕ)
-    → settle (stream_state_due plan h port stream)
-    ≡ stream_state_due plan h port stream
+    → settle (stream_state_due plan h port stream) ≡ stream_state_due plan h port stream
 unfolding stream_state_due
 settled_standing plan h port stream = rw (out_is plan h port stream, into_is plan h port stream)
     (let live = failed_live plan h port stream in grind arith)

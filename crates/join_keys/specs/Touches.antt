@@ -90,8 +90,7 @@ pub record AreTouches (plan : Plan) (ports : PortView) (line stream : ℕ) (w : 
       ≡ touched_stream plan (port_at Host line) stream
       (λ u. touches_at ports w r (place_at_end line stream true Host u))
       (λ u. touches_at ports w r (place_at_end line stream false Host u)) host
-  pub device_touched : all_called (device_calls plan w r) device
-      ≡ touched_stream plan (port_at Device line) stream
+  pub device_touched : all_called (device_calls plan w r) device ≡ touched_stream plan (port_at Device line) stream
       (λ u. touches_at ports w r (place_at_end line stream true Device u))
       (λ u. touches_at ports w r (place_at_end line stream false Device u)) device
 
@@ -105,12 +104,10 @@ CallsAreTouches =
 -- The same of a line that is keyed by messages at both ends: no call is made but those of the exchanges.
 pub record AreEndsTold (plan : Plan) (ports : PortView) (line stream : ℕ) (w : Work) (r : Reach) (near far :
     StreamState) : Type 0 where
-  pub near_touched : all_called (told_calls plan Host w r) near
-      ≡ touched_stream plan (port_at Host line) stream
+  pub near_touched : all_called (told_calls plan Host w r) near ≡ touched_stream plan (port_at Host line) stream
       (λ u. touches_at ports w r (place_at_end line stream true Host u))
       (λ u. touches_at ports w r (place_at_end line stream false Host u)) near
-  pub far_touched : all_called (told_calls plan Device w r) far
-      ≡ touched_stream plan (port_at Device line) stream
+  pub far_touched : all_called (told_calls plan Device w r) far ≡ touched_stream plan (port_at Device line) stream
       (λ u. touches_at ports w r (place_at_end line stream true Device u))
       (λ u. touches_at ports w r (place_at_end line stream false Device u)) far
 

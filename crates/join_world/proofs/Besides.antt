@@ -103,8 +103,7 @@ module _ (plan : Plan) (ends : List LinkEnds) (m : InterfacesView) (memory : Mem
       let p = beside.placed s.place s.site s.site_is in
       ⊎_elim (runs p) (stands p) (cases_Bool (is_running p.interface.seen)) ∙ kept p
     where
-      kept : (p : IsPlaced plan ends m w s.place s.site)
-          → host_grant p.interface ≡ grant_of plan w.faces link requester
+      kept : (p : IsPlaced plan ends m w s.place s.site) → host_grant p.interface ≡ grant_of plan w.faces link requester
       kept p =
           ap (λ (n : ℕ). grant_by n (floor_of p.interface.seen)) p.keeps.managed.laid_out.stream
           ∙ seen_grant p.interface.seen p.face.managed s.site.plan.stream p.keeps.managed.seen

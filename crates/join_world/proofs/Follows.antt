@@ -97,8 +97,7 @@ led_same plan old new link l l' led = ⊎_elim
     (λ same. record {
       nonces = ap (λ (d : DeviceTdis). d.nonces) same;
       used = ap (λ (d : DeviceTdis). d.used) same;
-      many = ap (λ (d : DeviceTdis). length d.interfaces) same
-          ∙ length-map l.device.interfaces.interfaces
+      many = ap (λ (d : DeviceTdis). length d.interfaces) same ∙ length-map l.device.interfaces.interfaces
           (settled_interface (is_said_secure (says_by_ports plan new link)));
     })
     (λ kept. record {

@@ -134,8 +134,7 @@ from_read number link (l ∷ ls) i x is =
         sym (get_behind (sites_of_plans number link l.interfaces) _ i (i - length l.interfaces)
         (omega (arith, le, on_many number link l.interfaces))) ∙ is
 
-    later : length l.interfaces ≤ i
-        → IsFrom (number + length l.interfaces) (link + 1) (i - length l.interfaces) ls x
+    later : length l.interfaces ≤ i → IsFrom (number + length l.interfaces) (link + 1) (i - length l.interfaces) ls x
         → IsFrom number link i (l ∷ ls) x
     later le r = record {
       number_is = omega (arith, r.number_is, le);

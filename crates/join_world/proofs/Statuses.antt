@@ -115,8 +115,7 @@ module _ (plan : Plan) (v : EndsView) (k : KeeperView) (packets : List LinkPacke
       let draw = end_draw_is end e stream Pr is in
       λ i. live_if (sym secure i) (sym draw i)
 
-  pair_live : (end : PortName) (l : PairEnds) (stream : ℕ) → 16 ≤ end.line
-      → slice_get v.pairs (end.line - 16) ≡ Some l
+  pair_live : (end : PortName) (l : PairEnds) (stream : ℕ) → 16 ≤ end.line → slice_get v.pairs (end.line - 16) ≡ Some l
       → live_draw_at_end plan (state_of plan v k packets) end stream ≡ live_of v.pairs end stream
   pair_live end l stream le is =
       live_there end (pair_port end.side l) stream (pair_there v end.side end.line l le is)

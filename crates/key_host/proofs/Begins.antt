@@ -18,9 +18,8 @@ abbrev pub named_as : ℕ → StreamView → Named
 named_as place s = record { place = place; stream = s }
 
 -- the stream at the place that was found
-pub found : (m : ManagerView) (line id place : ℕ) (s : StreamView) → stream_place m line id ≡ Some place → s
-    ≡ get_or m.streams place s
-    → named_stream m line id ≡ Some (named_as place s)
+pub found : (m : ManagerView) (line id place : ℕ) (s : StreamView) → stream_place m line id ≡ Some place
+    → s ≡ get_or m.streams place s → named_stream m line id ≡ Some (named_as place s)
 found m line id place s at is =
     let lt = (position-Some (is_named line id) m.streams place s at).0 in
     ap (named_in m.streams) at ∙ ap (named_if_there place) (get_at m.streams place s lt is)

@@ -32,8 +32,7 @@ still_kept (Stop set lane) keys w i other kept = kept
 
 -- the number of the key that an exchange brings counts the exchanges from the first KEY_PROG on
 brings_at : (hosted : Bool) (o : Operation) (set : KeySet) (n : ℕ) → 1 ≤ n → brings (exchange_of hosted o set n) ≡ true
-    → first_program hosted o
-    + wire_number hosted (end_of hosted o n) (exchange_lane (exchange_of hosted o set n)) ≡ n
+    → first_program hosted o + wire_number hosted (end_of hosted o n) (exchange_lane (exchange_of hosted o set n)) ≡ n
 brings_at true op.Establish set n low e = grind (arith, nat_tests)
 brings_at true op.Refresh set n low e = grind (arith, nat_tests)
 brings_at true op.Stop set n low e = grind (arith, nat_tests)
@@ -51,9 +50,8 @@ keys_left hosted o set n count keys low left i lt past = still_kept (exchange_of
 
 -- ---- the stage after an exchange that is not the last
 
-not_last : (hosted : Bool) (o : Operation) (n : ℕ) → n ≤ last_exchange_of hosted o → (n == last_exchange_of hosted o)
-    ≡ false
-    → n + 1 ≤ last_exchange_of hosted o
+not_last : (hosted : Bool) (o : Operation) (n : ℕ) → n ≤ last_exchange_of hosted o
+    → (n == last_exchange_of hosted o) ≡ false → n + 1 ≤ last_exchange_of hosted o
 not_last hosted o n le e = grind (arith, nat_tests)
 
 -- the next exchange's number and keys, by the state that stands

@@ -84,8 +84,7 @@ older_of false (Live a) (Live b) i fits live =
       held = a;
       mine_is = refl;
       draw_is = true-same a.draw i parts.0;
-      below = λ c e. let same : b
-          ≡ c = cc in subst (λ (x : DrawnKey). x.draw < i) same (true-lt b.draw i parts.1);
+      below = λ c e. let same : b ≡ c = cc in subst (λ (x : DrawnKey). x.draw < i) same (true-lt b.draw i parts.1);
     }
 older_of true (Live a) (Live b) i fits live = absurd cc
 older_of true (Armed a) (Live b) i fits live = absurd cc

@@ -18,7 +18,7 @@ mod stream;
 
 pub use facts::StageFacts;
 pub use laws::{pairs_fit, walks_are_due};
-pub use run_verdicts::Operation;
 pub use manager::Manager;
 pub use operation::{ExchangeReply, NamedOperation, StreamOutcome, StreamRefusal, StreamResult};
 pub use port::HostPort;
+pub use run_verdicts::Operation;

@@ -66,8 +66,7 @@ one_less : (P : ℕ → Type 0) (stream : ℕ) (bs : List Binding) → Each P bs
 one_less P stream [] each = tt
 one_less P stream (b ∷ bs) each = by (not (is_binding_on stream b)) (one_less P stream bs each.1)
   where
-    by : (keep : Bool) → Each P (without stream bs)
-        → Each P (if keep then b ∷ without stream bs else without stream bs)
+    by : (keep : Bool) → Each P (without stream bs) → Each P (if keep then b ∷ without stream bs else without stream bs)
     by true later = (each.0, later)
     by false later = later
 
@@ -76,9 +75,8 @@ answer_draw : (t : Tdi) (stream draw : ℕ) (said : Option ℕ) → bind_answer 
 answer_draw t stream draw None is = grind (arith, is)
 answer_draw t stream draw (Some floor) is = grind (arith, is)
 
-bind_each : (P : ℕ → Type 0) (t : Tdi) (stream : ℕ) (answer : Result ℕ ℕ)
-    → ((draw : ℕ) → answer ≡ Ok draw → P draw) → Each P t.bindings
-    → Each P (interface_after_bind t stream answer).bindings
+bind_each : (P : ℕ → Type 0) (t : Tdi) (stream : ℕ) (answer : Result ℕ ℕ) → ((draw : ℕ) → answer ≡ Ok draw → P draw)
+    → Each P t.bindings → Each P (interface_after_bind t stream answer).bindings
 bind_each P t stream (Err code) given each = each
 bind_each P t stream (Ok draw) given each =
     one_more P t.bindings (record { stream = stream; floor = draw }) each (given draw refl)

@@ -98,9 +98,8 @@ less_is m n is = grind (arith, nat_tests, is)
 
 -- what the manager needed for it is at most the device's floor
 needs_most : (plan : Plan) → FitsPlan plan → (h : History) (e : Event) (w : Verdict) (x : Site) (floor : ℕ) (set : Bool)
-    → site_at plan x.number ≡ Some x → CauseLaw plan ((e, w) ∷ h) → starts x e w ≡ true
-    → draw_at_device h x ≡ floor → on_in (key_in (place_keys h (posted_receiver x)) set) ≡ Some floor
-    → needs_at h x ≤ floor
+    → site_at plan x.number ≡ Some x → CauseLaw plan ((e, w) ∷ h) → starts x e w ≡ true → draw_at_device h x ≡ floor
+    → on_in (key_in (place_keys h (posted_receiver x)) set) ≡ Some floor → needs_at h x ≤ floor
 needs_most plan fits h e w x floor set at cause is greatest on =
     let fresh = start_fresh plan h e w x at cause is in
     let below = less_is x.link _ (number_on_link plan x at) in

@@ -124,9 +124,8 @@ grows_to xs s j i (suc more) le goes_on =
 under_itself : (x : SealedPacket × Packet) → is_sealed_under (sub_stream_of x.0) x.0.draw x ≡ true
 under_itself x = rw (is_same-refl (sub_stream_of x.0), eqb-refl x.0.draw) refl
 
-apart_at : (plan : Plan) (xs : SealedList) (i k : ℕ) (x y : SealedPacket × Packet) → i < k
-    → slice_get xs i ≡ Some x → slice_get xs k ≡ Some y → AreOfOneUnit xs i k x.0 y.0
-    → offset_at xs i x.0 + length x.1.body ≤ offset_at xs k y.0
+apart_at : (plan : Plan) (xs : SealedList) (i k : ℕ) (x y : SealedPacket × Packet) → i < k → slice_get xs i ≡ Some x
+    → slice_get xs k ≡ Some y → AreOfOneUnit xs i k x.0 y.0 → offset_at xs i x.0 + length x.1.body ≤ offset_at xs k y.0
 apart_at plan xs i k x y less at also one =
     let s = sub_stream_of x.0 in
     let j = x.0.draw in

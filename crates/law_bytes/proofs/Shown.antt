@@ -198,13 +198,12 @@ write_sent : (plan : Plan) (grants : Grants) (q : PortName) (unit : UnitName) (p
 write_sent plan grants q unit p payload w head tlp is reads head_is opens =
     (λ i. memory_write (head_is i) (sym opens i)) ∙ write_is plan grants q unit p payload w head is reads
 
-origin_by : (plan : Plan) → FitsPlan plan → StreamsFit plan → DrawFacts plan → (h older : History) (e : Event)
-    (port : PortName) (unit : UnitName) (effects : List Effect)
+origin_by : (plan : Plan) → FitsPlan plan → StreamsFit plan → DrawFacts plan
+    → (h older : History) (e : Event) (port : PortName) (unit : UnitName) (effects : List Effect)
     → CameFrom ((e, Accepted port unit effects) ∷ older) h → CauseLaw plan ((e, Accepted port unit effects) ∷ older)
     → NoForgery plan ((e, Accepted port unit effects) ∷ older) → (n : ℕ) (w : Write)
-    → slice_get (accepted_unit_writes plan older e port unit) n ≡ Some (Some w) → (at byte : ℕ) → enables w.span at
-    ≡ true
-    → payload_byte w at ≡ byte → HasByteOrigin plan h at byte
+    → slice_get (accepted_unit_writes plan older e port unit) n ≡ Some (Some w) → (at byte : ℕ)
+    → enables w.span at ≡ true → payload_byte w at ≡ byte → HasByteOrigin plan h at byte
 origin_by plan whole fits facts h older e port unit effects came here none n w admits at byte enabled byte_is =
     let q = port_of plan port in
     let ps = unit_ended plan older e port unit in

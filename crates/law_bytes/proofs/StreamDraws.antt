@@ -399,8 +399,7 @@ stop_follows h l s loss w p is = elim (cases_Bool (is_on_stream p l s)) [
     us o = touches_after (moments h p)
         (on_it (is_on_stream p l s) (work_touches (work_of op.Stop (op_of h l s) (draws h)) o p))
 
-    by : (o : Option Reach) → is_on_stream p l s ≡ true
-        → Follows (stream_draw h p.line p.stream)
+    by : (o : Option Reach) → is_on_stream p l s ≡ true → Follows (stream_draw h p.line p.stream)
         (touches_after (moments h p)
         (on_it (is_on_stream p l s) (work_touches (work_of op.Stop (op_of h l s) (draws h)) o p)))
         ((manager_after_operation (manager h) op.Stop l s o).ops p.line p.stream)
@@ -419,8 +418,7 @@ establish_own h loss w p is = by (reach_of op.Establish w)
     q : StreamStage
     q = op_of h p.line p.stream
 
-    by : (o : Option Reach)
-        → Follows (if (p.line == p.line) && (p.stream == p.stream)
+    by : (o : Option Reach) → Follows (if (p.line == p.line) && (p.stream == p.stream)
         && ((work_of op.Establish q (draws h)).begins && is_some o)
         then draws h else stream_draw h p.line p.stream)
         (touches_after (moments h p)
@@ -455,11 +453,9 @@ refresh_own plan h loss w p cause receives is =
 
     draw_is : stream_draw ((event.Refresh p.line p.stream loss, w) ∷ h) p.line p.stream
         ≡ drawn_by w (stream_draw h p.line p.stream)
-    draw_is = refreshed_draw h p.line p.stream loss w p.line p.stream
-        ∙ rw (same-true p.line, same-true p.stream) refl
+    draw_is = refreshed_draw h p.line p.stream loss w p.line p.stream ∙ rw (same-true p.line, same-true p.stream) refl
 
-    says : (reach_of op.Refresh w ≡ None)
-        ⊎ ((is_up q ≡ true) ×
+    says : (reach_of op.Refresh w ≡ None) ⊎ ((is_up q ≡ true) ×
         (w ≡ operation_verdict (ports_at h) p.line p.stream loss (work_of op.Refresh q (draws h))))
     says = refresh_says _ plan q (draws h) (ports_at h) (history_status h Host p.line p.stream) p.line p.stream loss w
         cause.0
@@ -468,8 +464,7 @@ refresh_own plan h loss w p cause receives is =
     none_drawn (v.Refreshed a b j) draw none = absurd cc
     none_drawn w draw none = refl
 
-    by : (o : Option Reach) → reach_of op.Refresh w ≡ o
-        → Follows (drawn_by w (stream_draw h p.line p.stream))
+    by : (o : Option Reach) → reach_of op.Refresh w ≡ o → Follows (drawn_by w (stream_draw h p.line p.stream))
         (touches_after (moments h p)
         (on_it (is_on_stream p p.line p.stream) (work_touches (work_of op.Refresh q (draws h)) o p)))
         ((manager_after_operation (manager h) op.Refresh p.line p.stream o).ops p.line p.stream)

@@ -161,8 +161,7 @@ at_device : (plan : Plan) (policy : Policy) (k link : ℕ) (unit : UnitName) (p 
     → device_effect (policy.statuses link) unit p (read_head_of p.head) ≡ effect.Stored
 at_device plan policy k link unit p off is = by (is_sync_packet p) (at_switch plan (device_port link)) off is
   where
-    by : (a c : Bool) → c ≡ false
-        → (if a then effect.Sync else if c then switch_effect
+    by : (a c : Bool) → c ≡ false → (if a then effect.Sync else if c then switch_effect
         else device_effect (policy.statuses link) unit p (read_head_of p.head)) ≡ effect.Stored
         → device_effect (policy.statuses link) unit p (read_head_of p.head) ≡ effect.Stored
     by true c off is = absurd cc

@@ -46,9 +46,8 @@ got_drawn P ((e, Accepted port unit effects) ∷ h) s j all =
     ]
 got_drawn P (_ ∷ h) s j all = got_drawn P h s j all
 
-got_some : (plan : Plan) (h : History) (s : SubStream) → AllByRecursion
-    (λ (k : ℕ). 1 ≤ length (accepted_packets plan h s k))
-    (draws_got h s)
+got_some : (plan : Plan) (h : History) (s : SubStream)
+    → AllByRecursion (λ (k : ℕ). 1 ≤ length (accepted_packets plan h s k)) (draws_got h s)
 unfolding accepted_packets draws_got
 got_some plan [] s = tt
 got_some plan ((e, Accepted port unit effects) ∷ h) s =

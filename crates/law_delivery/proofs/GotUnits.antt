@@ -30,9 +30,8 @@ one_unit ps unfinished p none is m =
     (ap (λ us. us ++ (open_unit (ps ++ unfinished) ++ p ∷ []) ∷ []) (units-front_append ps unfinished is) ∙ ap
     (λ qs. units ps ++ (qs ++ p ∷ []) ∷ []) open_is))
 
-one_unit_more : (ps unfinished : List Packet) (p : Packet) (n : ℕ) → AreUnits ps n → IsFront unfinished → p.prefix.m
-    ≡ true
-    → AreUnits (ps ++ (unfinished ++ p ∷ [])) (n + 1)
+one_unit_more : (ps unfinished : List Packet) (p : Packet) (n : ℕ) → AreUnits ps n → IsFront unfinished
+    → p.prefix.m ≡ true → AreUnits (ps ++ (unfinished ++ p ∷ [])) (n + 1)
 one_unit_more ps unfinished p n are is m = record {
   count = rw (one_unit ps unfinished p are.none is m, ← are.count)
       (length-append (units ps) ((unfinished ++ p ∷ []) ∷ []));

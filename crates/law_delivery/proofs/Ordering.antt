@@ -161,9 +161,8 @@ on_in plan h e port unit effects = rw (is_same-refl (received_in port unit)) ref
 
 -- if a posted packet that was sealed was not got, no more were got than were sealed before it
 posted_counts : (plan : Plan) → StreamsFit plan → DrawFacts plan → (h : History) (s : SubStream) (j n place from : ℕ)
-    → CauseLaw plan h → NoForgery plan h
-    → IsPacketAtPlace (sealed_packets plan h) s j n place → AllByRecursion (λ (k : ℕ). k < suc j) (draws_got h s)
-    → length (accepted_packets plan h s j) ≤ n
+    → CauseLaw plan h → NoForgery plan h → IsPacketAtPlace (sealed_packets plan h) s j n place
+    → AllByRecursion (λ (k : ℕ). k < suc j) (draws_got h s) → length (accepted_packets plan h s j) ≤ n
     → length (got_since plan h s from) ≤ number from s (take place (sealed_packets plan h))
 posted_counts plan fits facts h s j n place from cause forged at draws missing =
     let below = below_until xs s place j place n (facts.rises h cause) at (omega arith) in
@@ -209,9 +208,8 @@ mono w p xs i k le =
     rw (all, sum_by-append w) (omega arith)
 
 -- one more than those before the place
-one_more_number : (from : ℕ) (xs : SealedList) (s : SubStream) (j m place : ℕ) → IsPacketAtPlace xs s j m place → from
-    ≤ j
-    → number from s (take (suc place) xs) ≡ number from s (take place xs) + 1
+one_more_number : (from : ℕ) (xs : SealedList) (s : SubStream) (j m place : ℕ) → IsPacketAtPlace xs s j m place
+    → from ≤ j → number from s (take (suc place) xs) ≡ number from s (take place xs) + 1
 one_more_number from xs s j m place at above =
     let here = in_parts s j at.sealed at.under in
     let last = sum-snoc (λ (x : SealedPacket × Packet). 1) (of_since from s) (take place xs) at.sealed in
@@ -219,9 +217,8 @@ one_more_number from xs s j m place at above =
 
 -- no accepted posted draw is above that of a packet that was not got
 none_greater : (plan : Plan) (h : History) (s : SubStream) (from j n earlier : ℕ) → from ≤ j
-    → IsPacketAtPlace (sealed_packets plan h) s j n earlier → length (accepted_packets plan h s j) ≤ n
-    → (ks : List ℕ) → AllByRecursion
-    (λ (k : ℕ). (i : ℕ) → from ≤ i → i < k → accepted_packets plan h s i ≡ sent_packets plan h s i) ks
+    → IsPacketAtPlace (sealed_packets plan h) s j n earlier → length (accepted_packets plan h s j) ≤ n → (ks : List ℕ)
+    → AllByRecursion (λ (k : ℕ). (i : ℕ) → from ≤ i → i < k → accepted_packets plan h s i ≡ sent_packets plan h s i) ks
     → AllByRecursion (λ (k : ℕ). k < suc j) ks
 none_greater plan h s from j n earlier above at missing [] complete = tt
 none_greater plan h s from j n earlier above at missing (k ∷ ks) complete =

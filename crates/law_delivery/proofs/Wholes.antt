@@ -120,8 +120,7 @@ module _
       same_fronts plan fits facts h cause port s j arrives.receiver arrives.live sealed (arrives.older last)
 
   -- its tag is that of the unit that it ends, with what comes ahead of that unit
-  sent_tag : p.prefix.m ≡ true
-      → p.tag ≡ tag_of (key_of plan j s) (iv_of s.sub n)
+  sent_tag : p.prefix.m ≡ true → p.tag ≡ tag_of (key_of plan j s) (iv_of s.sub n)
       (ahead_due plan h s n ++ authenticated_bytes (unfinished ++ p ∷ []))
       (encrypted_bytes (unfinished ++ p ∷ []))
   sent_tag last =

@@ -64,9 +64,8 @@ unfolding keys
 cleared_keys O true cleared ts is = rw is (record { first_is = tt; second_is = tt })
 cleared_keys O false cleared ts is = rw is (record { first_is = tt; second_is = tt })
 
-cleared_there : (ends : List PortName) (side : Side) (line : ℕ) → is_cut ends line ≡ true → is_between_devices line
-    ≡ false
-    → is_cleared ends side line ≡ true
+cleared_there : (ends : List PortName) (side : Side) (line : ℕ) → is_cut ends line ≡ true
+    → is_between_devices line ≡ false → is_cleared ends side line ≡ true
 cleared_there ends side line cut peer = rw (peer, cut) refl
 
 reset_marked : (h : History) (k : ℕ) (ends : List PortName) (l link : ℕ) (p : KeyPlace) → IsSegment link p.line

@@ -32,9 +32,8 @@ abbrev IsByte : ℕ → Type 0
 IsByte b = b < 256
 
 -- a packet that is no sync packet, with this payload
-one_reads : (p : Packet) (payload : List ℕ) → FitsPacket p → is_sync_packet p ≡ false
-    → length payload ≡ length p.body → All IsByte payload
-    → ReadsAs (record { sub = p.prefix.sub; bytes = p.head ++ payload; t = p.prefix.t })
+one_reads : (p : Packet) (payload : List ℕ) → FitsPacket p → is_sync_packet p ≡ false → length payload ≡ length p.body
+    → All IsByte payload → ReadsAs (record { sub = p.prefix.sub; bytes = p.head ++ payload; t = p.prefix.t })
 one_reads p payload fits plain size bytes = elim fits.carries [
   | inl c ↦ record {
     tlp = with_payload c.head payload;

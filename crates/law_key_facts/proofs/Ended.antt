@@ -89,8 +89,7 @@ program_keeps : (f : ℕ → Bool) (ks : Keys) (k : Bool) (j i : ℕ) → sender
 program_keeps f ks k j i live opens = grind (arith, nat_tests)
 
 go_keeps : (f : ℕ → Bool) (ks : Keys) (k : Bool) (j i : ℕ) → sender_draw ks ≡ Some i → f i ≡ true
-    → draw_of_keyed (key_in ks k)
-    ≡ Some j → i ≤ j
+    → draw_of_keyed (key_in ks k) ≡ Some j → i ≤ j
     → sender_draw (without_outlived true f (keys_after_touch true ks (GoTouch k j))) ≡ Some i
 go_keeps f ks k j i live opens kept le = grind (arith, nat_tests)
 
@@ -359,9 +358,8 @@ pub record Excuse (plan : Plan) (h : History) (port : PortName) (stream : ℕ) (
 
 -- a host's port seals nothing then
 none_seals : (plan : Plan) (h : History) → CauseLaw plan h → (port : PortName) (stream : ℕ) (u : SubKind)
-    → local_end port ≡ true → stops (op_of h port.line stream) ≡ true
-    → (q : PortName) (t : ℕ) (d : SealedPacket) → IsLive plan h q t d
-    → is_same (sub_stream_of d) (lane_out port stream u) ≡ true → ⊥
+    → local_end port ≡ true → stops (op_of h port.line stream) ≡ true → (q : PortName) (t : ℕ) (d : SealedPacket)
+    → IsLive plan h q t d → is_same (sub_stream_of d) (lane_out port stream u) ≡ true → ⊥
 none_seals plan h law port stream u host is q t d live here =
     let ks = port_keys h port (lane_out port stream u) in
     let on = on_live ks.first ks.second live.key (live_here plan h q t d live port stream u here) in

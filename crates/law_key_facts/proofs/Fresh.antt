@@ -23,9 +23,8 @@ use Rattle.law_key_facts.proofs.Moments.{none_sent, sends_lane}
 
 -- ---- what a touch makes On
 
-settled_on : (s : Bool) (f : ℕ → Bool) (ks : Keys) (k : Bool) (j : ℕ) → on_in (key_in (without_outlived s f ks) k)
-    ≡ Some j
-    → on_in (key_in ks k) ≡ Some j
+settled_on : (s : Bool) (f : ℕ → Bool) (ks : Keys) (k : Bool) (j : ℕ)
+    → on_in (key_in (without_outlived s f ks) k) ≡ Some j → on_in (key_in ks k) ≡ Some j
 settled_on s f ks k j on = grind arith
 
 -- only a GO makes a draw On

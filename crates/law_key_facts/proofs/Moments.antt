@@ -88,9 +88,8 @@ none_used port s from here ts (d ∷ ds) le =
         (Seal d.draw d.m ∷ ts) more in
         (grind (arith, nat_tests), with_it le)
 
-pub earlier_used : (h : History) (e : Event) (w : Verdict) (p : KeyPlace) (n : ℕ) → draws_used (moments ((e, w) ∷ h) p)
-    ≤ n
-    → draws_used (moments h p) ≤ n
+pub earlier_used : (h : History) (e : Event) (w : Verdict) (p : KeyPlace) (n : ℕ)
+    → draws_used (moments ((e, w) ∷ h) p) ≤ n → draws_used (moments h p) ≤ n
 unfolding moments
 earlier_used h e w p n le = let before = used_behind (moments h p) (touches (manager h).ops (draws_made h) e w p) in
     omega (arith, before, le)
@@ -125,8 +124,7 @@ none_sent plan h law port s j here le =
 pub none_posted : (plan : Plan) (h : History) → CauseLaw plan h
     → (port : PortName) (stream : ℕ) (u : SubKind) (from : ℕ)
     → draws_used (moments h (place_in_sub_stream port (lane_out port stream Pr) true)) ≤ from
-    → posted_since_last (sealed_packets plan h)
-    (lane_out port stream u) from ≡ 0
+    → posted_since_last (sealed_packets plan h) (lane_out port stream u) from ≡ 0
 unfolding posted_since_last
 none_posted plan h law port stream u from le =
     ap length (filter_drop (is_sealed_from_draw (lane_out port stream Pr) from)
@@ -182,8 +180,7 @@ apart_from plan h q stream u port unit on from le = by_test (is_same (received_i
 
 pub none_held : (plan : Plan) (h : History) → CauseLaw plan h → (q : PortName) (stream : ℕ) (u : SubKind) (j n : ℕ)
     → draws_started (moments h (place_in_sub_stream q (lane_in q stream u) false)) ≤ j
-    → packets_in_hold plan h (lane_in q stream u) j n
-    ≡ []
+    → packets_in_hold plan h (lane_in q stream u) j n ≡ []
 unfolding packets_in_hold
 none_held plan [] law q stream u j n le = refl
 none_held plan ((e, Held port unit) ∷ h) law q stream u j n le =
@@ -195,8 +192,7 @@ none_held plan ((e, w) ∷ h) law q stream u j n le = none_held plan h law.1 q s
 
 pub none_got : (plan : Plan) (h : History) → CauseLaw plan h → (q : PortName) (stream : ℕ) (u : SubKind) (j : ℕ)
     → draws_started (moments h (place_in_sub_stream q (lane_in q stream u) false)) ≤ j
-    → units_got h (lane_in q stream u) j
-    ≡ 0
+    → units_got h (lane_in q stream u) j ≡ 0
 unfolding units_got
 none_got plan [] law q stream u j le = refl
 none_got plan ((e, Accepted port unit effects) ∷ h) law q stream u j le =
@@ -256,8 +252,7 @@ busy_one plan ahead bytes port s j d unfinished xs ts here before =
     q : Packet
     q = packet_of plan (ahead d) bytes d unfinished
 
-    by_test : (a b : Bool) → (d.draw == j) ≡ b
-        → nat_lt 0 (length (open_unit
+    by_test : (a b : Bool) → (d.draw == j) ≡ b → nat_lt 0 (length (open_unit
         (if a && b then sub_stream_packets xs s j ++ q ∷ [] else sub_stream_packets xs s j)))
         ≡ is_open (touches_after ts (touches_if a (Seal d.draw d.m))) j
     by_test false b is = before

@@ -47,9 +47,8 @@ uncleared ends side line none = by (is_between_devices line)
     by true = not_cut ends side line none
     by false = none
 
-pub steady_touches : (ops : ℕ → ℕ → StreamStage) (next : ℕ) (e : Event) (w : Verdict) (p : KeyPlace) → is_steady w
-    ≡ true
-    → operates e p.line p.stream ≡ false → touches ops next e w p ≡ []
+pub steady_touches : (ops : ℕ → ℕ → StreamStage) (next : ℕ) (e : Event) (w : Verdict) (p : KeyPlace)
+    → is_steady w ≡ true → operates e p.line p.stream ≡ false → touches ops next e w p ≡ []
 unfolding operates
 steady_touches ops next (Establish l s lose) w p none still = rw (elsewhere_false p l s still) refl
 steady_touches ops next (Refresh l s lose) w p none still = rw (elsewhere_false p l s still) refl
@@ -66,8 +65,7 @@ steady_moments h e w p none still = ap (touches_after (moments h p))
 
 pub seat_same : (plan : Plan) (g h : History) (port : PortName) (s : SubStream)
     → ((sends : Bool) → moments g (place_in_sub_stream port s sends) ≡ moments h (place_in_sub_stream port s sends))
-    → port_keys g port s
-    ≡ port_keys h port s
+    → port_keys g port s ≡ port_keys h port s
 unfolding port_keys
 seat_same plan g h port s same = by_seat (sends_it port s) (receives_it port s)
   where
@@ -150,8 +148,7 @@ not_ending port s d here = let other = in_not_out port.side in grind (arith, nat
 
 -- what each end of a unit keeps of the keys, all ends keep
 pub ends_keep : (P : Keys → Type 0) → ((ks : Keys) → P ks → P (ended_keys ks.first ks.second))
-    → (port : PortName) (s : SubStream)
-    (ds : List SealedPacket) (ks : Keys) → P ks → P (after_ends port s ds ks)
+    → (port : PortName) (s : SubStream) (ds : List SealedPacket) (ks : Keys) → P ks → P (after_ends port s ds ks)
 ends_keep P kept port s [] ks holds = holds
 ends_keep P kept port s (d ∷ ds) ks holds = ends_keep P kept port s ds _ (by_test (ends_port_unit port s d))
   where
@@ -197,8 +194,7 @@ sealed plan h e ds law port s = by_seat (sends_it port s) (receives_it port s) r
 -- an event that brings something is no operation
 brings : (plan : Plan) (h : History) (e : Event) (w : Verdict) (p : KeyPlace) (port : PortName) (bytes : List ℕ)
     → arrival_of_event plan h e ≡ Some (record { port = port; bytes = bytes })
-    → touches (manager h).ops (draws_made h) e w p
-    ≡ came p w
+    → touches (manager h).ops (draws_made h) e w p ≡ came p w
 unfolding arrival_of_event
 brings plan h (Establish l s lose) w p port bytes is = absurd cc
 brings plan h (Refresh l s lose) w p port bytes is = absurd cc

@@ -135,7 +135,6 @@ based plan ((e, w) ∷ h) cause p =
 
 -- a draw that is On
 pub on_from : (plan : KeyPlan) (h : History) → KeyCauseLaw plan h → (p : KeyPlace) (set : Bool) (j : ℕ)
-    → draw_on_at h p set
-    ≡ Some j → base h p.line p.stream ≤ j
+    → draw_on_at h p set ≡ Some j → base h p.line p.stream ≤ j
 on_from plan h cause p set j on = owned_on (From (base h p.line p.stream)) (keys p.sends (moments h p)) set j
     (based plan h cause p).keys_from on

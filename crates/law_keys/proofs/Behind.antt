@@ -74,9 +74,8 @@ operated_no_seal f w r p = grind arith
 came_no_seal : (p : KeyPlace) (x : Verdict) → is_sealed x ≡ false → NoSeal (came p x)
 came_no_seal p x none = grind arith
 
-pub touches_no_seal : (ops : ℕ → ℕ → StreamStage) (next : ℕ) (e : Event) (x : Verdict) (p : KeyPlace) → is_sealed x
-    ≡ false
-    → NoSeal (touches ops next e x p)
+pub touches_no_seal : (ops : ℕ → ℕ → StreamStage) (next : ℕ) (e : Event) (x : Verdict) (p : KeyPlace)
+    → is_sealed x ≡ false → NoSeal (touches ops next e x p)
 touches_no_seal ops next (event.Establish l s lose) x p none =
     operated_no_seal (is_on_stream p l s) (work_of op.Establish (ops l s) next) (reach_of op.Establish x) p
 touches_no_seal ops next (event.Refresh l s lose) x p none = operated_no_seal (is_on_stream p l s)

@@ -22,9 +22,8 @@ pub on_same : (p : KeyPlace) (line stream : ℕ) → (p.line ≡ line) × (p.str
     ≡ true
 on_same p line stream same = elsewhere p line stream (λ (x y : ℕ). is_on_stream p x y ≡ true) same (on_its_stream p)
 
-stopped_op : (line : ℕ) (q : StreamStage) (next : ℕ) → op_after_reach (is_hosted line) (work_of op.Stop q next)
-    (whole line op.Stop)
-    ≡ Idle
+stopped_op : (line : ℕ) (q : StreamStage) (next : ℕ)
+    → op_after_reach (is_hosted line) (work_of op.Stop q next) (whole line op.Stop) ≡ Idle
 stopped_op line q next = grind arith
 
 -- the verdict names the line of the event
@@ -138,8 +137,7 @@ alone_kept s ts j set i is kept = grind arith
 
 establish_settles : (plan : KeyPlan) (h : History) (line stream : ℕ) (loss : Option Loss) (l t j : ℕ)
     → KeyCauseLaw plan ((event.Establish line stream loss, v.Established l t j) ∷ h)
-    → SettledAt h (event.Establish line stream loss)
-    (v.Established l t j)
+    → SettledAt h (event.Establish line stream loss) (v.Established l t j)
 establish_settles plan h line stream loss l t j cause =
     ((established_draw plan h line stream loss l t j cause.0).1, places)
   where

@@ -10,9 +10,7 @@ use Rattle.law_keys.proofs.Terms.{exchanges_establish, exchanges_refresh, kept_o
 
 -- what a place holds in such a state
 pub in_state : (plan : KeyPlan) (h : History) → KeyCauseLaw plan h → (p : KeyPlace) (q : StreamStage)
-    → op_of h p.line p.stream
-    ≡ q
-    → FitsAt q (draws h) p (moments h p)
+    → op_of h p.line p.stream ≡ q → FitsAt q (draws h) p (moments h p)
 in_state plan h cause p q is = subst (λ (x : StreamStage). FitsAt x (draws h) p (moments h p)) is (fits plan h cause p)
 
 -- ---- what is kept and what is On at a place in each state
@@ -61,9 +59,8 @@ up_keyed : (q : StreamStage) (top : ℕ) (u : Marks) (p : KeyPlace) (sh : Shape)
 up_keyed q top u p sh up fits = grind arith
 
 -- then each of its places has a key that is On
-pub keyed_up : (plan : KeyPlan) (h : History) → KeyCauseLaw plan h → (p : KeyPlace) → is_up (op_of h p.line p.stream)
-    ≡ true
-    → keeps_live (place_keys h p) ≡ true
+pub keyed_up : (plan : KeyPlan) (h : History) → KeyCauseLaw plan h → (p : KeyPlace)
+    → is_up (op_of h p.line p.stream) ≡ true → keeps_live (place_keys h p) ≡ true
 keyed_up plan h cause p up =
     let at = fits plan h cause p in rw at.is.are
     (up_keyed (op_of h p.line p.stream) (draws h) (marks (moments h p)) p at.shape up at.fits)

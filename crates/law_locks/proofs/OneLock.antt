@@ -110,8 +110,7 @@ granted plan h n port unit p head reads is =
     (is_on_bound unit.stream unit.draw (requester_bound (grant_at plan h) port head)) refl (read_head_of p.head) reads
     is
   where
-    by : (a c b bound : Bool)
-        → is_on_bound unit.stream unit.draw (requester_bound (grant_at plan h) port head) ≡ bound
+    by : (a c b bound : Bool) → is_on_bound unit.stream unit.draw (requester_bound (grant_at plan h) port head) ≡ bound
         → (r : Result HeadView TlpFault) → r ≡ Ok head
         → is_admitted_effect (if a then effect.Sync else if c then switch_effect
         else if b then host_effect plan (grant_at plan h) n port unit p r
@@ -135,9 +134,8 @@ pub record Runs (h : History) (x : Site) (draw : ℕ) : Type 0 where
   pub view : view_at h x ≡ Running
   pub floor : floor_at h x ≤ draw
 
-pub on_bound : (stream draw : ℕ) (view : View) (own floor : ℕ) → is_on_bound stream draw (bound_if view own floor)
-    ≡ true
-    → (view ≡ Running) × (floor ≤ draw)
+pub on_bound : (stream draw : ℕ) (view : View) (own floor : ℕ)
+    → is_on_bound stream draw (bound_if view own floor) ≡ true → (view ≡ Running) × (floor ≤ draw)
 on_bound stream draw Running own floor is = (refl, grind (arith, nat_tests, is))
 on_bound stream draw view own floor is = absurd cc
 
@@ -151,9 +149,8 @@ owner_runs plan h link stream draw x (Some rid) owns is =
     let both = on_bound stream draw (view_at h x) x.plan.stream (floor_at h x) there in
     record { view = both.0; floor = both.1 }
 
-pub number_owned : (plan : Plan) (link : ℕ) (o : Option ℕ) (x : Site) → option_and_then (site_of_requester plan link) o
-    ≡ Some x
-    → site_at plan x.number ≡ Some x
+pub number_owned : (plan : Plan) (link : ℕ) (o : Option ℕ) (x : Site)
+    → option_and_then (site_of_requester plan link) o ≡ Some x → site_at plan x.number ≡ Some x
 number_owned plan link None x owns = absurd cc
 number_owned plan link (Some rid) x owns =
     found_by_number plan (λ y. (y.link == link) && (y.plan.requester == rid)) x owns

@@ -126,9 +126,8 @@ lock_turn plan h i loss w x own due has view reported =
     (not_accepted (around_at plan h x) x (event.Interface (ie.Lock i loss)) w (interface_at plan h x)
     (not_carried (i == x.number) (carries w 3) none)) (has was.0 was.1)
 
-own_turn : (plan : Plan) (h : History) (e : InterfaceEvent) (w : Verdict) (x : Site)
-    → site_at plan x.number ≡ Some x → is_number (number_in e) x.number ≡ true
-    → InterfaceCause plan ((event.Interface e, w) ∷ h) → HasReport plan h x
+own_turn : (plan : Plan) (h : History) (e : InterfaceEvent) (w : Verdict) (x : Site) → site_at plan x.number ≡ Some x
+    → is_number (number_in e) x.number ≡ true → InterfaceCause plan ((event.Interface e, w) ∷ h) → HasReport plan h x
     → HasReport plan ((event.Interface e, w) ∷ h) x
 own_turn plan h (ie.Lock i loss) w x at own cause has =
     lock_turn plan h i loss w x own (due_own plan h x (ie.Lock i loss) i w at refl own cause.0) has

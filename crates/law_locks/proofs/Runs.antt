@@ -258,9 +258,8 @@ pub other_not : (x : Site) (e : InterfaceEvent) (w : Verdict) → is_number (num
 other_not x (ie.Lock i loss) w other = rw other refl
 other_not x e w other = refl
 
-turn : (plan : Plan) (locks j : ℕ) (h : History) (e : Event) (w : Verdict) (x : Site)
-    → site_at plan x.number ≡ Some x → InterfaceCause plan ((e, w) ∷ h) → j < draws h → Since plan locks j h x
-    → Since plan locks j ((e, w) ∷ h) x
+turn : (plan : Plan) (locks j : ℕ) (h : History) (e : Event) (w : Verdict) (x : Site) → site_at plan x.number ≡ Some x
+    → InterfaceCause plan ((e, w) ∷ h) → j < draws h → Since plan locks j h x → Since plan locks j ((e, w) ∷ h) x
 turn plan locks j h (event.Interface e) w x at cause less since =
     elim (cases_Bool (is_number (number_in e) x.number)) [
       | inl own ↦ own_turn plan locks j h e w x at own cause less since
@@ -299,9 +298,8 @@ later plan locks j b ((e, w) ∷ since) older x at cause before =
 -- from where a draw was admitted of an interface to where it is admitted again
 pub one_lock : (plan : Plan) (j : ℕ) (b : Begun) (since older : History) (x : Site) → site_at plan x.number ≡ Some x
     → InterfaceCause plan (since ++ older) → begun_of_draw (manager older).begun j ≡ Some b
-    → (managed_view older x).started ≡ true → view_at older x ≡ Running
-    → view_at (since ++ older) x ≡ Running → floor_at (since ++ older) x ≤ j
-    → locks_accepted plan (since ++ older) x ≡ locks_accepted plan older x
+    → (managed_view older x).started ≡ true → view_at older x ≡ Running → view_at (since ++ older) x ≡ Running
+    → floor_at (since ++ older) x ≤ j → locks_accepted plan (since ++ older) x ≡ locks_accepted plan older x
 one_lock plan j b since older x at cause made started runs again floor =
     by (later plan (locks_accepted plan older x) j b since older x at cause (record {
       made = made;

@@ -49,8 +49,7 @@ pub record IsReported (plan : Plan) (h : History) (x : Site) : Type 0 where
   pub report : List ℕ
   pub older : History
   pub since : History
-  pub came : since ++ (event.Interface (ie.Report x.number loss), v.Interface (iv.Reported x.number report)) ∷ older
-      ≡ h
+  pub came : since ++ (event.Interface (ie.Report x.number loss), v.Interface (iv.Reported x.number report)) ∷ older ≡ h
   pub same_lock : locks_accepted plan older x ≡ locks_accepted plan h x
   pub report_is : report ≡ interface_report_bytes x.plan (registers_locked plan h x) x.plan.flags x.plan.offset
 

@@ -113,15 +113,12 @@ no_forward plan fits e late link Upstream known same =
 
 -- ---- one packet
 
-peer_fit : (plan : Plan) (h : History) (bytes : List ℕ) (trusted : Bool) (d : SealedPacket)
-    → is_peer plan d.port ≡ true → SealFits plan h bytes trusted d
-    → PeerSealFits plan h (owners_link plan d.port) bytes d
-peer_fit plan h bytes trusted d peer fit = fit.t_is
-    ∙ ap (λ (t : Bool). if d.sync then false else t) (rw peer refl)
+peer_fit : (plan : Plan) (h : History) (bytes : List ℕ) (trusted : Bool) (d : SealedPacket) → is_peer plan d.port ≡ true
+    → SealFits plan h bytes trusted d → PeerSealFits plan h (owners_link plan d.port) bytes d
+peer_fit plan h bytes trusted d peer fit = fit.t_is ∙ ap (λ (t : Bool). if d.sync then false else t) (rw peer refl)
 
 bound_at : (plan : Plan) → FitsPlan plan → StreamsFit plan → DrawFacts plan
-    → (h : History) (e : Event) (port : PortName)
-    (unit : UnitName) (effects : List Effect)
+    → (h : History) (e : Event) (port : PortName) (unit : UnitName) (effects : List Effect)
     → CauseLaw plan ((e, Accepted port unit effects) ∷ h) → NoForgery plan ((e, Accepted port unit effects) ∷ h)
     → AreBound plan h e (Accepted port unit effects)
 bound_at plan whole fits facts h e port unit effects cause forged late n p is has_t =

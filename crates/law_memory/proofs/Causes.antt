@@ -127,8 +127,7 @@ own_t plan h port head stream trusted own = by port.side refl
     owner : Option Site
     owner = owner_site plan (owners_link plan port) head
 
-    by : (side : Side) → port.side ≡ side
-        → (if at_switch plan (record { side = side; line = port.line }) then trusted
+    by : (side : Side) → port.side ≡ side → (if at_switch plan (record { side = side; line = port.line }) then trusted
         else t_at plan h (record { side = side; line = port.line }) owner stream trusted)
         ≡ t_at plan h (record { side = side; line = port.line }) owner stream trusted
     by Host is = host_t (not (has_link plan port.line) && (nat_le 16 port.line && nat_lt port.line 24))

@@ -146,8 +146,7 @@ answers_link : (plan : Plan) (h : History) (link : ℕ) (ds : List SealedPacket)
 unfolding due
 answers_link plan h link ds is = by (has_link plan link) refl is
   where
-    by : (b : Bool) → has_link plan link ≡ b
-        → Sealed ds ≡ (if b
+    by : (b : Bool) → has_link plan link ≡ b → Sealed ds ≡ (if b
         then answer_first plan h (sending_port plan (event.Access (ae.Answer link))) (waiting_reads plan h link)
         (outgoing_completion plan h link) else v.Nothing) → has_link plan link ≡ true
     by true known is = known
@@ -213,9 +212,8 @@ leaving_far plan fits link Upstream less = let most = fits.links_most in omega (
 
 -- of a packet of a link's device
 pub sealing_of : (plan : Plan) → FitsPlan plan → (h : History) → CauseLaw plan h
-    → (k : ℕ) (d : SealedPacket) (p : Packet)
-    → d.port.side ≡ Device → d.port.line < length plan.links → slice_get (sealed_packets plan h) k ≡ Some (d, p)
-    → Sealing plan h k d p
+    → (k : ℕ) (d : SealedPacket) (p : Packet) → d.port.side ≡ Device → d.port.line < length plan.links
+    → slice_get (sealed_packets plan h) k ≡ Some (d, p) → Sealing plan h k d p
 sealing_of plan fits h cause k d p device less is =
     sealing_by plan h cause k d p (λ link known same. host_or_device d.port link same device)
     (λ link way known same. leaving_far plan fits link way

@@ -112,8 +112,7 @@ dropped_by plan h port i n draw cause None out is = dropped_number i n cause blo
 dropped_by plan h port i n draw cause (Some b) out is =
     by (binding_cause b (stream_taken out) draw) is
   where
-    admitted : (r : Bool) → v.Access (av.Dropped i cause)
-        ≡ (if r
+    admitted : (r : Bool) → v.Access (av.Dropped i cause) ≡ (if r
         then v.Interface (iv.RefusedRefreshFirst (draw_of (live_key h port (lane_out port b.stream Cpl))) b.floor)
         else send_due plan h port out false true) → n ≡ i
     admitted true is = absurd cc
@@ -209,8 +208,7 @@ host_t : (plan : Plan) (h : History) (link : ℕ) (owner : Option Site) (stream 
     → t_at plan h (record { side = Host; line = link }) owner stream true ≡ true
 host_t plan h link owner stream has = by (nat_le 24 link) (nat_lt link (length plan.links)) has
   where
-    by : (late there : Bool) → there ≡ true
-        → (if late && not there then peer_t plan h owner stream else true) ≡ true
+    by : (late there : Bool) → there ≡ true → (if late && not there then peer_t plan h owner stream else true) ≡ true
     by late there is = grind arith
 
 carried : (plan : Plan) (h : History) (link : ℕ) (x : Site) (bound : Binding) (port : PortName) (stream : ℕ)

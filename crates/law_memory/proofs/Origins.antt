@@ -214,8 +214,7 @@ no_head head is =
     omega (arith, size, head_size_at_least (get_or (head_bytes head) 0 0))
 
 pub head_of : (bytes : List ℕ) (head : HeadView) (r : Result Tlp TlpFault) → read_of bytes ≡ r
-    → read_head_of (head_in r)
-    ≡ Ok head → (t : Tlp) × (r ≡ Ok t) × (header t ≡ head)
+    → read_head_of (head_in r) ≡ Ok head → (t : Tlp) × (r ≡ Ok t) × (header t ≡ head)
 head_of bytes head (Ok t) reads is =
     let again = (read_head_spells (header t) (head_bytes (header t))).0 (is_read bytes t reads).head in
     (t, refl, cc (again, is))
@@ -296,8 +295,7 @@ some_same p q e = cc (e)
 
 -- packet n of the unit, if it is admitted
 pub origin_of : (plan : Plan) → FitsPlan plan → StreamsFit plan → DrawFacts plan
-    → (h : History) (e : Event) (port : PortName)
-    (unit : UnitName) (effects : List Effect)
+    → (h : History) (e : Event) (port : PortName) (unit : UnitName) (effects : List Effect)
     → CauseLaw plan ((e, Accepted port unit effects) ∷ h) → NoForgery plan ((e, Accepted port unit effects) ∷ h)
     → (n : ℕ) (p : Packet) → Admitted plan h port unit p → slice_get (unit_ended plan h e port unit) n ≡ Some p
     → IsFrom plan h port unit p (length (accepted_packets plan h (received_in port unit) unit.draw) + n)
@@ -363,8 +361,7 @@ origin_of plan whole fits facts h e port unit effects cause forged n p adm stand
     }
 
 origin_at : (plan : Plan) → FitsPlan plan → StreamsFit plan → DrawFacts plan
-    → (h : History) (e : Event) (port : PortName)
-    (unit : UnitName) (effects : List Effect)
+    → (h : History) (e : Event) (port : PortName) (unit : UnitName) (effects : List Effect)
     → CauseLaw plan ((e, Accepted port unit effects) ∷ h) → NoForgery plan ((e, Accepted port unit effects) ∷ h)
     → AreFrom plan h e (Accepted port unit effects)
 origin_at plan whole fits facts h e port unit effects cause forged n w p is stands =

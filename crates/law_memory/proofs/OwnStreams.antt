@@ -67,9 +67,8 @@ found_all P test (y ∷ ys) x all is = by (test y) is (found_all P test ys x all
     by true is more = let same : y ≡ x = cc (is) in subst P same all.0
     by false is more = more is
 
-pub own_stream : (plan : Plan) → FitsPlan plan → (link requester : ℕ) (x : Site) → site_of_requester plan link requester
-    ≡ Some x
-    → own_has_id (slice_get plan.links x.link) x.plan.stream ≡ true
+pub own_stream : (plan : Plan) → FitsPlan plan → (link requester : ℕ) (x : Site)
+    → site_of_requester plan link requester ≡ Some x → own_has_id (slice_get plan.links x.link) x.plan.stream ≡ true
 unfolding sites
 own_stream plan fits link requester x is =
     found_all (HasOwn plan.links) (λ y. (y.link == link) && (y.plan.requester == requester)) (sites plan) x

@@ -83,8 +83,7 @@ queued_at plan policy w port unit (q ∷ ps) (suc n) p is at =
 -- ---- the law
 
 accepted_from : (plan : Plan) → FitsPlan plan → StreamsFit plan → DrawFacts plan
-    → (h : History) (e : Event) (port : PortName)
-    (unit : UnitName) (effects : List Effect)
+    → (h : History) (e : Event) (port : PortName) (unit : UnitName) (effects : List Effect)
     → CauseLaw plan ((e, Accepted port unit effects) ∷ h) → NoForgery plan ((e, Accepted port unit effects) ∷ h)
     → QueuedFrom plan h e (Accepted port unit effects)
 accepted_from plan whole fits facts h e port unit effects cause forged n p is stands =

@@ -280,9 +280,8 @@ shut_at p r (suc (suc (suc (suc zero)))) shut = moved_shut (slice_index r.bars 4
 shut_at p r (suc (suc (suc (suc (suc zero))))) shut = moved_shut (slice_index r.bars 5) (slice_get p.bars 5) shut
 shut_at p r (suc (suc (suc (suc (suc (suc n)))))) shut = refl
 
-guarded_at : (plan : Plan) (h : History) (x : Site) (bar : ℕ) → IsLocked plan h x → has_open_range x.plan.bars bar
-    ≡ false
-    → is_guarded (device_status plan h x) bar ≡ true
+guarded_at : (plan : Plan) (h : History) (x : Site) (bar : ℕ) → IsLocked plan h x
+    → has_open_range x.plan.bars bar ≡ false → is_guarded (device_status plan h x) bar ≡ true
 guarded_at plan h x bar held shut =
     let t = interface_at plan h x in
     let layout = layout_at plan h x in

@@ -64,9 +64,8 @@ not_own plan x i y known other apart link =
     ]
 
 -- a happening at the interface that is asked, and at another of the same link
-here : (h : ℕ → Happened) (zero b : Bool) (place bar : ℕ) (older : List Happened)
-    → clears (h place) place bar ≡ zero → stored_write (h place) place bar ≡ None
-    → Clears (happens_if (true && b) (h place)) (b && zero) older place bar
+here : (h : ℕ → Happened) (zero b : Bool) (place bar : ℕ) (older : List Happened) → clears (h place) place bar ≡ zero
+    → stored_write (h place) place bar ≡ None → Clears (happens_if (true && b) (h place)) (b && zero) older place bar
 here h zero true place bar older is none = rw (is, none) refl
 here h zero false place bar older is none = refl
 

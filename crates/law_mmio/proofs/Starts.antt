@@ -77,9 +77,8 @@ secure_on h x is =
 
 -- ---- only a start brings an interface into RUN
 
-start_held : (t : Tdi) (nonce : List ℕ) → is_run t.state ≡ false → is_run (tdi_after t (StartInterface nonce)).state
-    ≡ true
-    → Held t.state
+start_held : (t : Tdi) (nonce : List ℕ) → is_run t.state ≡ false
+    → is_run (tdi_after t (StartInterface nonce)).state ≡ true → Held t.state
 start_held t nonce rests runs = by t.state rests runs
   where
     by : (s : TdiState) → is_run s ≡ false → is_run (tdi_after (record t { state = s }) (StartInterface nonce)).state

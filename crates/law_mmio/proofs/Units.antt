@@ -66,8 +66,7 @@ one_packet : (plan : Plan) (policy : Policy) (n link : ℕ) (unit : UnitName) (p
 one_packet plan policy n link unit p place bar payload off older =
     by (is_sync_packet p) (at_switch plan (device_port link)) off
   where
-    by : (s c : Bool) → c ≡ false
-        → writes_since (cons_option
+    by : (s c : Bool) → c ≡ false → writes_since (cons_option
         (if s then None else tlp_happened (policy.statuses link) unit p.prefix.t payload (read_head_of p.head)) older)
         place bar
         ≡ cons_option (if_stored

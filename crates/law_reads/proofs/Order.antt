@@ -171,9 +171,8 @@ cause_waits : (o : Option BlockCause) → cause_effect o ≡ effect.Queued → �
 cause_waits None is = absurd cc
 cause_waits (Some c) is = absurd cc
 
-claim_waits : (o : Option Claim) (s : Span) (t : Bool) (stream draw : ℕ) → claim_effect o s t stream draw
-    ≡ effect.Queued
-    → ⊥
+claim_waits : (o : Option Claim) (s : Span) (t : Bool) (stream draw : ℕ)
+    → claim_effect o s t stream draw ≡ effect.Queued → ⊥
 claim_waits None s t stream draw is = absurd cc
 claim_waits (Some c) s t stream draw is = cause_waits (mmio_cause c.status c.range s t stream draw) is
 

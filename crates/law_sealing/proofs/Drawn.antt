@@ -41,14 +41,12 @@ drawn_finds : (kp : KeyPlan) (next : ℕ) (o : Operation) (w : Verdict)
     → FindsBy kp.pool next o (begun_if_pool_has kp next w)
 drawn_finds kp next o w = by_pool (nat_lt next kp.pool) refl
   where
-    by_pool : (b : Bool) → nat_lt next kp.pool ≡ b
-        → FindsBy kp.pool next o (if b then w else v.RefusedPoolEmpty next)
+    by_pool : (b : Bool) → nat_lt next kp.pool ≡ b → FindsBy kp.pool next o (if b then w else v.RefusedPoolEmpty next)
     by_pool true is = inl (grind (arith, nat_tests))
     by_pool false is = inr refl
 
-establish_finds : (kp : KeyPlan) (line next : ℕ) (o : StreamStage) (w : Verdict) → (work_of op.Establish o next).begins
-    ≡ true
-    → FindsBy kp.pool next op.Establish (may_establish kp line next o w)
+establish_finds : (kp : KeyPlan) (line next : ℕ) (o : StreamStage) (w : Verdict)
+    → (work_of op.Establish o next).begins ≡ true → FindsBy kp.pool next op.Establish (may_establish kp line next o w)
 establish_finds kp line next Idle w begins = drawn_finds kp next op.Establish w
 establish_finds kp line next (Establishing j n) w begins = absurd cc
 establish_finds kp line next _ w begins = inr refl

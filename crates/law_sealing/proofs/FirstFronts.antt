@@ -64,9 +64,8 @@ abbrev pub sum_sent : Plan → History → SubStream → ℕ → ℕ → ℕ
 sum_sent plan h s from j = total from j (λ i. units_sent plan h s i)
 
 pub front_is : (plan : Plan) → StreamsFit plan → DrawFacts plan → (h : History) → CauseLaw plan h
-    → (s : SubStream) (j : ℕ) → IsSealedIn plan h s j
-    → base h s.line s.stream ≤ j → ahead_sent plan h s j 1 ≡ ahead_of_unit plan s 1
-    (sum_sent plan h s (base h s.line s.stream) j)
+    → (s : SubStream) (j : ℕ) → IsSealedIn plan h s j → base h s.line s.stream ≤ j
+    → ahead_sent plan h s j 1 ≡ ahead_of_unit plan s 1 (sum_sent plan h s (base h s.line s.stream) j)
 unfolding sealed_packets ahead_sent units
 front_is plan fits facts [] law s j x up = let none = x.stands in absurd cc
 front_is plan fits facts ((e, Sealed ds) ∷ h) law s j x up =

@@ -40,9 +40,8 @@ pub record PlaceAmong (xs : SealedList) (s : SubStream) (j m : ℕ) (p : Packet)
   pub listed : slice_get (filter (is_sealed_under s j) xs) m ≡ Some sealed
   pub before : sub_stream_packets (take place xs) s j ≡ take m (sub_stream_packets xs s j)
 
-pub place_among : (xs : SealedList) (s : SubStream) (j m : ℕ) (p : Packet) → slice_get (sub_stream_packets xs s j) m
-    ≡ Some p
-    → PlaceAmong xs s j m p
+pub place_among : (xs : SealedList) (s : SubStream) (j m : ℕ) (p : Packet)
+    → slice_get (sub_stream_packets xs s j) m ≡ Some p → PlaceAmong xs s j m p
 unfolding sub_stream_packets
 place_among [] s j m p is = absurd cc
 place_among (x ∷ xs) s j m p is = by_test (is_sealed_under s j x) refl m is (place_among xs s j)
@@ -77,10 +76,8 @@ place_among (x ∷ xs) s j m p is = by_test (is_sealed_under s j x) refl m is (p
 
 -- its spelling
 packet_fits : (plan : Plan) (ahead bytes : List ℕ) (d : SealedPacket) (unfinished : List Packet) (t : Tlp)
-    → read_of bytes
-    ≡ Ok t
-    → (d.sync ≡ false → class_of (header t) ≡ d.sub) → (d.sync ≡ true → IsSyncOf d) → FitsPrefix (prefix_of d)
-    → FitsPacket (packet_of plan ahead bytes d unfinished)
+    → read_of bytes ≡ Ok t → (d.sync ≡ false → class_of (header t) ≡ d.sub) → (d.sync ≡ true → IsSyncOf d)
+    → FitsPrefix (prefix_of d) → FitsPacket (packet_of plan ahead bytes d unfinished)
 unfolding packet_of
 packet_fits plan ahead bytes d unfinished t reads class is_sync fits = elim (cases_Bool d.sync) [
   | inl sync ↦

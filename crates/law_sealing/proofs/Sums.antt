@@ -42,9 +42,8 @@ pub element_behind : {A : Type 0} (xs : List A) (x : A) (ys : List A) → slice_
 element_behind [] x ys = refl
 element_behind (z ∷ xs) x ys = element_behind xs x ys
 
-pub sub_stream_packets-append : (xs ys : SealedList) (s : SubStream) (k : ℕ) → sub_stream_packets (xs ++ ys) s k
-    ≡ sub_stream_packets xs s k
-    ++ sub_stream_packets ys s k
+pub sub_stream_packets-append : (xs ys : SealedList) (s : SubStream) (k : ℕ)
+    → sub_stream_packets (xs ++ ys) s k ≡ sub_stream_packets xs s k ++ sub_stream_packets ys s k
 unfolding sub_stream_packets
 sub_stream_packets-append xs ys s k = rw (filter-append, map-append) refl
 

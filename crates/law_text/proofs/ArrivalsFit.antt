@@ -127,10 +127,9 @@ record FitsArrival (plan : Plan) (a : Arrival) : Type 0 where
 same_arrival : (a b : Arrival) → Some a ≡ Some b → a ≡ b
 same_arrival a b is = cc
 
-brought_fits : (plan : Plan) → FitsPlan plan → (h : History) (n : ℕ) (x : SealedPacket × Packet) (bytes : List ℕ)
-    (a : Arrival)
-    → Known plan h n x → length bytes ≤ length (packet_bytes x.1) → Some (arrival_at_partner plan x bytes) ≡ Some a
-    → FitsArrival plan a
+brought_fits : (plan : Plan) → FitsPlan plan
+    → (h : History) (n : ℕ) (x : SealedPacket × Packet) (bytes : List ℕ) (a : Arrival) → Known plan h n x
+    → length bytes ≤ length (packet_bytes x.1) → Some (arrival_at_partner plan x bytes) ≡ Some a → FitsArrival plan a
 brought_fits plan fits h n x bytes a known small is =
     subst (FitsArrival plan) (same_arrival (arrival_at_partner plan x bytes) a is)
     (record {

@@ -225,9 +225,8 @@ bind_fits plan x s line stream loss site stands at =
     (unless_fits plan loss 1 _ (omega arith)
     (bound_fits plan x line answer site at (bind_code s.tdi stream (s.around.live stream))))))
 
-unbound_fits : (plan : Plan) (x : Site) (line : ℕ) (answer : Result (Unit {0}) ℕ) → SiteFits x → is_peer_line line
-    ≡ true
-    → ((code : ℕ) → answer ≡ Err code → code < 2 ^ 64) → Fits plan (unbound_as x line answer)
+unbound_fits : (plan : Plan) (x : Site) (line : ℕ) (answer : Result (Unit {0}) ℕ) → SiteFits x
+    → is_peer_line line ≡ true → ((code : ℕ) → answer ≡ Err code → code < 2 ^ 64) → Fits plan (unbound_as x line answer)
 unbound_fits plan x line (Ok done) site at codes = (site.number, at)
 unbound_fits plan x line (Err code) site at codes = (omega arith, codes code refl)
 

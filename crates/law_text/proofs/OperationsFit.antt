@@ -167,9 +167,8 @@ where_known plan fits line stream x each = by_test (is_some (stream_plan plan li
     by_test false is = tt
 
 -- of an operation that links alone have
-on_link : (plan : Plan) → FitsPlan plan → (line stream : ℕ) (x : Verdict)
-    → (FitsStream plan line stream → Fits plan x) → (b : Bool)
-    → Fits plan (if b && is_some (stream_plan plan line stream) then x else v.Nothing)
+on_link : (plan : Plan) → FitsPlan plan → (line stream : ℕ) (x : Verdict) → (FitsStream plan line stream → Fits plan x)
+    → (b : Bool) → Fits plan (if b && is_some (stream_plan plan line stream) then x else v.Nothing)
 on_link plan fits line stream x each true = where_known plan fits line stream x each
 on_link plan fits line stream x each false = tt
 

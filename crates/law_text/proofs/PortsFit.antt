@@ -137,8 +137,7 @@ found_is (p ∷ ps) n link id e is =
       has = has;
     }
 
-    by : (a b c : Bool) → (p.id == id) ≡ a
-        → (peer_end ps (n + 1) link id ≡ Some e → IsFound ps (n + 1) id e)
+    by : (a b c : Bool) → (p.id == id) ≡ a → (peer_end ps (n + 1) link id ≡ Some e → IsFound ps (n + 1) id e)
         → (if a && b then Some (host_port (peer_line n)) else if a && c then Some (device_port (peer_line n))
         else peer_end ps (n + 1) link id) ≡ Some e → IsFound (p ∷ ps) n id e
     by true true c has later is = here (host_port (peer_line n)) refl has is
@@ -189,15 +188,13 @@ found_at plan fits q id is = by (nat_lt q.line 8) refl
     by_hop true low = hop_is plan q.side q.line (ltb-true q.line 8 low)
     by_hop false low = by_side plan fits q.side q.line id itself
 
-    by_own : (b : Bool) → nat_lt q.line 8 ≡ true
-        → is_port (port_beside_end plan.peers (if b then q
+    by_own : (b : Bool) → nat_lt q.line 8 ≡ true → is_port (port_beside_end plan.peers (if b then q
         else if hop_has_id (link_hop (slice_get plan.links q.line)) id then hop_end q.side q.line
         else peer_end_at plan.peers q id)) ≡ true
     by_own true low = itself
     by_own false low = by_hop (hop_has_id (link_hop (slice_get plan.links q.line)) id) low
 
-    by : (b : Bool) → nat_lt q.line 8 ≡ b
-        → is_port (port_beside_end plan.peers (if b then
+    by : (b : Bool) → nat_lt q.line 8 ≡ b → is_port (port_beside_end plan.peers (if b then
         (if own_has_id (slice_get plan.links q.line) id then q
         else if hop_has_id (link_hop (slice_get plan.links q.line)) id then hop_end q.side q.line
         else peer_end_at plan.peers q id) else q)) ≡ true

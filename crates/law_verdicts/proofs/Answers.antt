@@ -145,8 +145,7 @@ completes plan h link ds answered end =
       ends_unit = end.ends_unit;
       before = before;
       packet = packet;
-      stands = sealed_now plan h e ds
-          ∙ (ap (λ (zs : List SealedPacket). with_sealed plan ahead bytes zs xs) end.ends
+      stands = sealed_now plan h e ds ∙ (ap (λ (zs : List SealedPacket). with_sealed plan ahead bytes zs xs) end.ends
           ∙ with_last plan ahead bytes end.ahead end.last xs);
       payload = body t;
       completion = ap (λ (bs : List ℕ). bs ++ body t)

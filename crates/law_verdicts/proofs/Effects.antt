@@ -392,8 +392,7 @@ all_queued plan policy port unit (p ∷ ps) n m counts =
     (all_queued plan policy port unit ps)
 
 abbrev all_full_so : Plan → Policy → PortName → UnitName → List Packet → Type 0
-all_full_so plan policy port unit ps = (n m : ℕ) → Counts n m
-    → map is_full (effects_each plan policy n port unit ps)
+all_full_so plan policy port unit ps = (n m : ℕ) → Counts n m → map is_full (effects_each plan policy n port unit ps)
     ≡ behind_64 m (map (asks_read plan policy.grants port unit) ps)
 
 all_full_step : (plan : Plan) (policy : Policy) (n m : ℕ) (port : PortName) (unit : UnitName) (ps : List Packet)

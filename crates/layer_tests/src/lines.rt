@@ -4,8 +4,8 @@ ghost use Rattle.file_runs.specs.declared.ends.End.TheVariants as end;
 ghost use Rattle.layer_tests.specs.Copies.{copied_line as copied_of, long_copy, whole_copy};
 
 use cli_files::{MemShelf, MemSink, NamedFile};
-use ide_types::{Bytes, OutOfMemory};
 use file_runs::{End, Fault, LineWork, run_file};
+use ide_types::{Bytes, OutOfMemory};
 use run_events::{LINE_LIMIT, LineError, LineFault};
 use std::alloc::Global;
 use std::process::Abort;

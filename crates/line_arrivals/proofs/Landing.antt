@@ -551,8 +551,7 @@ module _ (plan : Plan) (m : InterfacesView) (end0 : PortName) (bytes : List ℕ)
       ∙ sym (all_through plan (end_reached plan end0 bytes) bytes b st at))
 
   -- no such end: these are not the ends of the plan
-  not_there : false ≡ is_some (port_on old end) → (k : KeeperView) → AreLinks plan old k → has_port plan end0 ≡ true
-      → ⊥
+  not_there : false ≡ is_some (port_on old end) → (k : KeeperView) → AreLinks plan old k → has_port plan end0 ≡ true → ⊥
   not_there gone k links has =
       let some = ends_there plan old k links (end_reached plan end0 bytes)
       (reached_there plan links.fits end0 bytes has) in

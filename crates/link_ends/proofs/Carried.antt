@@ -25,9 +25,8 @@ pub keeper_read : (m0 m : ManagerView) (l0 l : LinkEnds) (place id : ℕ) (host 
 keeper_read m0 m l0 l place id host device e on st = ap (λ (vs : List StreamView). slice_get vs place) st.streams ∙
     read_set m0.streams place e.keeper on.within
 
-pub current_is : (m : ManagerView) (place : ℕ) (keeper : StreamView) → m.asking ≡ Some place → slice_get m.streams place
-    ≡ Some keeper
-    → current m ≡ current_asked place keeper (asked_of_unfinished keeper.op)
+pub current_is : (m : ManagerView) (place : ℕ) (keeper : StreamView) → m.asking ≡ Some place
+    → slice_get m.streams place ≡ Some keeper → current m ≡ current_asked place keeper (asked_of_unfinished keeper.op)
 current_is m place keeper asking read = ap (λ (o : Option ℕ). current_in m.streams o) asking ∙ ap
     (λ (o : Option StreamView). current_if_there place o) read
 
@@ -59,9 +58,8 @@ pub not_lost : (loss : Option Loss) (n : ℕ) (came : Exchanged) (x : StreamStat
     → exchanged_unless_lost loss n came x ≡ came
 not_lost loss n came x is = grind (arith, nat_tests)
 
-pub is_lost : (loss : Option Loss) (n : ℕ) (came : Exchanged) (x : StreamState) (k : Lost) → lost_message loss n
-    ≡ Some k
-    → exchanged_unless_lost loss n came x ≡ exchange_if_lost k came x
+pub is_lost : (loss : Option Loss) (n : ℕ) (came : Exchanged) (x : StreamState) (k : Lost)
+    → lost_message loss n ≡ Some k → exchanged_unless_lost loss n came x ≡ exchange_if_lost k came x
 is_lost loss n came x k is = grind (arith, nat_tests)
 
 -- ---- the request reached the device

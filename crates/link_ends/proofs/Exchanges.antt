@@ -82,9 +82,8 @@ moved_there e e' id f x (Some call) side is has at =
     (called_there e e' id f x call is has at)
 
 pub device_goes : (e e' : PortEnd) (id : ℕ) (f : Found) (x : StreamState) (a : NextExchange) (keeper : StreamView)
-    → e.name.side ≡ Device → found_stream e.plans e.states id ≡ Some f → HasStream e id x e'
-    → keeper.id ≡ id → IsAsked true (Some a) → DeviceGoes e id x (object_spelling (request_asked true a keeper)) a.draw
-    e'
+    → e.name.side ≡ Device → found_stream e.plans e.states id ≡ Some f → HasStream e id x e' → keeper.id ≡ id
+    → IsAsked true (Some a) → DeviceGoes e id x (object_spelling (request_asked true a keeper)) a.draw e'
 device_goes e e' id f x a keeper side is has named asked =
     let side' : e'.name.side ≡ Device = ap (λ (p : PortEnd). p.name.side) has ∙ side in
     let shows : SameShown id (λ place. slot_pair_at e' place) (shown_stream id x) = shown_there e' id _ side'

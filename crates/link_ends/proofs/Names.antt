@@ -62,8 +62,7 @@ pub record IsNamed (m : ManagerView) (line id : ℕ) (n : Named) : Type 0 where
   pub sets : (w : StreamView) → slice_set m.streams n.place w ≡ set_named line id w m.streams
 
 by_place : (m : ManagerView) (line id : ℕ) (n : Named) (o : Option ℕ) → stream_place m line id ≡ o
-    → named_in m.streams o
-    ≡ Some n → IsNamed m line id n
+    → named_in m.streams o ≡ Some n → IsNamed m line id n
 by_place m line id n None at is = absurd cc
 by_place m line id n (Some place) at is =
     let p : IsPlaced line id m.streams place = placed line id m.streams place at in

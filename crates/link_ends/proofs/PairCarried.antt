@@ -124,8 +124,7 @@ module _ (m0 m : ManagerView) (l0 l : PairEnds) (place id : ℕ) (near far : Fou
     (after : PairEnds) (reply : List ℕ) (on : IsAtBoth m0 l0 place id near far)
     (st : DiffersInPair m0 l0 place id e m l)
     (asked : IsAsked false (Some a)) where
-  pub is_pair_delivered : (side : Side) → end_asked false a ≡ side
-      → after ≡ with_end side
+  pub is_pair_delivered : (side : Side) → end_asked false a ≡ side → after ≡ with_end side
       (answered_end (end_in side l) (object_spelling (request_asked false a e.keeper)) a.draw) l
       → reply ≡ end_reply (end_in side l) (object_spelling (request_asked false a e.keeper)) a.draw
       → IsPairDelivered l0 id a e after reply

@@ -26,9 +26,8 @@ goes_next : (a : NextExchange) (s : StreamView) → IsAsked false (Some a) → o
 goes_next a s asked is =
     grind (arith, nat_tests, next_asked a.operation (is_one a.set) a.draw a.exchange (a.exchange + 1))
 
-pub still_asked : (a : NextExchange) (j : Judged) (s : StreamView) → IsAsked false (Some a) → outcome_of false a j
-    ≡ outcome.Next
-    → IsAsked false (asked_of_unfinished (taken_stream false a j s).op)
+pub still_asked : (a : NextExchange) (j : Judged) (s : StreamView) → IsAsked false (Some a)
+    → outcome_of false a j ≡ outcome.Next → IsAsked false (asked_of_unfinished (taken_stream false a j s).op)
 still_asked a Expected s asked is = goes_next a s asked is
 still_asked a NotCarried s asked is = absurd cc
 still_asked a (Refused code) s asked is = absurd cc
@@ -67,8 +66,7 @@ walk_asked : (more : ℕ) (loss : Option Loss) (requester : ℕ) (e : PairStream
 walk_asked more loss requester e a asked = rw asked refl
 
 some_asked : (place : ℕ) (s : StreamView) (o : Option NextExchange) → is_some (current_asked place s o) ≡ true
-    → (a : NextExchange)
-    × (o ≡ Some a)
+    → (a : NextExchange) × (o ≡ Some a)
 some_asked place s None is = absurd cc
 some_asked place s (Some a) is = (a, refl)
 
@@ -80,8 +78,7 @@ module _ (more : ℕ) (loss : Option Loss) (m m1 : ManagerView) (l l1 : PairEnds
     asked_is : asked_of_unfinished e.keeper.op ≡ Some asked
     within : IsAsked false (Some asked)
     exchange : IsPairExchanged m0 l0 place id loss asked e r m1 l1
-    walk : pair_walk (suc more) loss 0 e
-        ≡ pair_goes_on r (pair_after asked (pair_exchanged loss 0 asked e) e)
+    walk : pair_walk (suc more) loss 0 e ≡ pair_goes_on r (pair_after asked (pair_exchanged loss 0 asked e) e)
         (pair_walk more loss 0
         (pair_after asked (pair_exchanged loss 0 asked e) e))
 

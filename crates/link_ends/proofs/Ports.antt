@@ -28,9 +28,8 @@ abbrev pub state_moved : PlaceCall → Side → StreamState → StreamState
 state_moved c side x = stream_after_call (sends_in side c.place.direction) (sub_from c.place.sub) c.call x
 
 pub called_there : (e e' : PortEnd) (id : ℕ) (f : Found) (x : StreamState) (c : PlaceCall)
-    → found_stream e.plans e.states id
-    ≡ Some f → HasStream e id x e'
-    → IsAt id c.place → HasStream e id (state_moved c e.name.side x) (called_port c e')
+    → found_stream e.plans e.states id ≡ Some f → HasStream e id x e' → IsAt id c.place
+    → HasStream e id (state_moved c e.name.side x) (called_port c e')
 called_there e e' id f x c is has at =
     let there : stream_at_place e' c.place ≡ Some (record f { state = x }) = rw (at.is_there, at.stream_is)
     (found_there e e' id f x is has) in

@@ -20,8 +20,7 @@ changed_again (s ∷ ss) [] id y z = refl
 changed_again (s ∷ ss) (x ∷ xs) id y z = grind (arith, nat_tests, changed_again ss xs id y z)
 
 pub found_id : (ss : List StreamPlan) (xs : List StreamState) (id : ℕ) (f : Found) → found_stream ss xs id ≡ Some f
-    → f.plan.id
-    ≡ id
+    → f.plan.id ≡ id
 found_id ss xs id f is = found_stream-id ss xs id f is
 
 pub found_plan : (ss : List StreamPlan) (xs : List StreamState) (id : ℕ) (f : Found) → found_stream ss xs id ≡ Some f

@@ -22,9 +22,8 @@ goes_next : (a : NextExchange) (s : StreamView) → IsAsked true (Some a) → ou
 goes_next a s asked is =
     grind (arith, nat_tests, next_asked a.operation (is_one a.set) a.draw a.exchange (a.exchange + 1))
 
-pub still_asked : (a : NextExchange) (j : Judged) (s : StreamView) → IsAsked true (Some a) → outcome_of true a j
-    ≡ outcome.Next
-    → IsAsked true (asked_of_unfinished (taken_stream true a j s).op)
+pub still_asked : (a : NextExchange) (j : Judged) (s : StreamView) → IsAsked true (Some a)
+    → outcome_of true a j ≡ outcome.Next → IsAsked true (asked_of_unfinished (taken_stream true a j s).op)
 still_asked a Expected s asked is = goes_next a s asked is
 still_asked a NotCarried s asked is = absurd cc
 still_asked a (Refused code) s asked is = absurd cc
@@ -63,8 +62,7 @@ walk_asked : (more : ℕ) (loss : Option Loss) (requester : ℕ) (e : StreamEnds
 walk_asked more loss requester e a asked = rw asked refl
 
 some_asked : (place : ℕ) (s : StreamView) (o : Option NextExchange) → is_some (current_asked place s o) ≡ true
-    → (a : NextExchange)
-    × (o ≡ Some a)
+    → (a : NextExchange) × (o ≡ Some a)
 some_asked place s None is = absurd cc
 some_asked place s (Some a) is = (a, refl)
 
@@ -98,8 +96,7 @@ module _ (more : ℕ) (loss : Option Loss) (m m1 : ManagerView) (l l1 : LinkEnds
         asked_is = some.1;
         within = inside;
         exchange = x;
-        walk = walk_asked more loss l0.device.requester e a some.1
-            ∙ ap (λ (o : StreamOutcome). goes_on o
+        walk = walk_asked more loss l0.device.requester e a some.1 ∙ ap (λ (o : StreamOutcome). goes_on o
             (ends_after_exchange a (exchange_outcome loss l0.device.requester a e) e)
             (walk_on more loss l0.device.requester
             (ends_after_exchange a (exchange_outcome loss l0.device.requester a e) e)))

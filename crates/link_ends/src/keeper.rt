@@ -20,11 +20,11 @@ ghost use Rattle.spec_keys.specs.Due.{lost_message};
 use crate::ends::LinkEnds;
 use crate::{Device, PairEnds};
 use ide_types::{OutOfMemory, PortName, StreamStatus, ValidPlan};
+use key_host::{ExchangeReply, Manager, NamedOperation, StageFacts, StreamOutcome};
 use key_slots::KeyPool;
 use run_events::{Loss, Lost};
 use std::alloc::Global;
 use std::marker::Model;
-use key_host::{ExchangeReply, Manager, NamedOperation, StageFacts, StreamOutcome};
 
 /// The room that a request needs, in bytes.
 const REQUEST_ROOM: usize = 49;

@@ -143,8 +143,7 @@ module _ (plan : Plan) (st : LinkState) (h : History) (stands : PortsStandFor pl
       ((λ i. refresh_on (key_plan plan) (know.1 i) (stands.draws_is i) (ports i) (host i) line stream lose) ∙ sym
       (rw (kind, know.0) refl))
 
-  refreshes : (lose : Option Loss) (kind : Bool) → is_link_line line ≡ kind
-      → AllStep plan h (Refresh line stream lose)
+  refreshes : (lose : Option Loss) (kind : Bool) → is_link_line line ≡ kind → AllStep plan h (Refresh line stream lose)
       (if kind then refresh_found plan st line stream lose (find_op plan st line stream) else (v.Nothing, st))
   unfolding due key_due
   refreshes lose true kind = refreshes_there lose kind (find_op plan st line stream) refl

@@ -13,16 +13,13 @@ use Rattle.spec_keys.specs.Operations.{manager_after_operation}
 
 -- ---- one operation is put, and no other
 
-find_op-put : (plan : Plan) (st : LinkState) (line stream : ℕ) (o : StreamStage) → is_some (find_op plan st line stream)
-    ≡ true
-    → find_op plan (put_op plan st line stream o) line stream ≡ Some o
+find_op-put : (plan : Plan) (st : LinkState) (line stream : ℕ) (o : StreamStage)
+    → is_some (find_op plan st line stream) ≡ true → find_op plan (put_op plan st line stream o) line stream ≡ Some o
 unfolding find_op put_op
 find_op-put plan st line stream o is = put_same (streams_of plan line) st.ops line stream o is
 
 find_op-put_other : (plan : Plan) (st : LinkState) (line stream : ℕ) (o : StreamStage) (l s : ℕ)
-    → ((l == line) && (s == stream))
-    ≡ false
-    → find_op plan (put_op plan st line stream o) l s ≡ find_op plan st l s
+    → ((l == line) && (s == stream)) ≡ false → find_op plan (put_op plan st line stream o) l s ≡ find_op plan st l s
 unfolding find_op put_op
 find_op-put_other plan st line stream o l s other = by_link (l == line) refl
   where

@@ -151,8 +151,7 @@ are_stops (ClearTouch ∷ ts) = are_stops ts
 are_stops (_ ∷ ts) = false
 
 stop_only_stops : (q : StreamStage) (next : ℕ) (r : Reach) (p : KeyPlace)
-    → are_stops (work_touches (work_of op.Stop q next) (Some r) p)
-    ≡ true
+    → are_stops (work_touches (work_of op.Stop q next) (Some r) p) ≡ true
 stop_only_stops q next r p = grind arith
 
 stopped_keyed : (k : Bool) (ks : Keys) → keyed_there (with_key ks k Off) ≡ true → keyed_there ks ≡ true

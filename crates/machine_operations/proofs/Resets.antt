@@ -177,8 +177,7 @@ hits e port = if is_between_devices port.line then is_same_side e.side port.side
 hits_end : (e port : PortName) → is_between_devices e.line ≡ true → is_same_port e port ≡ hits e port
 hits_end e port peer = by (e.line == port.line) refl
   where
-    by : (b : Bool) → (e.line == port.line) ≡ b
-        → (is_same_side e.side port.side && b) ≡
+    by : (b : Bool) → (e.line == port.line) ≡ b → (is_same_side e.side port.side && b) ≡
         (if is_between_devices port.line then is_same_side e.side port.side && b else b)
     by true same =
         let line : e.line ≡ port.line = grind (arith, nat_tests) in
@@ -320,8 +319,7 @@ abbrev row_cut : Plan → ℕ → List (List StreamStage) → List (List StreamS
 row_cut plan line rows = slice_set rows line (map (λ (s : StreamPlan). op_when_cut line) (streams_of plan line))
 
 op_seen : (plan : Plan) (rows : List (List StreamStage)) (l : ℕ) → ShapedOps plan rows → (line s : ℕ)
-    → seen_op plan (row_cut plan l rows) line s
-    ≡ (if l == line then cut_op plan line s else seen_op plan rows line s)
+    → seen_op plan (row_cut plan l rows) line s ≡ (if l == line then cut_op plan line s else seen_op plan rows line s)
 op_seen plan rows l shaped line s = by (l == line) refl
   where
     by : (b : Bool) → (l == line) ≡ b → seen_op plan (row_cut plan l rows) line s

@@ -62,8 +62,7 @@ loaded : (s : Bool) (f : ℕ → Bool) (k : Bool) (j : ℕ) (ks : Keys) → refu
 loaded s f k j ks free = grind (arith, nat_tests)
 
 stop_without_outlived : (s : Bool) (f : ℕ → Bool) (k : Bool) (ks : Keys)
-    → without_outlived s f (keys_after_touch s ks (StopTouch k))
-    ≡ with_key ks k Off
+    → without_outlived s f (keys_after_touch s ks (StopTouch k)) ≡ with_key ks k Off
 stop_without_outlived s f k ks = grind (arith, nat_tests)
 
 programs_is : (s k : Bool) (j : ℕ) (ts : List Touch) → refuses s (keys s ts) k ≡ false → keys s (ProgramTouch k j ∷ ts)
@@ -90,9 +89,8 @@ goes_of : (k : Bool) (j : ℕ) (sh : Shape) → Goes k j sh → (on : Bool)
 goes_of k j sh goes = grind (arith, nat_tests)
 
 gone_new : (busy : ℕ → Bool) (k : Bool) (j : ℕ) (ks : Keys) → key_in ks k ≡ Loaded j
-    → ((i : ℕ) → key_in ks (not k) ≡ On i → i < j)
-    → ((i : ℕ) → key_in ks (not k) ≡ Loaded i → ⊥) → without_outlived true busy (keys_after_touch true ks (GoTouch k j))
-    ≡ key_touched_out busy (GoTouch k j) ks
+    → ((i : ℕ) → key_in ks (not k) ≡ On i → i < j) → ((i : ℕ) → key_in ks (not k) ≡ Loaded i → ⊥)
+    → without_outlived true busy (keys_after_touch true ks (GoTouch k j)) ≡ key_touched_out busy (GoTouch k j) ks
 gone_new busy k j ks is older one = grind (arith, nat_tests, older, one)
 
 gone_again : (busy : ℕ → Bool) (k : Bool) (j : ℕ) (ks : Keys) → key_in ks k ≡ On j → without_outlived true busy ks ≡ ks
@@ -226,8 +224,7 @@ module _ (plan : Plan) (h : History) (port : PortName) (s : SubStream) (r : Bool
       rest : InLead (ProgramTouch k j ∷ ts) more (keys false (ProgramTouch k j ∷ ts))
       rest = in_later (ProgramTouch k j ∷ ts) more new come.1 first
 
-      by_answer : (b : Bool) → refuses false (keys false ts) k ≡ b
-          → LeadTo (AllowedIn plan h port s) key_touched_in
+      by_answer : (b : Bool) → refuses false (keys false ts) k ≡ b → LeadTo (AllowedIn plan h port s) key_touched_in
           (if b then taken_touches r more else ProgramTouch k j ∷ taken_touches r more) (keys false ts)
           (keys false (touches_after (ProgramTouch k j ∷ ts) more))
       by_answer true denied = subst (InLead (ProgramTouch k j ∷ ts) more) (refused_is false k j ts denied) rest

@@ -21,8 +21,7 @@ touched_in plan h port s _ keys allowed = refl
 -- ---- senders
 
 new_is : (plan : Plan) (xs : SealedList) (s : SubStream) (j : ℕ) → sub_stream_packets xs s j ≡ []
-    → Live (sealing_key plan xs s j)
-    ≡ Live (new_key plan s j)
+    → Live (sealing_key plan xs s j) ≡ Live (new_key plan s j)
 unfolding units open_unit
 new_is plan xs s j none = rw none refl
 

@@ -56,9 +56,8 @@ known plan h law p false seen there out into =
     (keys_into h port p.stream p.sub))
 
 reads : (plan : Plan) (st : LinkState) (h : History) → PortsStand plan st h
-    → (p : KeyPlace) (at : Option StreamState → Bool) (there : Keys → Bool)
-    → at None ≡ there no_keys → at (Some (stream_state_due plan h (port_at p.side p.line) p.stream))
-    ≡ there (place_keys h p)
+    → (p : KeyPlace) (at : Option StreamState → Bool) (there : Keys → Bool) → at None ≡ there no_keys
+    → at (Some (stream_state_due plan h (port_at p.side p.line) p.stream)) ≡ there (place_keys h p)
     → at (find plan st (port_at p.side p.line) p.stream) ≡ there (place_keys h p)
 reads plan st h stands p at there bare here =
     ap at (stands.streams (port_at p.side p.line) p.stream) ∙ by_known

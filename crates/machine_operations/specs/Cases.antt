@@ -28,8 +28,7 @@ port_plan = record {
   links =
       record {
         nonces = [];
-        streams = record { id = 5; aggregation = 4; closed = false; selector = Selective None [] true }
-            ∷ [];
+        streams = record { id = 5; aggregation = 4; closed = false; selector = Selective None [] true } ∷ [];
         interfaces = [];
         hop = None;
       } ∷ [];

@@ -49,8 +49,7 @@ key_for plan h s j = record
     { draw = j; key = key_of plan j s; units = units_got h s j; packets = pending_packets plan h s j }
 
 live_of : (plan : Plan) (h : History) (port : PortName) (s : SubStream) (ks : Keys) (k : Bool)
-    → has_failed h port s.stream
-    ≡ false
+    → has_failed h port s.stream ≡ false
     → live_in (slot_in_set (rx_slots plan h port s ks) k) ≡ option_map (key_for plan h s) (on_in (key_in ks k))
 live_of plan h port s ks k secure = grind arith
 

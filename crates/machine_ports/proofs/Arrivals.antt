@@ -28,8 +28,7 @@ only_there : (beside : BesidePorts) (port : PortName) (p : Packet) (t : Taken)
 only_there beside port p t q s other = grind arith
 
 seals_nothing : (beside : BesidePorts) (port : PortName) (p : Packet) (t : Taken)
-    → seals_none (verdict_of_taken beside port p t)
-    ≡ true
+    → seals_none (verdict_of_taken beside port p t) ≡ true
 seals_nothing beside port p t = grind arith
 
 module _ (plan : Plan) (facts : KeyFacts plan) (st : LinkState) (h : History) (e : Event) (still : IsNoOperation e)

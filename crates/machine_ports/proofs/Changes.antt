@@ -47,9 +47,8 @@ not_kept plan st h port stream stands found =
 
 -- a stream of which a pair tells nothing stands for the history with the pair
 pub stays : (plan : Plan) → KeyFacts plan → (st : LinkState) (h : History) (e : Event) (w : Verdict)
-    → PortsStand plan st h → w ≡ due plan h e → (q : PortName) (t : ℕ)
-    → operates e q.line t ≡ false → seals_at q t w ≡ false → takes_at q t w ≡ false → find plan st q t
-    ≡ state_due_if_planned plan ((e, w) ∷ h) q t
+    → PortsStand plan st h → w ≡ due plan h e → (q : PortName) (t : ℕ) → operates e q.line t ≡ false
+    → seals_at q t w ≡ false → takes_at q t w ≡ false → find plan st q t ≡ state_due_if_planned plan ((e, w) ∷ h) q t
 stays plan facts st h e w stands is q t still seals takes =
     stands.streams q t ∙ ap (λ (y : StreamState). if has_stream plan q t then Some y else None)
     (sym (frame plan facts h e w (is, stands.cause) q t still seals takes))

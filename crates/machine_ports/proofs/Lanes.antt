@@ -73,7 +73,6 @@ keyless_is plan h port stream u =
     (λ (x : Lane). is_none x.key) (lane_is plan h port stream u (tx u).posted)
 
 pub failed_is : (plan : Plan) (h : History) (port : PortName) (stream : ℕ)
-    → (stream_state_due plan h port stream).failed
-    ≡ has_failed h port stream
+    → (stream_state_due plan h port stream).failed ≡ has_failed h port stream
 unfolding stream_state_due
 failed_is plan h port stream = refl

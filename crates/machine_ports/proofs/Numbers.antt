@@ -20,10 +20,9 @@ numbered packets xs n are = ap (λ (ps : List LinkPacket). packet_numbered ps n)
 
 -- what is made of a packet of that number
 pub of_numbered : {A : Type 0} (packets : List LinkPacket) (xs : SealedList) (n : ℕ) → packets ≡ kept_all xs
-    → (f : Option LinkPacket → A) (g : Option (SealedPacket × Packet) → A)
-    → f None ≡ g None → ((x : SealedPacket × Packet) → f (Some (packet_kept x)) ≡ g (Some x))
-    → f (packet_numbered packets n)
-    ≡ g (packet_by_number xs n)
+    → (f : Option LinkPacket → A) (g : Option (SealedPacket × Packet) → A) → f None ≡ g None
+    → ((x : SealedPacket × Packet) → f (Some (packet_kept x)) ≡ g (Some x))
+    → f (packet_numbered packets n) ≡ g (packet_by_number xs n)
 of_numbered packets xs n are f g none some = ap f (numbered packets xs n are) ∙ by_packet (packet_by_number xs n)
   where
     by_packet : (o : Option (SealedPacket × Packet)) → f (option_map packet_kept o) ≡ g o

@@ -214,8 +214,7 @@ refusal_quiet b class = grind arith
 
 module _ (plan : Plan) (facts : KeyFacts plan) (st : LinkState) (h : History) (stands : PortsStand plan st h)
     (e : Event) (on : is_of_packets e ≡ true) (more trusted : Bool) where
-  pub tells : (port : PortName) (w : Verdict) → is_quiet w ≡ true → w ≡ due plan h e
-      → Steps plan h e (w, st)
+  pub tells : (port : PortName) (w : Verdict) → is_quiet w ≡ true → w ≡ due plan h e → Steps plan h e (w, st)
   tells port w none is = quiet plan facts st h e w stands none is
       (none_of_packets e on)
 

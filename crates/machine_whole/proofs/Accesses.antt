@@ -67,10 +67,9 @@ one_taken : (b : Bool) (n : ℕ) (xs ys : List WaitingRead) → ys ≡ xs
 one_taken true n xs ys same = drop_more n xs ∙ ap (drop (n + 1)) (sym same)
 one_taken false n xs ys same = ap (drop n) (sym same)
 
-pub waiting_is : (plan : Plan) (h : History) (e : Event) (w : Verdict) (ps : List Packet)
-    → CauseLaw plan ((e, w) ∷ h) → AreEnded plan h ps e w
-    → (link : ℕ) → waiting_reads_after plan ps e w link (waiting_reads plan h link)
-    ≡ waiting_reads plan ((e, w) ∷ h) link
+pub waiting_is : (plan : Plan) (h : History) (e : Event) (w : Verdict) (ps : List Packet) → CauseLaw plan ((e, w) ∷ h)
+    → AreEnded plan h ps e w → (link : ℕ)
+    → waiting_reads_after plan ps e w link (waiting_reads plan h link) ≡ waiting_reads plan ((e, w) ∷ h) link
 unfolding reads_taken queued_in
 waiting_is plan h e (v.Accepted port unit effects) ps law units link =
     by ((port_of plan port).line == link) (here_after plan h e (v.Accepted port unit effects) law link)

@@ -30,12 +30,11 @@ use Rattle.run_events.specs.declared.event.Event.TheVariants as event
 use Rattle.run_verdicts.specs.declared.verdict.Operation.TheVariants as op
 use Rattle.run_verdicts.specs.declared.verdict.Verdict.{Verdict}
 use Rattle.run_verdicts.specs.declared.verdict.Verdict.TheVariants as v
-use Rattle.machine_whole.specs.Machine.{draw_after}
+use Rattle.machine_whole.specs.Machine.{draw_after, Whole, op_or_idle, machine_secure, live_if, live_draw_at_end}
+use Rattle.machine_whole.specs.Machine.{ends_in, whole_streams}
 use Rattle.machine_operations.proofs.Statuses.{status_is}
 use Rattle.machine_whole.specs.InterfacesStand.{streams_at, secure_of, ends_read}
 use Rattle.spec_interfaces.specs.Devices.{is_secure}
-use Rattle.machine_whole.specs.Machine.{Whole, op_or_idle, machine_secure, live_if, live_draw_at_end, ends_in}
-use Rattle.machine_whole.specs.Machine.{whole_streams}
 use Rattle.machine_whole.proofs.Accesses.{posted_draw_is}
 use Rattle.ide_types.specs.declared.port.PortName.{PortName}
 use Rattle.ide_types.specs.Lines.{peer_line}

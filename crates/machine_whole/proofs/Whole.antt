@@ -77,8 +77,7 @@ t_says : (plan : Plan) (fs : Faces) (h : History) → FacesStandFor plan fs h
 unfolding t_sealed
 t_says plan fs h stands port head stream trusted = by (at_switch plan port) (is_peer plan port)
   where
-    by : (switch late : Bool)
-        → (if switch then trusted
+    by : (switch late : Bool) → (if switch then trusted
         else if late then peer_t_of plan fs (if late then (port_beside_end plan.peers port).line else port.line) stream
         (owner_id head)
         else t_at_side plan fs port port.side head stream trusted)
@@ -140,8 +139,7 @@ reply_is plan w h stands link =
     ap (link_completion plan (grant_of plan w.faces) (completion_from_memory w) link) (stands.accesses.waiting link)
     ∙ by (has_link plan link)
   where
-    by : (b : Bool)
-        → (if b then completion_first plan (grant_of plan w.faces) (completion_from_memory w) link
+    by : (b : Bool) → (if b then completion_first plan (grant_of plan w.faces) (completion_from_memory w) link
         (waiting_reads plan h link)
         else Err v.Nothing)
         ≡ (if b then completion_first plan (grant_at plan h) (λ r. sent_bytes plan h (event.Access (ae.Answer link)))
@@ -171,9 +169,8 @@ draw_is h e w = refl
 
 -- ---- memory
 
-written_is : (plan : Plan) (w : Whole) (h : History) (e : Event) (x : Verdict) → WholeStandsFor plan w h → x
-    ≡ due plan h e
-    → written_after plan w e x ≡ writes plan ((e, x) ∷ h)
+written_is : (plan : Plan) (w : Whole) (h : History) (e : Event) (x : Verdict) → WholeStandsFor plan w h
+    → x ≡ due plan h e → written_after plan w e x ≡ writes plan ((e, x) ∷ h)
 unfolding writes
 written_is plan w h e (v.Accepted port unit effects) stands is =
     (λ i. newest_first (admitted_writes plan (grants_are plan w.faces h stands.faces i) port unit
@@ -182,9 +179,8 @@ written_is plan w h e x stands is = stands.written
 
 -- ---- reads that wait, and the memory of devices' interfaces
 
-units_are : (plan : Plan) (w : Whole) (h : History) (e : Event) (x : Verdict) → WholeStandsFor plan w h → x
-    ≡ due plan h e
-    → AreEnded plan h (ended_unit plan w e) e x
+units_are : (plan : Plan) (w : Whole) (h : History) (e : Event) (x : Verdict) → WholeStandsFor plan w h
+    → x ≡ due plan h e → AreEnded plan h (ended_unit plan w e) e x
 units_are plan w h e (v.Accepted port unit effects) stands is =
     unit_is plan w.links h e port unit effects stands.links.ports_stand is
 units_are plan w h e x stands is = tt

@@ -17,8 +17,7 @@ use Rattle.run_events.specs.Paired.{side_of_word, more_in, peer_send_in, peer_ev
 use Rattle.run_events.specs.Paired.{more_words, PeerSendSpelledBy, PeerSpelledBy, HopSpelledBy}
 use Rattle.run_events.specs.Parse.{made_peer, made_hop, event_in}
 use Rattle.run_events.specs.Spells.{SpelledBy}
-use Rattle.run_events.proofs.Steps.{err_ok, ok_ok, some_some, none_some, same_text, next_of, next_result}
-use Rattle.run_events.proofs.Steps.{tested_family}
+use Rattle.run_events.proofs.Steps.{err_ok, ok_ok, some_some, none_some, same_text, next_of, next_result, tested_family}
 use Rattle.run_events.proofs.Spelled.{asked_spelled, operation_spelled, two_spelled, loss_meant, SpelledAs, made}
 
 -- ---- the words of a send

@@ -40,9 +40,8 @@ first_apart v w vs ws xs ys hv hw e =
     word_apart v w (joined_words vs ++ xs) (joined_words ws ++ ys) hv hw (head_low vs xs) (head_low ws ys)
     (sym (append_assoc v (joined_words vs) xs) ∙ (e ∙ append_assoc w (joined_words ws) ys))
 
-words_apart : (vs ws : List Text) (xs ys : Text) → AreWords vs → AreWords ws → joined_words vs ++ xs ≡ joined_words ws
-    ++ ys
-    → (vs ≡ ws) × (xs ≡ ys)
+words_apart : (vs ws : List Text) (xs ys : Text) → AreWords vs → AreWords ws
+    → joined_words vs ++ xs ≡ joined_words ws ++ ys → (vs ≡ ws) × (xs ≡ ys)
 words_apart [] [] xs ys hv hw e = (refl, ap tail_of e)
 words_apart [] (w ∷ ws) xs ys hv hw e = absurd (omega (arith, ap head_of e))
 words_apart (v ∷ vs) [] xs ys hv hw e = absurd (omega (arith, ap head_of e))

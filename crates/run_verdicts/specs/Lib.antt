@@ -13,8 +13,7 @@ pub use Rattle.run_verdicts.specs.Terms.{Totals, Verdict}
 pub use Rattle.run_verdicts.specs.Causes.{binding_cause, is_stream, stale_cause}
 pub use Rattle.run_verdicts.specs.Lines.{verdict_words, line_of, totals_line_of, IsSendRefusal, IsArrival}
 pub use Rattle.run_verdicts.specs.Lines.{IsOperationRefusal, IsOutcome}
-pub use Rattle.run_verdicts.specs.InterfaceLines.{interface_words, FitsInterfaceVerdict, IsInterfaceRefusal}
-pub use Rattle.run_verdicts.specs.InterfaceLines.{ShowsBytes}
+pub use Rattle.run_verdicts.specs.InterfaceLines.{interface_words, FitsInterfaceVerdict, IsInterfaceRefusal, ShowsBytes}
 pub use Rattle.run_verdicts.specs.AccessLines.{access_words, FitsAccessVerdict}
 pub use Rattle.run_verdicts.specs.Shown.{verdict_by_ports}
 pub use Rattle.run_verdicts.specs.Apart.{Fits, LinesApart}

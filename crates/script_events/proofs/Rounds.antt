@@ -27,7 +27,6 @@ pub step_of : (ahead after : Option Step) (s : Step) (e : Event) (count : ℕ) (
     → after ≡ step_after s → e ≡ step_event s → events_left ahead count n ≡ e ∷ events_left after count n
 step_of ahead after s e count n is then event = rw (is, then, event) (step_first s count n)
 
-pub round_is : (ahead : Option Step) (count : ℕ) (n : Numbers) (r : Round) → ahead ≡ None → (count ≡ 0 → ⊥) → r
-    ≡ round_of n
-    → events_left ahead count n ≡ r.event ∷ events_left r.ahead (count - 1) r.numbers
+pub round_is : (ahead : Option Step) (count : ℕ) (n : Numbers) (r : Round) → ahead ≡ None → (count ≡ 0 → ⊥)
+    → r ≡ round_of n → events_left ahead count n ≡ r.event ∷ events_left r.ahead (count - 1) r.numbers
 round_is ahead count n r is some round = rw (is, round) (round_first count n some)

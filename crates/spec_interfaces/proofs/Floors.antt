@@ -164,8 +164,7 @@ placed_on plan link place x is =
     (ap (λ (xs : List Site). slice_get xs place) (sym (sites_of_is plan link)) ∙ is) in
     record {
       link_is = at.link_is;
-      place_is = ap (λ (l : ℕ). x.number - interfaces_before plan.links l) at.link_is
-          ∙ omega (arith, at.number_is);
+      place_is = ap (λ (l : ℕ). x.number - interfaces_before plan.links l) at.link_is ∙ omega (arith, at.number_is);
       number_is = at.number_is;
     }
 

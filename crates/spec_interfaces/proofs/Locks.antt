@@ -64,8 +64,7 @@ after_layout tdi StreamLeft = refl
 after_layout tdi LinkReset = refl
 
 called_stood : (b : Bool) (c : Call) (tdi : Tdi) (l : Lock) → is_lock c ≡ false
-    → lock_of (interface_if_called b c tdi).state
-    ≡ Some l → lock_of tdi.state ≡ Some l
+    → lock_of (interface_if_called b c tdi).state ≡ Some l → lock_of tdi.state ≡ Some l
 called_stood true c tdi l other is = after_stood tdi c l other is
 called_stood false c tdi l other is = is
 
@@ -120,8 +119,7 @@ Made a x e w tdi l = ((lock_of tdi.state ≡ Some l) × (accepts_lock a x e w td
     ⊎ ((accepts_lock a x e w tdi ≡ true) × (l ≡ new_lock tdi x.plan.flags x.plan.stream x.plan.offset))
 
 given_made : (tdi : Tdi) (new l : Lock) (answer : Result (List ℕ) ℕ)
-    → lock_of (interface_after_lock tdi new answer).state
-    ≡ Some l
+    → lock_of (interface_after_lock tdi new answer).state ≡ Some l
     → ((lock_of tdi.state ≡ Some l) × (is_ok answer ≡ false)) ⊎ ((is_ok answer ≡ true) × (l ≡ new))
 given_made tdi new l (Ok nonce) is = inr (refl, grind arith)
 given_made tdi new l (Err code) is = inl (is, refl)

@@ -51,9 +51,8 @@ unfolding sites
 number_on_link plan x known = found_below (length plan.links) (λ y. y.number == x.number) (sites plan) x
     (on_all (length plan.links) 0 0 plan.links (omega arith)) known
 
-with_on_link : (plan : Plan) (link : ℕ) (o : Option ℕ) (x : Site) → option_and_then (site_of_requester plan link) o
-    ≡ Some x
-    → nat_lt x.link (length plan.links) ≡ true
+with_on_link : (plan : Plan) (link : ℕ) (o : Option ℕ) (x : Site)
+    → option_and_then (site_of_requester plan link) o ≡ Some x → nat_lt x.link (length plan.links) ≡ true
 unfolding sites
 with_on_link plan link None x is = absurd cc
 with_on_link plan link (Some rid) x is = found_below (length plan.links)

@@ -29,8 +29,7 @@ locked_rests tdi new (Ok nonce) rests = refl
 locked_rests tdi new (Err code) rests = rests
 
 pub after_rests : (tdi : Tdi) (c : Call) → is_start c ≡ false → is_run tdi.state ≡ false
-    → is_run (tdi_after tdi c).state
-    ≡ false
+    → is_run (tdi_after tdi c).state ≡ false
 after_rests tdi (LockInterface flags stream offset secure drawn) other rests =
     locked_rests tdi (new_lock tdi flags stream offset) (lock_answer tdi flags offset secure drawn) rests
 after_rests tdi (BindStream stream live) other rests =

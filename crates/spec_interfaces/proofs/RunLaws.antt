@@ -126,8 +126,7 @@ write_shows plan h x i register value (v.Interface w) cause at = tt
 write_shows plan h x i register value w cause at = tt
 
 flr_shows : (plan : Plan) (h : History) (x : Site) (i : ℕ) (w : Verdict) → w ≡ interface_verdict_due plan h (ie.Flr i) w
-    → site_at plan i
-    ≡ Some x → ShowsError plan h x (ie.Flr i) w
+    → site_at plan i ≡ Some x → ShowsError plan h x (ie.Flr i) w
 unfolding interface_verdict_due
 flr_shows plan h x i (v.Interface (iv.Flr n state)) cause at = λ is.
     flr_of n x.number state _ (cause ∙ due_is plan h x i (ie.Flr i) at) ∙ reset_error plan h x is

@@ -119,8 +119,7 @@ sealed_in_run plan h x bytes trusted d fits is =
     trusted ≡ true) is.at_device t in
     by (nat_le 24 x.link) (nat_lt x.link (length plan.links)) (owner_on_link plan x.link (read_of bytes) x is.owned) at
   where
-    by : (late there : Bool) → there ≡ true
-        → (if late && not there then peer_t plan h (owner_read plan
+    by : (late there : Bool) → there ≡ true → (if late && not there then peer_t plan h (owner_read plan
         (if late && not there then (port_beside_end plan.peers (record { side = Device; line = x.link })).line
         else x.link)
         (read_of bytes)) d.stream

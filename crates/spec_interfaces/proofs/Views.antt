@@ -134,9 +134,8 @@ pub managed_own : (h : History) (e : InterfaceEvent) (w : Verdict) (x : Site) �
     → managed_view ((event.Interface e, w) ∷ h) x ≡ on_operation (draws h) e w (managed_view h x)
 managed_own h e w x own = managed_step h (event.Interface e) w x ∙ if_is (is_number (number_in e) x.number) _ _ own
 
-pub managed_other : (h : History) (e : InterfaceEvent) (w : Verdict) (x : Site) → is_number (number_in e) x.number
-    ≡ false
-    → managed_view ((event.Interface e, w) ∷ h) x ≡ managed_view h x
+pub managed_other : (h : History) (e : InterfaceEvent) (w : Verdict) (x : Site)
+    → is_number (number_in e) x.number ≡ false → managed_view ((event.Interface e, w) ∷ h) x ≡ managed_view h x
 managed_other h e w x other = managed_step h (event.Interface e) w x ∙ if_not (is_number (number_in e) x.number) _ _
     other
 
@@ -174,9 +173,8 @@ pub not_carried : (b c : Bool) → c ≡ false → (b && c) ≡ false
 not_carried b c none = grind arith
 
 lock_turn : (plan : Plan) (kp : KeyPlan) (h : History) (i : ℕ) (loss : Option Loss) (w : Verdict) (x : Site)
-    → Known plan kp h (event.Interface (ie.Lock i loss)) w x
-    → (i == x.number) ≡ true → w ≡ interface_due plan h x (ie.Lock i loss)
-    → ViewHolds plan ((event.Interface (ie.Lock i loss), w) ∷ h) x
+    → Known plan kp h (event.Interface (ie.Lock i loss)) w x → (i == x.number) ≡ true
+    → w ≡ interface_due plan h x (ie.Lock i loss) → ViewHolds plan ((event.Interface (ie.Lock i loss), w) ∷ h) x
 lock_turn plan kp h i loss w x known own cause = by (unlocked_or (managed_view h x).view)
   where
     by : ((managed_view h x).view ≡ Unlocked) ⊎
@@ -274,9 +272,8 @@ start_of m draw x s loss answer =
     (if_fresh_starts m draw _ (nat_lt draw m.needs) refl (start_asks m draw x loss answer locked))))
 
 -- a start was asked, and the view is another than before it
-asked_holds : (plan : Plan) (h : History) (x : Site) (s : View) → (s ≡ Unlocked → ⊥) → (s ≡ Locked → ⊥) → view_at h x
-    ≡ s → (managed_view h x).started ≡ true
-    → (s ≡ Running → IsRunning plan h x) → ViewHolds plan h x
+asked_holds : (plan : Plan) (h : History) (x : Site) (s : View) → (s ≡ Unlocked → ⊥) → (s ≡ Locked → ⊥)
+    → view_at h x ≡ s → (managed_view h x).started ≡ true → (s ≡ Running → IsRunning plan h x) → ViewHolds plan h x
 asked_holds plan h x s open_not locked_not is started running = record {
   unlocked = λ e. absurd (open_not (sym is ∙ e));
   locked = λ e. absurd (locked_not (sym is ∙ e));
@@ -285,9 +282,8 @@ asked_holds plan h x s open_not locked_not is started running = record {
 }
 
 start_turn : (plan : Plan) (kp : KeyPlan) (h : History) (i : ℕ) (loss : Option Loss) (w : Verdict) (x : Site)
-    → Known plan kp h (event.Interface (ie.Start i loss)) w x
-    → (i == x.number) ≡ true → w ≡ interface_due plan h x (ie.Start i loss)
-    → ViewHolds plan ((event.Interface (ie.Start i loss), w) ∷ h) x
+    → Known plan kp h (event.Interface (ie.Start i loss)) w x → (i == x.number) ≡ true
+    → w ≡ interface_due plan h x (ie.Start i loss) → ViewHolds plan ((event.Interface (ie.Start i loss), w) ∷ h) x
 start_turn plan kp h i loss w x known own cause =
     by (subst (λ (z : Verdict). StartsAs (managed_view h x) (stream_draw h x.link x.plan.stream) z) (sym cause)
     (start_of (managed_view h x) (stream_draw h x.link x.plan.stream) x (host_status h x) loss
@@ -359,9 +355,8 @@ stopped_interface : (b c : Bool) (tdi : Tdi) → b ≡ true → c ≡ true → i
     (if b then interface_if_called c StopInterface tdi else tdi).state ≡ false
 stopped_interface b c tdi own carried = rw (own, carried) refl
 
-stopped_rests : (plan : Plan) (h : History) (i : ℕ) (loss : Option Loss) (w : Verdict) (x : Site) → (i == x.number)
-    ≡ true → carries w 1 ≡ true
-    → runs_at plan ((event.Interface (ie.Halt i loss), w) ∷ h) x ≡ false
+stopped_rests : (plan : Plan) (h : History) (i : ℕ) (loss : Option Loss) (w : Verdict) (x : Site)
+    → (i == x.number) ≡ true → carries w 1 ≡ true → runs_at plan ((event.Interface (ie.Halt i loss), w) ∷ h) x ≡ false
 unfolding devices
 stopped_rests plan h i loss w x own carried = stopped_interface (i == x.number) (carries w 1) (interface_at plan h x)
     own carried
@@ -374,9 +369,8 @@ needs_above plan kp h x keys all holds true e = all_made plan kp h x keys all
 needs_above plan kp h x keys all holds false e = (holds.unstarted e).below
 
 halt_turn : (plan : Plan) (kp : KeyPlan) (h : History) (i : ℕ) (loss : Option Loss) (w : Verdict) (x : Site)
-    → Known plan kp h (event.Interface (ie.Halt i loss)) w x → InterfaceCause plan h
-    → (i == x.number) ≡ true → w ≡ interface_due plan h x (ie.Halt i loss)
-    → ViewHolds plan ((event.Interface (ie.Halt i loss), w) ∷ h) x
+    → Known plan kp h (event.Interface (ie.Halt i loss)) w x → InterfaceCause plan h → (i == x.number) ≡ true
+    → w ≡ interface_due plan h x (ie.Halt i loss) → ViewHolds plan ((event.Interface (ie.Halt i loss), w) ∷ h) x
 halt_turn plan kp h i loss w x known all own cause =
     by (subst (λ (z : Verdict). HaltsAs (managed_view h x) (draws h) z) (sym cause)
     (halt_of (managed_view h x) (draws h) x.number (needs_then (managed_view h x) (draws h)) loss))

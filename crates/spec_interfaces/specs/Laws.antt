@@ -23,8 +23,7 @@ IsLocked plan h x = (state_code (interface_at plan h x).state ≡ 1) ⊎ (state_
 
 -- in RUN, and locked, the listed registers are those that were reported
 abbrev pub KeepsReported : Plan → History → Site → Type 0
-KeepsReported plan h x = IsLocked plan h x
-    → listed_registers x.plan.flags (interface_at plan h x).registers
+KeepsReported plan h x = IsLocked plan h x → listed_registers x.plan.flags (interface_at plan h x).registers
     ≡ listed_registers x.plan.flags (registers_locked plan h x)
 
 -- a report is that of the registers as they stood at the lock, under the flags and the offset of the topology

@@ -230,11 +230,9 @@ pub owned_on : (O : Bool → ℕ → Type 0) (ks : Keys) (set : Bool) (j : ℕ) 
 owned_on O ks set j owned e = grind arith
 
 pub kept_owned : (h : History) (p : KeyPlace) (set : Bool) (j : ℕ)
-    → draw_of_keyed (key_in (keys p.sends (moments h p)) set)
-    ≡ Some j → OwnerAt (manager h) p set j
+    → draw_of_keyed (key_in (keys p.sends (moments h p)) set) ≡ Some j → OwnerAt (manager h) p set j
 kept_owned h p set j e = owned_kept (OwnerAt (manager h) p) (keys p.sends (moments h p)) set j (keys_owned h p) e
 
-pub on_owned : (h : History) (p : KeyPlace) (set : Bool) (j : ℕ) → on_in (key_in (keys p.sends (moments h p)) set)
-    ≡ Some j
-    → OwnerAt (manager h) p set j
+pub on_owned : (h : History) (p : KeyPlace) (set : Bool) (j : ℕ)
+    → on_in (key_in (keys p.sends (moments h p)) set) ≡ Some j → OwnerAt (manager h) p set j
 on_owned h p set j e = owned_on (OwnerAt (manager h) p) (keys p.sends (moments h p)) set j (keys_owned h p) e

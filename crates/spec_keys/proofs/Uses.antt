@@ -10,9 +10,8 @@ use Rattle.spec_keys.proofs.Fits.{Fits, FitsAt, Turned, Below, below_more}
 
 -- ---- a use leaves the stage of a place: it changes nothing, or ends the older of two keys
 
-fits_uses : (m : Bool) (o : StreamStage) (top : ℕ) (u v : Marks) (p : KeyPlace) (sh : Shape) → v.started_below
-    ≡ u.started_below
-    → (sh ≡ Bare → ⊥) → Fits o top u p sh → Fits o top v p (sealed_shape m sh)
+fits_uses : (m : Bool) (o : StreamStage) (top : ℕ) (u v : Marks) (p : KeyPlace) (sh : Shape)
+    → v.started_below ≡ u.started_below → (sh ≡ Bare → ⊥) → Fits o top u p sh → Fits o top v p (sealed_shape m sh)
 fits_uses m o top u v p sh same not_bare fits = grind
     (arith, before, half, full, old_alone, old_both, waiting, following, alone, both)
 
@@ -20,9 +19,8 @@ fits_uses m o top u v p sh same not_bare fits = grind
 
 -- a draw that is On is used
 below_use : (s : Bool) (ts us : List Touch) (sh : Shape) (k : Bool) (j top : ℕ) → IsAt s ts sh
-    → on_in (key_in (keys s ts) k) ≡ Some j → j < top → Below ts top
-    → draws_used us ≡ max (j + 1) (draws_used ts) → draws_started us ≡ draws_started ts → uses us ≡ (j ∷ uses ts)
-    → Below us top
+    → on_in (key_in (keys s ts) k) ≡ Some j → j < top → Below ts top → draws_used us ≡ max (j + 1) (draws_used ts)
+    → draws_started us ≡ draws_started ts → uses us ≡ (j ∷ uses ts) → Below us top
 below_use s ts us sh k j top is on lt below more same here =
     let falls = never_more j (uses ts) (none_above_used ts j (used_bound s ts sh k j is on)) below.falls in
     record { within = grind arith; fresh = grind arith; falls = rw here falls }

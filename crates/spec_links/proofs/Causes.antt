@@ -297,9 +297,8 @@ tells plan h (Arrive port bytes) = arrival_tells plan h (Arrive port bytes)
 
 -- ---- one lemma a verdict
 
-came_to : (plan : Plan) (h : History) (e : Event) (w : Verdict) (port : PortName) (by : Brought plan h e w) → by.at.port
-    ≡ port
-    → Came plan h e port by.packet
+came_to : (plan : Plan) (h : History) (e : Event) (w : Verdict) (port : PortName) (by : Brought plan h e w)
+    → by.at.port ≡ port → Came plan h e port by.packet
 came_to plan h e w port by same = record {
   bytes = by.at.bytes;
   arrival = by.arrival ∙ ap (λ (q : PortName). Some (record { port = q; bytes = by.at.bytes })) same;

@@ -97,8 +97,7 @@ peer_is (p ∷ peers) zero id = grind arith
 peer_is (p ∷ peers) (suc i) id = peer_is peers i id
 
 -- the streams of a line are those that the topology has there
-pub stream_is_there : (plan : Plan) (line id : ℕ) → is_some (stream_plan plan line id)
-    ≡ line_has plan line id
+pub stream_is_there : (plan : Plan) (line id : ℕ) → is_some (stream_plan plan line id) ≡ line_has plan line id
 unfolding stream_plan streams_by_line
 stream_is_there plan line id = elim (cases_lt line 8) [
   | inl lt ↦

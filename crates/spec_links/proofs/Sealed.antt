@@ -33,9 +33,8 @@ count_after p q xs x other = rw (after_last-miss p xs x other, filter-append, le
 -- ---- posted counts
 
 -- a packet of the sub-stream begins its count again
-pub posted-own : (xs : SealedList) (x : SealedPacket × Packet) (s : SubStream) (from : ℕ) → is_sealed_from_draw s from x
-    ≡ true
-    → posted_since_last (xs ++ x ∷ []) s from ≡ 0
+pub posted-own : (xs : SealedList) (x : SealedPacket × Packet) (s : SubStream) (from : ℕ)
+    → is_sealed_from_draw s from x ≡ true → posted_since_last (xs ++ x ∷ []) s from ≡ 0
 unfolding posted_since_last
 posted-own xs x s from here = rw (after_last-hit (is_sealed_from_draw s from) xs x here) refl
 
@@ -50,9 +49,7 @@ posted-more xs x s from other = count_after (is_sealed_from_draw s from) (is_sea
     other
 
 pub posted-same : (xs : SealedList) (x : SealedPacket × Packet) (s : SubStream) (from : ℕ)
-    → is_sealed_from_draw s from x
-    ≡ false
-    → is_sealed_from_draw (posted_lane s) from x ≡ false
+    → is_sealed_from_draw s from x ≡ false → is_sealed_from_draw (posted_lane s) from x ≡ false
     → posted_since_last (xs ++ x ∷ []) s from ≡ posted_since_last xs s from
 posted-same xs x s from other none = posted-more xs x s from other ∙ rw none (omega arith)
 

@@ -26,9 +26,8 @@ rest_after-append unfinished [] qs = refl
 rest_after-append unfinished (p ∷ ps) qs = grind
     (arith, rest_after-append [] ps qs, rest_after-append (unfinished ++ p ∷ []) ps qs)
 
-joined_after : (unfinished ps : List Packet) → packets_of_units (units_finished unfinished ps)
-    ++ rest_after unfinished ps
-    ≡ unfinished ++ ps
+joined_after : (unfinished ps : List Packet)
+    → packets_of_units (units_finished unfinished ps) ++ rest_after unfinished ps ≡ unfinished ++ ps
 joined_after unfinished [] = sym (append-nil unfinished)
 joined_after unfinished (q ∷ ps) = grind
     (arith, append_assoc, joined_after [] ps, joined_after (unfinished ++ q ∷ []) ps)

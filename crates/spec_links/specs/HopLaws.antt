@@ -117,5 +117,4 @@ pub record Unchanged (plan : Plan) (h : History) (e : Event) (w : Verdict) : Typ
 
 -- An answer `through` leaves them so.
 abbrev pub ThroughLaw : Plan → History → Type 0
-ThroughLaw plan h = (e : Event) (port : PortName) → brings_bytes e ≡ true
-    → Unchanged plan h e (v.Through port)
+ThroughLaw plan h = (e : Event) (port : PortName) → brings_bytes e ≡ true → Unchanged plan h e (v.Through port)

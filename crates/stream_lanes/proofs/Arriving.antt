@@ -147,8 +147,7 @@ sub_of true old p t = refl
 sub_of false old p t = refl
 
 aggregation_of : (b : Bool) (old : ReceiveEnd) (p : Packet) (t : Taken)
-    → (if b then end_after old p t else old).aggregation
-    ≡ old.aggregation
+    → (if b then end_after old p t else old).aggregation ≡ old.aggregation
 aggregation_of true old p t = refl
 aggregation_of false old p t = refl
 
@@ -331,9 +330,8 @@ order_last : (a : Answer) (x y : RxSub) → x.sum ≤ y.got → (kept_last a x).
 order_last a x y le = omega (arith, le, sum_last (is_fail a) x, got_last (is_fail a) y)
 
 pub lanes-kept : (p : Packet) (t : Taken) (a : Answer) (pr npr cpl pr' npr' cpl' : ReceiveEnd)
-    → IsReceiveLanes pr npr cpl
-    → lane_outcome (value_of_kind p.prefix.sub pr npr cpl) pr.kept.got p ≡ t → AreAfter p t a pr npr cpl pr' npr' cpl'
-    → IsReceiveLanes pr' npr' cpl'
+    → IsReceiveLanes pr npr cpl → lane_outcome (value_of_kind p.prefix.sub pr npr cpl) pr.kept.got p ≡ t
+    → AreAfter p t a pr npr cpl pr' npr' cpl' → IsReceiveLanes pr' npr' cpl'
 lanes-kept p t a pr npr cpl pr' npr' cpl' inv is after =
     let npr_order : (kept_in p.prefix.sub Npr npr.kept p t).sum ≤ (kept_in p.prefix.sub Pr pr.kept p t).got =
     order_kept p.prefix.sub Npr p t pr npr (λ e. picked_order Npr e) inv.is_npr refl inv.npr_order in

@@ -223,9 +223,8 @@ lent_ahead_is closed total n lent e = by_unit closed (n == 1) lent e
     by_unit false false lent e = refl
 
 -- what comes before a unit is what the rules say
-pub ahead-right : (b : Bool) (old : List ℕ) (closed : Bool) (total n : ℕ) (lent : List ℕ) → lent
-    ≡ (if closed then to_be_bytes w64 total else [])
-    → (b ≡ false → old ≡ total_ahead closed n total)
+pub ahead-right : (b : Bool) (old : List ℕ) (closed : Bool) (total n : ℕ) (lent : List ℕ)
+    → lent ≡ (if closed then to_be_bytes w64 total else []) → (b ≡ false → old ≡ total_ahead closed n total)
     → (if b then unit_ahead lent n else old) ≡ total_ahead closed n total
 ahead-right true old closed total n lent e h = lent_ahead_is closed total n lent e
 ahead-right false old closed total n lent e h = h refl
@@ -384,10 +383,9 @@ goes_on-live p s x is = by_slots s.first s.second ∙ ap (joined p) is
 
 -- a posted packet joins, or ends its unit
 pub room-sealed : (aggregation n limit : ℕ) (m : Bool) (p : Packet) (s : LaneSlots) (key : ReadyKey)
-    → ready_key limit (live_sender s) ≡ Ok key
-    → n + aggregation ≤ 255 + length (open_in s)
-    → (length (open_in (sealed_slots m p s)) == 0) ≡ false → n + 1 + aggregation ≤ 255 + length
-    (open_in (sealed_slots m p s))
+    → ready_key limit (live_sender s) ≡ Ok key → n + aggregation ≤ 255 + length (open_in s)
+    → (length (open_in (sealed_slots m p s)) == 0) ≡ false
+    → n + 1 + aggregation ≤ 255 + length (open_in (sealed_slots m p s))
 room-sealed aggregation n limit true p s key ready le e = absurd (none_open _ (ended_open s) e)
 room-sealed aggregation n limit false p s key ready le e =
     let some = ready-some limit (live_sender s) key ready in

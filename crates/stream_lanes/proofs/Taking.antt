@@ -82,11 +82,9 @@ allowed-right Npr sum got allowed n few e le = ap (nat_le n) e ∙ within_left s
 allowed-right Cpl sum got allowed n few e le = ap (nat_le n) e ∙ within_left sum n got (le refl)
 
 -- what comes before the packets of a slot, with the next
-next_ahead : (ahead : List ℕ) (aggregation : ℕ) (closed : Bool) (total : ℕ) (lent : List ℕ) (x : LiveKey) → lent
-    ≡ (if closed then to_be_bytes w64 total else [])
-    → HoldsPackets ahead aggregation closed total x →
-    (if length x.packets == 0 then unit_ahead lent (x.units + 1) else ahead)
-    ≡ total_ahead closed (x.units + 1) total
+next_ahead : (ahead : List ℕ) (aggregation : ℕ) (closed : Bool) (total : ℕ) (lent : List ℕ) (x : LiveKey)
+    → lent ≡ (if closed then to_be_bytes w64 total else []) → HoldsPackets ahead aggregation closed total x
+    → (if length x.packets == 0 then unit_ahead lent (x.units + 1) else ahead) ≡ total_ahead closed (x.units + 1) total
 next_ahead ahead aggregation closed total lent x e held = ahead-right (length x.packets == 0) ahead closed total
     (x.units + 1)
     lent e held.ahead_right
@@ -262,9 +260,8 @@ room_more : (n aggregation : ℕ) → nat_le aggregation (n + 1) ≡ false → n
 room_more n aggregation e = grind (arith, common_steps)
 
 joined_right : (ahead ahead' : List ℕ) (aggregation : ℕ) (closed : Bool) (total : ℕ) (x : LiveKey) (p : Packet)
-    → HoldsPackets ahead aggregation closed total x
-    → p.prefix.posted < 256 → nat_le aggregation (length x.packets + 1) ≡ false → ahead'
-    ≡ total_ahead closed (x.units + 1) total
+    → HoldsPackets ahead aggregation closed total x → p.prefix.posted < 256
+    → nat_le aggregation (length x.packets + 1) ≡ false → ahead' ≡ total_ahead closed (x.units + 1) total
     → HoldsPackets ahead' aggregation closed total (record x { packets = x.packets ++ p ∷ [] })
 joined_right ahead ahead' aggregation closed total x p held byte room is =
     let size = length-append x.packets (p ∷ []) in
@@ -435,9 +432,8 @@ taken-kept rx sub closed sum own total got lent p t a sum' own' total' inv byte 
 -- ---- KEY_PROG
 
 kept_ahead : (slot : LaneSlot) (b : Bool) (ahead : List ℕ) (aggregation : ℕ) (closed : Bool) (total : ℕ)
-    → (holds_any (live_in slot) ≡ true → b ≡ true)
-    → HoldsRight ahead aggregation closed total slot → HoldsRight (if b then ahead else []) aggregation closed total
-    slot
+    → (holds_any (live_in slot) ≡ true → b ≡ true) → HoldsRight ahead aggregation closed total slot
+    → HoldsRight (if b then ahead else []) aggregation closed total slot
 kept_ahead Empty b ahead aggregation closed total h held = tt
 kept_ahead (Programmed j key) b ahead aggregation closed total h held = tt
 kept_ahead (Armed j key) b ahead aggregation closed total h held = tt

@@ -2,9 +2,8 @@
 -- seen as the receiver of the specs. It goes by the answer, by who holds the buffer and by the state of each slot: a
 -- packet that fits finds nothing held in the other key set, so the buffer is its own slot's alone. The hard case is an
 -- accepted unit: its slot counts it, an older key in the other slot goes, and the buffer lends the decrypted packets.
-use Rattle.std.proofs.Common.{◌≡◌, ℕ, ◌+◌, ◌<◌, Bool, true, false, not, ◌&&◌, ◌||◌, ◌==◌, nat_lt, nat_le}
-use Rattle.std.proofs.Common.{if◌then◌else◌, List, [], ◌∷◌, ◌++◌, length, Option, Some, None, refl, sym, ap, ◌∙◌, arith}
-use Rattle.std.proofs.Common.{length-append}
+use Rattle.std.proofs.Common.{◌≡◌, ℕ, ◌+◌, ◌<◌, Bool, true, false, not, ◌&&◌, ◌||◌, ◌==◌, nat_lt, nat_le, if◌then◌else◌}
+use Rattle.std.proofs.Common.{List, [], ◌∷◌, ◌++◌, length, Option, Some, None, refl, sym, ap, ◌∙◌, arith, length-append}
 use Rattle.std.specs.Option.{option_map}
 use Rattle.std.proofs.lemmas.Grind.{common_steps}
 use Rattle.ide_types.specs.declared.sub.FailCause.{FailCause}
@@ -49,8 +48,7 @@ early-taken rx allowed total p a = by_keys (key_for rx p.prefix.k) (key_for rx (
     by_keys None (Some y) e = sym e
     by_keys (Some x) y e = by_fits (fits_unit rx.aggregation x y p) e
       where
-        by_fits : (b : Bool) → (if b then None else Some (answers.Fail fail.Unit)) ≡ Some a
-            → Some a ≡ answer_taken
+        by_fits : (b : Bool) → (if b then None else Some (answers.Fail fail.Unit)) ≡ Some a → Some a ≡ answer_taken
             (if b then judged_packet (receiver_ahead rx x total) allowed x p else Failed fail.Unit)
         by_fits true e = absurd (cc)
         by_fits false e = sym e
@@ -73,8 +71,7 @@ early-after rx allowed total p a = by_keys (key_for rx p.prefix.k) (key_for rx (
     by_keys None (Some y) e = by_fail fail.Key e
     by_keys (Some x) y e = by_fits (fits_unit rx.aggregation x y p) e
       where
-        by_fits : (b : Bool) → (if b then None else Some (answers.Fail fail.Unit)) ≡ Some a
-            → after_answer rx total p
+        by_fits : (b : Bool) → (if b then None else Some (answers.Fail fail.Unit)) ≡ Some a → after_answer rx total p
             (if b then judged_packet (receiver_ahead rx x total) allowed x p else Failed fail.Unit)
             ≡ after_early rx a
         by_fits true e = absurd (cc)
@@ -89,8 +86,7 @@ dropped_seen (Armed held) units ps = refl
 dropped_seen (Live held) units ps = refl
 
 pub slots-slot_without_packets : (pair : SlotPair) (u0 u1 : ℕ) (h : Holds) (ps qs : List Packet)
-    → receiver_slots_seen pair u0 u1 Nothing qs
-    ≡ dropped_slots (receiver_slots_seen pair u0 u1 h ps)
+    → receiver_slots_seen pair u0 u1 Nothing qs ≡ dropped_slots (receiver_slots_seen pair u0 u1 h ps)
 slots-slot_without_packets pair u0 u1 h ps qs = λ i. record
     { first = dropped_seen pair.zero u0 (held_zero h ps) i; second = dropped_seen pair.one u1 (held_one h ps) i }
 
@@ -596,8 +592,7 @@ gone_in false pair u0 u1 aggregation h ps s few =
     })
 
 holds_begun : (slot : KeySlot) (units : ℕ) (ps : List Packet)
-    → holds_any (live_in (begun_slot (slot_as_seen units ps slot)))
-    ≡ holds_any (live_in (slot_as_seen units ps slot))
+    → holds_any (live_in (begun_slot (slot_as_seen units ps slot))) ≡ holds_any (live_in (slot_as_seen units ps slot))
 holds_begun Empty units ps = refl
 holds_begun (Programmed held) units ps = refl
 holds_begun (Armed held) units ps = refl

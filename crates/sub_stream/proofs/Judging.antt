@@ -38,8 +38,7 @@ opened_from_byte-packet_without_tag key iv n (q ∷ ps) p =
     (opened_from_byte-packet_without_tag key iv (n + length q.body) ps p)
 
 pub opened_packets-packet_without_tag : (key iv : List ℕ) (ps : List Packet) (p : Packet)
-    → opened_packets key iv (ps ++ packet_without_tag p ∷ [])
-    ≡ opened_packets key iv (ps ++ p ∷ [])
+    → opened_packets key iv (ps ++ packet_without_tag p ∷ []) ≡ opened_packets key iv (ps ++ p ∷ [])
 opened_packets-packet_without_tag key iv ps p = opened_from_byte-packet_without_tag key iv 0 ps p
 
 length-opened_from_byte : (key iv : List ℕ) (n : ℕ) (ps : List Packet) → length (opened_from_byte key iv n ps)
@@ -75,17 +74,15 @@ judged-order ahead allowed x p m tag order = λ i. if m i then outcome_of_checks
     (x.units + 1)
 
 pub judged-accepted : (ahead : List ℕ) (allowed : ℕ) (x : LiveKey) (p : Packet) → p.prefix.m ≡ true
-    → is_tagged_behind ahead x p ≡ true
-    → nat_le (posted_sum (x.packets ++ p ∷ [])) allowed ≡ true → judged_packet ahead allowed x p
-    ≡ Accepted x.draw (x.units + 1) (x.packets ++ p ∷ [])
+    → is_tagged_behind ahead x p ≡ true → nat_le (posted_sum (x.packets ++ p ∷ [])) allowed ≡ true
+    → judged_packet ahead allowed x p ≡ Accepted x.draw (x.units + 1) (x.packets ++ p ∷ [])
 judged-accepted ahead allowed x p m tag order = λ i. if m i then outcome_of_checks (tag i) (order i) x p else Held
     x.draw
     (x.units + 1)
 
 -- the packet is with the held ones
-pub tagged-in : (begun unit : Gathered) (x : LiveKey) (p : Packet) (iv : List ℕ) (b : Bool)
-    → begun.packets ≡ x.packets → iv ≡ iv_of p.prefix.sub (x.units + 1) → unit
-    ≡ with_packet begun (packet_without_tag p)
+pub tagged-in : (begun unit : Gathered) (x : LiveKey) (p : Packet) (iv : List ℕ) (b : Bool) → begun.packets ≡ x.packets
+    → iv ≡ iv_of p.prefix.sub (x.units + 1) → unit ≡ with_packet begun (packet_without_tag p)
     → b ≡ verifies x.key iv (clear_of unit) (encrypted_bytes unit.packets) p.tag → is_tagged_behind begun.ahead x p ≡ b
 tagged-in begun unit x p iv b same is_iv is_unit is =
     tag-seen begun.ahead x p iv (clear_of unit) (encrypted_bytes unit.packets) b is_iv
@@ -101,9 +98,8 @@ posted-in begun unit x p n same is_unit is =
     (λ ps. posted_sum (ps ++ packet_without_tag p ∷ [])) same ∙
     posted-packet_without_tag x.packets p)
 
-pub opened_packets-in : (begun unit new : Gathered) (x : LiveKey) (p : Packet) (iv : List ℕ)
-    → begun.packets ≡ x.packets → iv ≡ iv_of p.prefix.sub (x.units + 1) → unit
-    ≡ with_packet begun (packet_without_tag p)
+pub opened_packets-in : (begun unit new : Gathered) (x : LiveKey) (p : Packet) (iv : List ℕ) → begun.packets ≡ x.packets
+    → iv ≡ iv_of p.prefix.sub (x.units + 1) → unit ≡ with_packet begun (packet_without_tag p)
     → new ≡ record unit { packets = opened_packets x.key iv unit.packets }
     → new ≡ record begun { packets = opened_packets x.key (iv_of p.prefix.sub (x.units + 1)) (x.packets ++ p ∷ []) }
 opened_packets-in begun unit new x p iv same is_iv is_unit is =

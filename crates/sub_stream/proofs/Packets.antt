@@ -74,8 +74,7 @@ posted-packets_with_bodies (x ∷ xs) (p ∷ ps) bytes =
     ∙ sym (posted-cons (q x.1) (packets_of_prefixes xs ps))
 
 pub parts-packets_with_bodies : (xs : List Parts) (ps : List Prefix) (bytes : List ℕ)
-    → map parts_of (packets_of_prefixes xs ps)
-    ≡ xs
+    → map parts_of (packets_of_prefixes xs ps) ≡ xs
     → map parts_of (packets_of_prefixes (packets_with_bodies xs bytes) ps) ≡ packets_with_bodies xs bytes
 parts-packets_with_bodies [] ps bytes e = refl
 parts-packets_with_bodies (x ∷ xs) [] bytes e = absurd (cc)
@@ -116,9 +115,7 @@ overwritten_bytes-all old new e = grind (arith, common_steps)
 -- ---- lent
 
 pub clear_long : (xs : List Parts) (ps : List Prefix) (i : ℕ) (clear body : List ℕ)
-    → map parts_of (packets_of_prefixes xs ps)
-    ≡ xs
-    → slice_get xs i ≡ Some (clear, body) → 4 ≤ length clear
+    → map parts_of (packets_of_prefixes xs ps) ≡ xs → slice_get xs i ≡ Some (clear, body) → 4 ≤ length clear
 clear_long [] ps i clear body e at = absurd (cc)
 clear_long (x ∷ xs) [] i clear body e at = absurd (cc)
 clear_long (x ∷ xs) (p ∷ ps) zero clear body e at =

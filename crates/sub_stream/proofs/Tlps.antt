@@ -24,9 +24,8 @@ opened_have key iv n (p ∷ ps) [] has = has
 opened_have key iv n (p ∷ ps) (o ∷ tlps) has =
     (with_parts p (masked_bytes key iv n p.body) [] o has.0, opened_have key iv (n + length p.body) ps tlps has.1)
 
-added_have : (ps : List Packet) (tlps : List (Option HeadView)) (p : Packet) (o : Option HeadView)
-    → AllHaveTlp ps tlps → length ps < length tlps → HasTlp p o
-    → AllHaveTlp (ps ++ p ∷ []) (set tlps (length ps) o)
+added_have : (ps : List Packet) (tlps : List (Option HeadView)) (p : Packet) (o : Option HeadView) → AllHaveTlp ps tlps
+    → length ps < length tlps → HasTlp p o → AllHaveTlp (ps ++ p ∷ []) (set tlps (length ps) o)
 added_have [] [] p o has less one = absurd (omega arith)
 added_have [] (x ∷ tlps) p o has less one = (one, tt)
 added_have (q ∷ ps) [] p o has less one = absurd has

@@ -34,8 +34,7 @@ packets_with_bodies-masked_bytes key iv buf =
     (length-masked_bytes key iv 0 (body_of buf)))
 
 pub gathered-masked_bytes : (key iv : List ℕ) (ps : List Prefix) (n : ℕ) (buf new : Collected) → IsGathered ps n buf
-    → new
-    ≡ masked_bodies key iv buf → IsGathered ps n new
+    → new ≡ masked_bodies key iv buf → IsGathered ps n new
 gathered-masked_bytes key iv ps n buf new g is =
     let bytes = masked_bytes key iv 0 (body_of buf) in
     let P : Collected → Type 0 = λ x. IsGathered ps n x in
@@ -50,9 +49,7 @@ gathered-masked_bytes key iv ps n buf new g is =
     subst P (sym (is ∙ packets_with_bodies-masked_bytes key iv buf)) fine
 
 pub view-masked_bytes : (key iv : List ℕ) (ps : List Prefix) (buf new : Collected) (old : Gathered) → view ps buf ≡ old
-    → new
-    ≡ masked_bodies key iv buf
-    → view ps new ≡ record old { packets = opened_packets key iv old.packets }
+    → new ≡ masked_bodies key iv buf → view ps new ≡ record old { packets = opened_packets key iv old.packets }
 view-masked_bytes key iv ps buf new old was is =
     ap (view ps) (is ∙ packets_with_bodies-masked_bytes key iv buf)
     ∙ ap (λ x. record { aggregation = buf.aggregation; ahead = buf.ahead; packets = x })
@@ -69,17 +66,15 @@ has_place ps n buf old g was lt =
     let aggregation : buf.aggregation ≡ old.aggregation = ap (λ (u : Gathered). u.aggregation) was in
     omega (arith, count, aggregation, length-packets_of_prefixes buf.packets ps g.parts, lt)
 
-added : (buf new : Collected) (head body : List ℕ) → length buf.packets < buf.aggregation → new
-    ≡ with_parts buf head body
-    → new ≡ record buf { packets = buf.packets ++ (head, body) ∷ [] }
+added : (buf new : Collected) (head body : List ℕ) → length buf.packets < buf.aggregation
+    → new ≡ with_parts buf head body → new ≡ record buf { packets = buf.packets ++ (head, body) ∷ [] }
 added buf new head body lt is =
     let room : has_room buf ≡ true = lt-ltb (length buf.packets) buf.aggregation lt in
     rw (is, room) refl
 
 pub gathered-added : (ps : List Prefix) (n i : ℕ) (buf new : Collected) (p : Prefix) (h b head : List ℕ)
-    → IsGathered ps n buf → length buf.packets < buf.aggregation → i ≡ length buf.packets → p.posted < 256 → head
-    ≡ prefix_bytes p ++ h
-    → new ≡ with_parts buf head b → IsGathered (set ps i p) (n + p.posted) new
+    → IsGathered ps n buf → length buf.packets < buf.aggregation → i ≡ length buf.packets → p.posted < 256
+    → head ≡ prefix_bytes p ++ h → new ≡ with_parts buf head b → IsGathered (set ps i p) (n + p.posted) new
 gathered-added ps n i buf new p h b head g lt at small clear is =
     let room : length buf.packets < length ps = omega (arith, lt, g.places, g.small_aggregation) in
     let xs = buf.packets ++ (prefix_bytes p ++ h, b) ∷ [] in
@@ -106,9 +101,8 @@ gathered-added ps n i buf new p h b head g lt at small clear is =
     rw at (subst P (sym here) fine)
 
 pub view-added : (ps : List Prefix) (n i : ℕ) (buf new : Collected) (old : Gathered) (p : Prefix) (h b head : List ℕ)
-    → IsGathered ps n buf → view ps buf ≡ old → length buf.packets < buf.aggregation → i ≡ length buf.packets → head
-    ≡ prefix_bytes p ++ h
-    → new ≡ with_parts buf head b
+    → IsGathered ps n buf → view ps buf ≡ old → length buf.packets < buf.aggregation → i ≡ length buf.packets
+    → head ≡ prefix_bytes p ++ h → new ≡ with_parts buf head b
     → view (set ps i p) new ≡ with_packet old (record { prefix = p; head = h; body = b; tag = [] })
 view-added ps n i buf new old p h b head g was lt at clear is =
     let room : length buf.packets < length ps = omega (arith, lt, g.places, g.small_aggregation) in

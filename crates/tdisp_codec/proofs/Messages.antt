@@ -68,8 +68,7 @@ header_spells s f le e0 e1 =
     record {
       first = ignored_bytes 2 3 s f;
       second = ignored_bytes 8 9 s f;
-      spelled = drop_split_cells 17 0 s le
-          ∙ whole;
+      spelled = drop_split_cells 17 0 s le ∙ whole;
     }
 
 -- ---- the shape of messages, for requests and for replies
@@ -128,9 +127,8 @@ messages_judged known body_size s octets =
 
 -- ---- from a message's fields to its shape, and back
 
-same_message : (type type' function function' : ℕ) (body body' s : List ℕ) → type ≡ type' → function ≡ function' → body
-    ≡ body'
-    → SpellsMessage type function body s → SpellsMessage type' function' body' s
+same_message : (type type' function function' : ℕ) (body body' s : List ℕ) → type ≡ type' → function ≡ function'
+    → body ≡ body' → SpellsMessage type function body s → SpellsMessage type' function' body' s
 same_message type type' function function' body body' s e f g p = rw (← e, ← f, ← g) p
 
 -- kinds of messages: their fields, and what is read of the bytes

@@ -256,8 +256,7 @@ pub record IsReader {V : Type 0} (Spells : V → List ℕ → Type 0) (value : L
 module _ {V : Type 0} {Spells : V → List ℕ → Type 0} {value : List ℕ → V} {fits : ℕ → ℕ → Bool} {size : List ℕ → ℕ}
     {cause : List ℕ → ℕ → TdispFault}
     {found : List ℕ → Option TdispFault} (r : IsReader Spells value fits size cause found) where
-  answer : (s : List ℕ) → IsBytes s
-      → ((found s ≡ None) × Spells (value s) s) ⊎
+  answer : (s : List ℕ) → IsBytes s → ((found s ≡ None) × Spells (value s) s) ⊎
       ((place : ℕ) × (found s ≡ Some (cause s place)) × IsFaultPlace (IsSpelled Spells) s place)
   answer s octets = elim (r.judged s octets) [
     | inl ok ↦ inl (ok.0, r.spells_of s ok.1)
@@ -275,8 +274,7 @@ module _ {V : Type 0} {Spells : V → List ℕ → Type 0} {value : List ℕ →
         let none = ok.0 in
         rw none (
           λ p. ap (λ (x : V). Ok x) (r.shape_of v s p).1,
-          λ e. let same : value s
-              ≡ v = cc in subst (λ (x : V). Spells x s) same ok.1,
+          λ e. let same : value s ≡ v = cc in subst (λ (x : V). Spells x s) same ok.1,
         )
     | inr err ↦ let some = err.1 in rw some
         (λ p. absurd (err.2.not_spelled (record { value = v; spells = p })), λ e. absurd cc)

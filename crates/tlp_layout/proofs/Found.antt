@@ -26,8 +26,7 @@ stops_short s f place h = elim (cases_eq place 0) [
 ]
 
 stops_end : (size : List ℕ → ℕ) (s : List ℕ) (f : TlpFault) (place : ℕ) → place ≤ size s → IsBytes s
-    → TlpGoesOffAt s f place
-    → EndsAt size may_follow s place
+    → TlpGoesOffAt s f place → EndsAt size may_follow s place
 stops_end size s f place sized fit h = record {
   within = h.within;
   sized = sized;

@@ -183,9 +183,7 @@ last_in true b0 b1 b2 b3 b4 b5 b6 b7 t = refl
 last_in false b0 b1 b2 b3 b4 b5 b6 b7 t = refl
 
 early_clear : (k : Layout) (size b1 b2 : ℕ) → b1 < 256 → b2 < 256 → is_allowed_byte k size 1 b1 ≡ true
-    → is_allowed_byte k size 2 b2
-    ≡ true
-    → (b1 % 4 ≡ 0) × (b2 < 64)
+    → is_allowed_byte k size 2 b2 ≡ true → (b1 % 4 ≡ 0) × (b2 < 64)
 early_clear layouts.Memory size b1 b2 f1 f2 a1 a2 =
     ((clear_3 b1 f1).0 (and_parts _ _ a1).0, (clear_192 b2 f2).0 (and_parts _ _ a2).0)
 early_clear layouts.Config size b1 b2 f1 f2 a1 a2 =
@@ -218,10 +216,9 @@ back_by k b0 b1 b2 b3 b4 b5 low r x right lt type tag fields rest fit =
           (rw (type, tag, behind, e0, e1, e2, e3) refl);
     }
 
-back_8 : (k : Layout) (b0 b1 b2 b3 b4 b5 b6 b7 : ℕ) (t : List ℕ)
-    → IsRight k (b0 ∷ b1 ∷ b2 ∷ b3 ∷ b4 ∷ b5 ∷ b6 ∷ b7 ∷ t) → length (b0 ∷ b1 ∷ b2 ∷ b3 ∷ b4 ∷ b5 ∷ b6 ∷ b7 ∷ t)
-    ≡ head_size b0
-    → big_number 2 (b4 ∷ b5 ∷ b6 ∷ b7 ∷ t) < 2 ^ 16 → IsBytes t
+back_8 : (k : Layout) (b0 b1 b2 b3 b4 b5 b6 b7 : ℕ) (t : List ℕ) → IsRight k (b0 ∷ b1 ∷ b2 ∷ b3 ∷ b4 ∷ b5 ∷ b6 ∷ b7 ∷ t)
+    → length (b0 ∷ b1 ∷ b2 ∷ b3 ∷ b4 ∷ b5 ∷ b6 ∷ b7 ∷ t) ≡ head_size b0 → big_number 2 (b4 ∷ b5 ∷ b6 ∷ b7 ∷ t) < 2 ^ 16
+    → IsBytes t
     → SpellsHead (head_of k (b0 ∷ b1 ∷ b2 ∷ b3 ∷ b4 ∷ b5 ∷ b6 ∷ b7 ∷ t)) (b0 ∷ b1 ∷ b2 ∷ b3 ∷ b4 ∷ b5 ∷ b6 ∷ b7 ∷ t)
 back_8 layouts.Memory b0 b1 b2 b3 b4 b5 b6 b7 t r size number behind =
     let f7 : b7 < 256 = r.fit 7 in
@@ -328,8 +325,7 @@ first_is p w t lt = grind (arith, nat_tests)
 
 -- byte 0, and bytes that may stand after it
 right : (k : Layout) (p w : Bool) (t : ℕ) (bs : List ℕ) → layout_of_byte (0x40 * bit p + 0x20 * bit w + t) ≡ Some k
-    → t < 32
-    → suc (length bs) ≡ cond w 16 12 → FitFrom k (cond w 16 12) 1 bs
+    → t < 32 → suc (length bs) ≡ cond w 16 12 → FitFrom k (cond w 16 12) 1 bs
     → IsRight k ((0x40 * bit p + 0x20 * bit w + t) ∷ bs)
 right k p w t bs kind lt long f =
     let n = first_is p w t lt in

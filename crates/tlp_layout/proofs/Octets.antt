@@ -24,8 +24,7 @@ pub clear_195 : (b : ℕ) → b < 256 → (eqb (bit_and 0xc3 b) 0 ≡ true) ↔ 
 clear_195 b lt =
     let same = mask_is 0xc3 (λ b. ltb b 64 && eqb (b % 4) 0) refl b lt in (
       λ e. let p = and_parts (ltb b 64) (eqb (b % 4) 0) (sym same ∙ e) in (ltb-true _ _ p.0, eqb-true _ _ p.1),
-      λ e. same
-          ∙ and_from _ _ (lt-ltb _ _ e.0) (eq-eqb _ _ e.1),
+      λ e. same ∙ and_from _ _ (lt-ltb _ _ e.0) (eq-eqb _ _ e.1),
     )
 
 pub clear_240 : (b : ℕ) → b < 256 → (eqb (bit_and 0xf0 b) 0 ≡ true) ↔ (b < 16)

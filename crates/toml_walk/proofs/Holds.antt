@@ -133,9 +133,8 @@ pub optional_holds : {A : Type 0} (P : A → Type 0) (t : Text) (ms : Members) (
     → Holds P (optional t ms name default read)
 optional_holds P t ms name default read p h = found_holds P _ default read (get_member name ms) p h
 
-pub given_holds : {A : Type 0} (P : A → Type 0) (read : Reader A)
-    → ((path : Text) (d : Data) → Holds P (read path d)) → (path : Text) (d : Data)
-    → Holds (λ (o : Option A). IfSome o P) (given_value read path d)
+pub given_holds : {A : Type 0} (P : A → Type 0) (read : Reader A) → ((path : Text) (d : Data) → Holds P (read path d))
+    → (path : Text) (d : Data) → Holds (λ (o : Option A). IfSome o P) (given_value read path d)
 given_holds {A} P read h path d =
     next P (λ (o : Option A). IfSome o P) (read path d) (λ x. Ok (Some x)) (h path d)
     (λ x p. gives (λ (o : Option A). IfSome o P) (Some x) p)

@@ -42,9 +42,8 @@ version_read : (ms : Members) → required_value [] (migrated_members ms) (codes
 version_read ms = rw (own_value (codes "version") (integer (pos 2)) ms refl) refl
 
 -- a topology in version 2 is not deep
-pub migrated_deep : (ms : Members) → members_are_sorted (migrated_members ms) ≡ true → (p : Plan)
-    × (table_plan ms ≡ Ok p)
-    → members_depth (migrated_members ms) ≤ 80
+pub migrated_deep : (ms : Members) → members_are_sorted (migrated_members ms) ≡ true
+    → (p : Plan) × (table_plan ms ≡ Ok p) → members_depth (migrated_members ms) ≤ 80
 migrated_deep ms sorted means =
     let there = (plan_is ms).given means.0 means.1 in
     let few = plan_deep (migrated_members ms) there.0 sorted (version_read ms) there.1 in

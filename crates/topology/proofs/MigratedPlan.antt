@@ -39,8 +39,7 @@ apart name other key here there =
     true≢false (sym same ∙ other)
 
 value_is : (name : Text) (ms : Members) → bytes_eq name (codes "version") ≡ false
-    → get_member name (migrated_members ms)
-    ≡ get_member name ms
+    → get_member name (migrated_members ms) ≡ get_member name ms
 value_is name ms other = other_value name (codes "version") (integer (pos 2)) ms refl (apart name other)
 
 -- a key's value is read as before

@@ -11,9 +11,8 @@ use Rattle.topology.proofs.Carries.{Carries, Same, Extends, next, then, itself, 
 use Rattle.topology.proofs.Carries.{found_extends}
 
 one_known : (b : Bool) (known more : List Text) (k : Text) (ks : List Text) → is_known known k ≡ b
-    → (is_known known k ≡ true → is_known more k ≡ true)
-    → (unknown_in known ks ≡ None → unknown_in more ks ≡ None) → unknown_in known (k ∷ ks) ≡ None
-    → unknown_in more (k ∷ ks) ≡ None
+    → (is_known known k ≡ true → is_known more k ≡ true) → (unknown_in known ks ≡ None → unknown_in more ks ≡ None)
+    → unknown_in known (k ∷ ks) ≡ None → unknown_in more (k ∷ ks) ≡ None
 one_known true known more k ks is w later e =
     let there : is_known more k ≡ true = w is in
     let rest : unknown_in known ks ≡ None = rw is at e in

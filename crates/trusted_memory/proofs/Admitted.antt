@@ -65,9 +65,8 @@ by_effect o b w e = (
   λ x is. rw (sym e ∙ ap (λ (p : Option BlockCause). is_applied (block_effect p)) is) refl,
 )
 
-pub admitted_if_none : (regions : List Region) (t : Bool) (g : Grant) (w : Write) → block_cause regions w.span t g
-    ≡ None
-    → admitted_write regions t g (Some w) ≡ Some w
+pub admitted_if_none : (regions : List Region) (t : Bool) (g : Grant) (w : Write)
+    → block_cause regions w.span t g ≡ None → admitted_write regions t g (Some w) ≡ Some w
 admitted_if_none regions t g w = (by_effect _ _ w (cause_says regions w.span t g)).0
 
 -- ---- packets in turn

@@ -53,8 +53,7 @@ inside f r a e =
     get_or-bytes_from f r.base r.size (a - r.base) (omega arith) ∙ ap f same
 
 pub byte_in_regions-seen : (f : ℕ → ℕ) (rs : List Region) (a : ℕ)
-    → byte_in_regions rs (map (λ r. bytes_from f r.base r.size) rs) a
-    ≡ cond (in_region rs a) (f a) 0
+    → byte_in_regions rs (map (λ r. bytes_from f r.base r.size) rs) a ≡ cond (in_region rs a) (f a) 0
 byte_in_regions-seen f [] a = refl
 byte_in_regions-seen f (r ∷ rs) a = elim (cases_Bool (is_inside r a)) [
   | inl e ↦ rw e (inside f r a e)

@@ -118,9 +118,8 @@ page_bytes-put n q new es es' puts = elim (cases_Bool (eqb n q)) [
 -- an address is in the page of the write or in another: there its place in the page is the one that is written, here
 -- the write does not reach it
 pub paged-written : (w : Write) (old new : List ℕ) (es es' : List (ℕ × List ℕ)) → crosses w.span ≡ false
-    → page_bytes es (w.span.address / 4096) ≡ old
-    → HasWritten (w.span.address % 4096) w old new → PutsPage (w.span.address / 4096) new es es' → (a : ℕ)
-    → paged_byte es' a ≡ byte_written w (paged_byte es) a
+    → page_bytes es (w.span.address / 4096) ≡ old → HasWritten (w.span.address % 4096) w old new
+    → PutsPage (w.span.address / 4096) new es es' → (a : ℕ) → paged_byte es' a ≡ byte_written w (paged_byte es) a
 paged-written w old new es es' whole was has puts a =
     let put = page_bytes-put (w.span.address / 4096) (a / 4096) new es es' puts in
     elim (cases_Bool (eqb (w.span.address / 4096) (a / 4096))) [

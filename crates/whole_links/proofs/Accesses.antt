@@ -25,14 +25,13 @@ use Rattle.spec_links.specs.Hops.{clears_hop, is_forward_on}
 use Rattle.link_stores.specs.declared.link.LinkAccesses.{LinkAccesses}
 use Rattle.join_ends.specs.Turns.{hops_cleared}
 use Rattle.join_ends.proofs.Turns.{turn_at, rests_all, turn_then}
-use Rattle.all_links.specs.{waiting_reads_after, LinkEnds}
+use Rattle.all_links.specs.{waiting_reads_after, LinkEnds, IsThere}
 use Rattle.all_links.specs.declared.links.Links.{Links}
 use Rattle.all_links.specs.Interfaces.{interface_named}
 use Rattle.all_links.specs.Accesses.{is_sending, AccessesTurn, carried_on_link, same_reads, same_floors, same_carried}
 use Rattle.all_links.specs.Accesses.{device_draw, nothing_happens}
 use Rattle.ide_types.specs.declared.memory.OutOfMemory.{OutOfMemory}
 use Rattle.run_events.specs.declared.event.InterfaceEvent.{InterfaceEvent}
-use Rattle.all_links.specs.{IsThere}
 use Rattle.whole_links.specs.declared.whole.WholeLinks.{WholeLinks}
 use Rattle.whole_links.specs.Whole.{HasAllAccesses}
 use Rattle.std.specs.Option.{option_map_or}
@@ -70,8 +69,7 @@ pub answer_takes : (plan : Plan) (xs : List LinkAccesses) (link : ℕ) (a a' : L
 answer_takes plan xs link a a' w is after takes =
     turn_at _ same_floors nothing_happens same_carried xs link a a' is
     (record {
-      reads_are = ap (λ (x : LinkAccesses). x.reads) after
-          ∙ sym (takes_reads plan link w link a.reads takes
+      reads_are = ap (λ (x : LinkAccesses). x.reads) after ∙ sym (takes_reads plan link w link a.reads takes
           ∙ ap (λ (b : Bool). if b then drop 1 a.reads else a.reads) (same-true link));
       floors_are = ap (λ (x : LinkAccesses). x.floors) after;
       sizes_are = ap (λ (x : LinkAccesses). x.guarded.sizes) after;
@@ -80,8 +78,7 @@ answer_takes plan xs link a a' w is after takes =
       carried_are = λ d. ap (λ (x : LinkAccesses). (queue_of x.carried d).tlps) after;
     })
     (λ k other. record {
-      reads_rest = λ ws. takes_reads plan link w k ws takes
-          ∙ ap (λ (b : Bool). if b then drop 1 ws else ws) other;
+      reads_rest = λ ws. takes_reads plan link w k ws takes ∙ ap (λ (b : Bool). if b then drop 1 ws else ws) other;
       floors_rest = λ ns. refl;
       nothing = λ older. refl;
       carried_rest = λ d ts. refl;
@@ -143,8 +140,7 @@ floors_here s i came at draw xs a a' came_is named is draw_is after =
     turn_at same_reads _ nothing_happens same_carried xs at.0 a a' is
     (record {
       reads_are = ap (λ (x : LinkAccesses). x.reads) after;
-      floors_are = ap (λ (x : LinkAccesses). x.floors) after
-          ∙ (ap (λ (n : ℕ). slice_set a.floors at.1 n) draw_is
+      floors_are = ap (λ (x : LinkAccesses). x.floors) after ∙ (ap (λ (n : ℕ). slice_set a.floors at.1 n) draw_is
           ∙ sym (floors_are at.0 a.floors
           ∙ ap (λ (b : Bool). if b then slice_set a.floors at.1 (device_draw s i at.0) else a.floors)
           (same-true at.0)));
@@ -209,8 +205,7 @@ all_cleared ends xs k d = by (nat_lt k (length xs)) refl
     either true ts none = none
     either false ts none = refl
 
-    by : (b : Bool) → nat_lt k (length xs) ≡ b
-        → (if b && clears_hop ends k then [] else carried_on_link xs k d)
+    by : (b : Bool) → nat_lt k (length xs) ≡ b → (if b && clears_hop ends k then [] else carried_on_link xs k d)
         ≡ (if clears_hop ends k then [] else carried_on_link xs k d)
     by true is = refl
     by false is = either (clears_hop ends k) (carried_on_link xs k d) (none_past xs k d is)
@@ -297,8 +292,7 @@ forward_takes xs link way a a' w is after sealed =
       sizes_are = ap (λ (x : LinkAccesses). x.guarded.sizes) after;
       leads = subst (λ (g : GuardedMemory). MmioLeads a.guarded [] g)
           (sym (ap (λ (x : LinkAccesses). x.guarded) after)) (λ older left. left);
-      carried_are = λ d. ap (λ (x : LinkAccesses). (queue_of x.carried d).tlps) after
-          ∙ (first_left a.carried way d
+      carried_are = λ d. ap (λ (x : LinkAccesses). (queue_of x.carried d).tlps) after ∙ (first_left a.carried way d
           ∙ sym (takes_tlps link way w link d (queue_of a.carried d).tlps sealed
           ∙ ap (λ (b : Bool). if b && (direction_number way == direction_number d) then drop 1
           (queue_of a.carried d).tlps

@@ -109,8 +109,7 @@ module _ (plan : Plan) (b : BesidePorts) (st : LinkState) (link : ℕ) (r : Boun
   abbrev sends : Stepped
   sends = stepped_send plan b st (port_at Host link) (outgoing_of (streams_of plan link) Host r.bytes) false true
 
-  older : (draw : ℕ) → draw_below o r.bound.floor ≡ Some draw
-      → stepped_completion plan b st (port_at Host link) r o
+  older : (draw : ℕ) → draw_below o r.bound.floor ≡ Some draw → stepped_completion plan b st (port_at Host link) r o
       ≡ (v.Interface (iv.RefusedRefreshFirst draw r.bound.floor), st)
   older draw below =
       let at = below_is o r.bound.floor draw below in

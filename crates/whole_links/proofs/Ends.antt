@@ -57,9 +57,8 @@ ends_with plan x whole same = ends_if plan x whole (ap length same) (λ answer b
 
 -- an event, and how it is spelled
 pub ends_of : {verdict : Verdict} {event : Event} (plan : Plan) (old new : WholeLinks) (e : Event) (mid : Links)
-    → event ≡ e → EndsWith plan verdict old.links mid e → HasAllAccesses old → new.links ≡ mid → new.accesses
-    ≡ old.accesses
-    → WholeEnds plan verdict old new event
+    → event ≡ e → EndsWith plan verdict old.links mid e → HasAllAccesses old → new.links ≡ mid
+    → new.accesses ≡ old.accesses → WholeEnds plan verdict old new event
 ends_of {verdict} {event} plan old new e mid is x whole links same =
     subst (λ (v : Event). WholeEnds plan verdict old new v) (sym is)
     (ends_with plan (subst (λ (s : Links). EndsWith plan verdict old.links s e) (sym links) x) whole same)

@@ -14,8 +14,7 @@ use Rattle.whole_links.specs.Besides.{reply_at_ends, reply_oldest, reply_numbere
 module _ (s : WholeLinks) (link : ℕ) (l : LinkEnds) (a : LinkAccesses)
     (l_is : slice_get s.links.ends.links link ≡ Some l)
     (a_is : slice_get s.accesses link ≡ Some a) where
-  here : link_reply s link
-      ≡ reply_oldest s.links.keeper.interfaces l link s.links.trusted.contents a.reads
+  here : link_reply s link ≡ reply_oldest s.links.keeper.interfaces l link s.links.trusted.contents a.reads
   here =
       (λ i. reply_at_ends s.links.keeper.interfaces (l_is i) link s.links.trusted.contents
       (option_map_or (λ (x : LinkAccesses). x.reads) (a_is i) []))

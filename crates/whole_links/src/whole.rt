@@ -10,8 +10,8 @@ use crate::packets::Passage;
 use all_links::Links;
 use ide_types::{OutOfMemory, PortName, ValidPlan};
 use join_ends::clear_hops;
-use run_events::{AccessEvent, Event, Loss};
 use link_stores::Accesses;
+use run_events::{AccessEvent, Event, Loss};
 use run_verdicts::{Operation, Verdict};
 use std::alloc::Global;
 

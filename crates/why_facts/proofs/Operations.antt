@@ -20,8 +20,7 @@ use Rattle.why_facts.specs.Kept.{if_found}
 
 -- of a stream that the plan has, by what is the same of the manager's state of it
 of_op : (plan : Plan) (w : Whole) (h : History) → WholeStandsFor plan w h
-    → (line stream : ℕ) (facts : StreamStage → List Fact)
-    (due : List Fact) → facts (op_of h line stream) ≡ due
+    → (line stream : ℕ) (facts : StreamStage → List Fact) (due : List Fact) → facts (op_of h line stream) ≡ due
     → if_found (find_op plan w.links line stream) facts ≡ if_stream plan line stream due
 of_op plan w h stands line stream facts due same =
     ap (λ (o : Option StreamStage). if_found o facts) (stands.links.ops_is line stream)

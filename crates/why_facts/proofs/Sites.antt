@@ -64,8 +64,7 @@ readings_are plan w h stands = λ i. record {
       link i;
 }
   where
-    known_there : (link requester : ℕ)
-        → known_facts (with_requester plan w.faces link requester)
+    known_there : (link requester : ℕ) → known_facts (with_requester plan w.faces link requester)
         ≡ site_due plan h (site_of_requester plan link requester)
     known_there link requester = ap known_facts (requester_is plan h w.faces stands.faces link requester)
         ∙ known_is plan h (site_of_requester plan link requester)

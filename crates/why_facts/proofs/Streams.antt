@@ -44,8 +44,7 @@ sent_is plan h s k Off other = refl
 sent_is plan h s k (Loaded j) other = refl
 sent_is plan h s k (On j) other = by (waits k j other)
   where
-    by : (b : Bool)
-        → set_state_of_slot (if b then Armed j (key_of plan j s) else Live
+    by : (b : Bool) → set_state_of_slot (if b then Armed j (key_of plan j s) else Live
         (sealing_key plan (sealed_packets plan h) s j))
         ≡ (if b then set.Waits j
         else set.On j (length (units (sent_packets plan h s j))) (length (open_unit (sent_packets plan h s j))))

@@ -73,8 +73,7 @@ module _ (plan : Plan) (old new : Links) (w : Whole) (verdict : Verdict) (both :
         interface = j.interface;
         portion = ap (λ (m : InterfacesView). m.portion) ended.0 ∙ j.portion_is;
         manager = ap (λ (m : InterfacesView). m.interfaces) ended.0 ∙ j.manager_is;
-        ends_are = ap (λ (e : EndsView). e.links) ended.1
-            ∙ ap (λ (d : DeviceTdis). slice_set old.ends.links x.link
+        ends_are = ap (λ (e : EndsView). e.links) ended.1 ∙ ap (λ (d : DeviceTdis). slice_set old.ends.links x.link
             (record p.link_ends { device = record p.link_ends.device { interfaces = d } }))
             (j.device_is ∙ (λ n. record {
               interfaces = slice_set p.link_ends.device.interfaces.interfaces p.place j.tdi;
@@ -120,8 +119,7 @@ module _ (plan : Plan) (old new : Links) (w : Whole) (verdict : Verdict) (both :
       both.links.fits at)
       ∙ ap (λ (ps : List PeerPlan). has_peer ps x.link line stream) both.links.peers_are
 
-  has_nowhere : (i line stream : ℕ) → length (sites plan) ≤ i
-      → has_peer_in old.keeper old.ends i line stream ≡ false
+  has_nowhere : (i line stream : ℕ) → length (sites plan) ≤ i → has_peer_in old.keeper old.ends i line stream ≡ false
   has_nowhere i line stream past =
       ap (has_peer_if_there old.ends line stream)
       (interface_absent plan old.ends.links old.keeper.interfaces old.trusted.contents w i both.whole.beside past)

@@ -192,8 +192,7 @@ accesses_first plan = record {
   reads = λ link. none_read plan.links link;
   bytes = λ link i b offset. none_written plan.links link i b offset ∙ sym (byte_last_written-none offset);
   sizes = λ link p is. sizes_of plan.links link p is;
-  floors = λ link. zeros_at plan.links link
-      ∙ sym (zeros_on link (sites plan)
+  floors = λ link. zeros_at plan.links link ∙ sym (zeros_on link (sites plan)
       ∙ (ap (map first_floor) (sites_of_is plan link)
       ∙ zeros_of (interfaces_before plan.links link) link (planned_on plan.links link)));
   carried = λ link d few. none_carried plan.links link d;

@@ -325,8 +325,7 @@ module _ (plan : Plan) (old new : Links) (w : Whole) (verdict : Verdict) (both :
             else w.draw (peer_line p) q.id);
       }
     where
-      many_set : (b : Bool)
-          → length (if b then slice_set old.keeper.peer_draws (peer_of line) w.links.draws
+      many_set : (b : Bool) → length (if b then slice_set old.keeper.peer_draws (peer_of line) w.links.draws
           else old.keeper.peer_draws) ≡ length old.keeper.peer_draws
       many_set true = length-set old.keeper.peer_draws (peer_of line) w.links.draws
       many_set false = refl
@@ -517,8 +516,7 @@ module _ (plan : Plan) (old new : Links) (w : Whole) (verdict : Verdict) (both :
   stop_beside sides is = ⊎_elim (λ none. stop_nowhere sides none is) (λ n. stop_here sides n is)
       (name_cases old.keeper.keys.manager old.ends line stream)
 
-  pub stop_drawn : BesideOperation op.Stop line stream verdict old new
-      → AreDrawn plan new.keeper.peer_draws w.draw
+  pub stop_drawn : BesideOperation op.Stop line stream verdict old new → AreDrawn plan new.keeper.peer_draws w.draw
   stop_drawn sides = subst (λ (ns : List ℕ). AreDrawn plan ns w.draw)
       (sym (⊎_elim (λ none. (sides.unnamed none).1)
       (λ n. drawn_here plan old new w verdict both op.Stop line stream sides n)

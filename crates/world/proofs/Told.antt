@@ -139,8 +139,7 @@ module _ (ops : ℕ → ℕ → StreamStage) (drawn : ℕ) (x : Site) (line stre
     (g : Managed)
   where
     -- of a stream of a link, or of a hop
-    pub link_stop : nat_le 24 line ≡ false
-        → managed_after ops drawn x (event.Stop line stream loss) w g
+    pub link_stop : nat_le 24 line ≡ false → managed_after ops drawn x (event.Stop line stream loss) w g
         ≡ (if (line == x.link) && (stream == x.plan.stream) && stop_begins (ops line stream) drawn w
         then record g { view = view_broken g.view } else g)
     link_stop early = ap (λ (b : Bool). if b then record g { view = view_broken g.view } else g)

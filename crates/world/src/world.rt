@@ -7,10 +7,10 @@ ghost use Rattle.run_events.specs.Spells.{IsAllowed};
 use ide_types::{OutOfMemory, Plan, ValidPlan};
 use join_accesses::WholeLinks;
 use join_interfaces::interface_operations_join;
-use run_events::Event;
-use run_verdicts::Verdict;
 use machine_operations::points_stand;
 use machine_whole::{whole_begins, whole_steps};
+use run_events::Event;
+use run_verdicts::Verdict;
 use std::alloc::Global;
 use std::marker::Model;
 

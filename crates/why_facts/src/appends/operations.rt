@@ -10,9 +10,9 @@ ghost use Rattle.why_facts.specs.Streams.{open_seen};
 use crate::appends::streams::{is_live, push};
 use crate::{Fact, ManagerState, OperationFact};
 use ide_types::{OutOfMemory, SubKind};
+use key_host::StageFacts;
 use run_verdicts::Operation;
 use sub_stream::StreamFacts;
-use key_host::StageFacts;
 
 /// What the manager knows of a stream.
 pub fn manager_state(stage: StageFacts) -> ManagerState

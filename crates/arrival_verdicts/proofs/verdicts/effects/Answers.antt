@@ -1,5 +1,4 @@
-use Rattle.std.proofs.Common.{◌≡◌, ◌∙◌, ap, sym, subst, List, ◌+◌, ◌++◌, [], ◌∷◌, arith, drop, ℕ, length}
-use Rattle.std.proofs.Common.{length-append}
+use Rattle.std.proofs.Common.{◌≡◌, ◌∙◌, ap, sym, subst, List, ◌+◌, ◌++◌, [], ◌∷◌, arith, drop, ℕ, length, length-append}
 use Rattle.std.proofs.lemmas.List.{append-nil, append_assoc}
 use Rattle.ide_types.specs.declared.plan.Region.{Region}
 use Rattle.ide_prefix.specs.Cut.{packet_of_view}

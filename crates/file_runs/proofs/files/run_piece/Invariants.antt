@@ -4,8 +4,7 @@ use Rattle.file_runs.proofs.files.run_piece.Given as goal
 
 abbrev pub invariant-loop-end : goal.invariant-loop-end
 invariant-loop-end g l = record {
-  so_far : (past : g.W.LineWork.Past) → g.W.LineWork.follows l.initial.work past
-      → SoFarBy (g.W.LineWork.follows l.work)
+  so_far : (past : g.W.LineWork.Past) → g.W.LineWork.follows l.initial.work past → SoFarBy (g.W.LineWork.follows l.work)
       (λ over left. due_behind g.W.LineWork.advance g.W.LineWork.closing over l.initial.lines.number past
       l.initial.lines.unended.items (l.piece ++ left))
       (λ later over left. due_behind g.W.LineWork.advance g.W.LineWork.closing over l.lines.number later

@@ -16,8 +16,7 @@ puts c =
     let blank = last_is_blank c.pop.new.self.items c.in-Some.page
     (subst (λ (s : List (List ℕ)). All IsBlank s) c.in-Some.ensures.items c.self.invariant.blank) in
     record {
-      there = λ q. c.put.ensures.there q
-          ∙ ap (λ (s : List ℕ). cond (is_page_name c.args.name q) (Some s)
+      there = λ q. c.put.ensures.there q ∙ ap (λ (s : List ℕ). cond (is_page_name c.args.name q) (Some s)
           (lookup (is_page_name q) c.self.inside.pages.entries)) blank;
     }
 

@@ -20,9 +20,8 @@ sealed : goal.After-count → Sealing
 sealed c = sealing_right c.self.inside.tx c.self.inside.closed c.self.inside.posted c.self.inside.total (content c)
     c.args.more
 
-right : (c : goal.After-count) → sealing_of c.self.inside.tx (lent_totals c.lent_total-lent.result) (content c)
-    c.args.more
-    ≡ sealed c
+right : (c : goal.After-count)
+    → sealing_of c.self.inside.tx (lent_totals c.lent_total-lent.result) (content c) c.args.more ≡ sealed c
 unfolding sealed content
 right c =
     sealing-is c.self.inside.tx c.self.inside.closed c.self.inside.posted c.self.inside.total

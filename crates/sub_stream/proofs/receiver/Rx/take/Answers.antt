@@ -68,9 +68,8 @@ answer c =
     c.args.allowed (live_key_seen (units_of (packet c).prefix.k c.self.inside.zero c.self.inside.one)
     (unit_kept c.self.inside.holds c.self.inside.unit).packets (held c)) (packet c)
 
-taken_is : (c : goal.After-self-in-Ok-1) → receiver_outcome c.args.self.now c.args.allowed (lent_totals c.args.total)
-    (packet c)
-    ≡ answer c
+taken_is : (c : goal.After-self-in-Ok-1)
+    → receiver_outcome c.args.self.now c.args.allowed (lent_totals c.args.total) (packet c) ≡ answer c
 unfolding packet answer
 taken_is c =
     ap (λ (rx : Receiver). receiver_outcome rx c.args.allowed (lent_totals c.args.total) (packet c))
