@@ -23,7 +23,7 @@ use Rattle.ide_port.specs.declared.answer.Sent.{Sent}
 use Rattle.link_ends.specs.Ends.{trusting_at}
 use Rattle.link_ends.specs.Keepers.{KeysAlone}
 use Rattle.link_ends.specs.PairKeepers.{PairOperates, NoMorePairUnits}
-use Rattle.run_events.specs.declared.event.Loss.{Loss}
+use Rattle.script_events.specs.declared.event.Loss.{Loss}
 use Rattle.key_host.specs.declared.operation.NamedOperation.{NamedOperation}
 use Rattle.key_host.specs.declared.operation.StreamOutcome.{StreamOutcome}
 use Rattle.link_ends.specs.declared.device.Device.{Device as DeviceEnd}

@@ -18,7 +18,7 @@ pub use Rattle.spec_keys.specs.Places.{sent_direction}
 pub use Rattle.all_ends.specs.Cuts.{cut_packets}
 pub use Rattle.link_ends.proofs.Names.{first_named, op_named_first}
 pub use Rattle.link_ends.proofs.Streams.{changed_same, found_id, found_plan, machine_changed, machine_found}
-pub use Rattle.run_verdicts.specs.declared.verdict.UnitName.{UnitName}
+pub use Rattle.event_verdicts.specs.declared.verdict.UnitName.{UnitName}
 unfoldable pub use Rattle.arrival_verdicts.specs.{stream_plan, streams_by_line}
 pub use Rattle.machine_ports.specs.Machine.{BesidePorts, LinkPacket, LinkState, Stepped, stepped_answer, kept_packet}
 pub use Rattle.machine_ports.specs.Machine.{port_at, port_place, reset_state, machine_status}
@@ -27,8 +27,8 @@ pub use Rattle.spec_stream.specs.Stream.{at_sub, outcome_of_checks, holds_any, i
 pub use Rattle.spec_stream.specs.Stream.{sealed_all, slot_in_set, stream_outcome, stream_outcome_by_keys}
 unfoldable pub use Rattle.machine_ports.specs.Machine.{find, find_op, with_stream_state}
 pub use Rattle.machine_ports.specs.Stands.{PortsStandFor, op_at, stream_state_due}
-pub use Rattle.run_verdicts.specs.declared.verdict.Effect.{Effect}
-pub use Rattle.run_verdicts.specs.declared.verdict.Verdict.{Verdict}
+pub use Rattle.event_verdicts.specs.declared.verdict.Effect.{Effect}
+pub use Rattle.event_verdicts.specs.declared.verdict.Verdict.{Verdict}
 pub use Rattle.std.proofs.Common.{Bool, List, [], add-one, ap, arith, drop, false, length, length-append, length-drop}
 pub use Rattle.std.proofs.Common.{refl, rules, subst, suc, sym, take, true, zero, ℕ, ⊎_elim, ◌*◌, ◌++◌, ◌+◌, ◌-◌, ◌<◌}
 pub use Rattle.std.proofs.Common.{◌==◌, ◌∙◌, ◌∷◌, ◌≡◌, ◌≤◌, ◌⊎◌}

@@ -22,6 +22,7 @@ use crate::peers::{DevicePeers, has_peer};
 use crate::places::{LinePlace, line_place};
 use crate::sending::{bound_on, send_between, send_far, send_near};
 use arrival_verdicts::{ReceivingPort, switch_verdict, taken_verdict};
+use event_verdicts::Verdict;
 use hop_queues::HopQueues;
 use ide_port::{Arrival, Port, SendBuffer, Sent};
 use ide_types::{
@@ -33,8 +34,7 @@ use interface_host::InterfaceOperation;
 use key_host::{NamedOperation, StreamOutcome};
 use link_ends::{HostKeeper, LinkEnds, PairEnds, PeerStreams};
 use link_stores::{Accesses, LinkAccesses};
-use run_events::Loss;
-use run_verdicts::Verdict;
+use script_events::Loss;
 use std::alloc::Global;
 use std::marker::Model;
 use trusted_memory::Trusted;

@@ -20,7 +20,7 @@ use Rattle.spec_interfaces.specs.Devices.{is_run}
 use Rattle.interface_state.specs.declared.states.TdiState.{TdiState}
 use Rattle.interface_state.specs.declared.states.TdiState.TheVariants.{ConfigUnlocked, ConfigLocked, Run, Error}
 use Rattle.all_links.specs.Accesses.{planned_stream, device_draw, place_runs}
-use Rattle.run_verdicts.specs.declared.verdict.Verdict.TheVariants as v
+use Rattle.event_verdicts.specs.declared.verdict.Verdict.TheVariants as v
 use Rattle.interface_state.specs.Machine.{Tdi, Call, state_code}
 use Rattle.interface_ends.specs.Replies.{DeviceTdis, called_at}
 use Rattle.interface_host.specs.declared.operation.InterfaceOperation.{InterfaceOperation}
@@ -28,8 +28,8 @@ use Rattle.interface_host.specs.declared.operation.InterfaceOutcome.{InterfaceOu
 use Rattle.interface_host.specs.declared.operation.InterfaceOutcome.TheVariants.{Next, Done, Refused}
 use Rattle.interface_host.specs.Views.{HostTdi}
 use Rattle.interface_ends.specs.Keepers.{Ended}
-use Rattle.run_events.specs.declared.event.InterfaceEvent.{InterfaceEvent}
-use Rattle.run_events.specs.declared.event.Loss.{Loss}
+use Rattle.script_events.specs.declared.event.InterfaceEvent.{InterfaceEvent}
+use Rattle.script_events.specs.declared.event.Loss.{Loss}
 use Rattle.all_links.specs.Interfaces.{interface_named, tdi_named, interface_of_ends, ended_in, ended_if_there}
 use Rattle.all_links.specs.Interfaces.{ended_on_link, verdict_in, has_peer_in, managed_peer_stream, peer_verdict_in}
 use Rattle.all_links.specs.Interfaces.{has_peer_if_there}

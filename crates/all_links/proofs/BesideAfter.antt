@@ -8,9 +8,9 @@ use Rattle.all_links.proofs.Terms.{OperatesAt, ResetsAt, PortName, peer_live, po
 use Rattle.all_links.proofs.Terms.{drawn_on_line, nat_le, ◌-◌}
 use Rattle.std.proofs.Common.{◌&&◌}
 use Rattle.std.specs.Prelude.{IfSome}
-use Rattle.run_events.specs.declared.event.Loss.{Loss}
-use Rattle.run_verdicts.specs.declared.verdict.Operation.{Operation}
-use Rattle.run_verdicts.specs.declared.verdict.Operation.TheVariants as operation
+use Rattle.script_events.specs.declared.event.Loss.{Loss}
+use Rattle.event_verdicts.specs.declared.verdict.Operation.{Operation}
+use Rattle.event_verdicts.specs.declared.verdict.Operation.TheVariants as operation
 use Rattle.key_host.specs.declared.operation.NamedOperation.{NamedOperation as OpCall}
 use Rattle.key_host.specs.declared.operation.NamedOperation.TheVariants as call
 use Rattle.key_host.specs.declared.operation.StreamOutcome.{StreamOutcome}

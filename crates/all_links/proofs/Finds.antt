@@ -9,8 +9,8 @@ use Rattle.std.proofs.Common.{◌^◌}
 use Rattle.ide_types.specs.declared.port.PortName.{PortName}
 use Rattle.ide_port.specs.{PortEnd, PortUnitsAtMost}
 use Rattle.ide_port.proofs.Units.{port-more}
-use Rattle.run_events.specs.declared.event.Event.{Event}
-use Rattle.run_events.specs.declared.event.InterfaceEvent.{InterfaceEvent}
+use Rattle.script_events.specs.declared.event.Event.{Event}
+use Rattle.script_events.specs.declared.event.InterfaceEvent.{InterfaceEvent}
 
 -- ---- how many units
 

@@ -9,15 +9,15 @@ use Rattle.all_links.proofs.Terms.{History, BesidePorts, LinkState, step_of, fal
 use Rattle.ide_types.specs.Ports.{host_port}
 use Rattle.join_keys.specs.Paired.{PairOperationsJoin}
 use Rattle.line_arrivals.specs.{HostKeeper}
-use Rattle.run_events.specs.declared.event.Loss.{Loss}
-use Rattle.run_verdicts.specs.declared.verdict.Operation.{Operation}
-use Rattle.run_verdicts.specs.declared.verdict.Operation.TheVariants as op
+use Rattle.script_events.specs.declared.event.Loss.{Loss}
+use Rattle.event_verdicts.specs.declared.verdict.Operation.{Operation}
+use Rattle.event_verdicts.specs.declared.verdict.Operation.TheVariants as op
 use Rattle.key_host.specs.declared.operation.NamedOperation.{NamedOperation as OpCall}
 use Rattle.key_host.specs.declared.operation.StreamOutcome.{StreamOutcome}
 use Rattle.key_host.specs.Operations.{OpName, op_name}
 use Rattle.key_host.specs.Walk.{verdict_of}
 use Rattle.all_links.specs.BesideAfter.{works_on}
-use Rattle.run_verdicts.specs.declared.verdict.Verdict.TheVariants as v
+use Rattle.event_verdicts.specs.declared.verdict.Verdict.TheVariants as v
 
 works : (operation : Operation) (line : ℕ) → works_on operation line ≡ true → WorksOn operation line
 works op.Establish line is same = absurd cc

@@ -3,9 +3,9 @@ use Rattle.all_links.proofs.Terms.{◌≡◌, ℕ, suc, zero, length, length-set
 use Rattle.all_links.proofs.Terms.{nat_lt, nat_le, if◌then◌else◌, EndsView, InterfacesView, Links, peer_live}
 use Rattle.std.specs.Prelude.{Ok, Err}
 use Rattle.ide_types.specs.declared.status.StreamStatus.{StreamStatus}
-use Rattle.run_events.specs.declared.event.Loss.{Loss}
-use Rattle.run_events.specs.declared.event.Lost.{Lost}
-use Rattle.run_events.specs.declared.event.Lost.TheVariants.{Request, Reply}
+use Rattle.script_events.specs.declared.event.Loss.{Loss}
+use Rattle.script_events.specs.declared.event.Lost.{Lost}
+use Rattle.script_events.specs.declared.event.Lost.TheVariants.{Request, Reply}
 use Rattle.tdisp_codec.specs.declared.request.RequestView.{RequestView}
 use Rattle.interface_host.specs.declared.operation.InterfaceOperation.{InterfaceOperation}
 use Rattle.interface_host.specs.declared.operation.InterfaceOutcome.{InterfaceOutcome}

@@ -6,7 +6,7 @@ use Rattle.all_links.proofs.Terms.{reset_state, PortsStandFor, named_stream, End
 use Rattle.all_links.proofs.Terms.{KeeperView, ResetsAt, statuses_of, both_of, IsBounded, AreLinks, links_state}
 use Rattle.all_links.proofs.Terms.{EndsWith, BesidePorts, beside_in, option_and_then, PortEnd, PortName, LinkEnds}
 use Rattle.all_links.proofs.Terms.{none-some, option_map, port_in, slice_get}
-use Rattle.run_verdicts.specs.declared.verdict.Verdict.TheVariants as v
+use Rattle.event_verdicts.specs.declared.verdict.Verdict.TheVariants as v
 use Rattle.ide_types.specs.Ports.{host_port, device_port}
 use Rattle.ide_port.specs.{port_stream_status}
 use Rattle.line_arrivals.specs.{HostKeeper, reset_all, port_at_place, pair_port, line_place, LinePlace, Link, Near}

@@ -11,7 +11,7 @@ use Rattle.line_arrivals.specs.{cut_packets, end_sent_verdict, line_place}
 use Rattle.std.proofs.lemmas.Bool.{and_parts}
 use Rattle.tlp_layout.specs.Outgoing.{Outgoing, outgoing_of}
 use Rattle.spec_links.specs.Ports.{at_switch, may_send, port_of, sealing_end}
-use Rattle.run_verdicts.specs.declared.verdict.Verdict.TheVariants as v
+use Rattle.event_verdicts.specs.declared.verdict.Verdict.TheVariants as v
 use Rattle.ide_port.specs.declared.answer.Sent.TheVariants.{Sealed}
 use Rattle.all_links.specs.Links.{Ends, EndsOr, EndsSendingOr}
 use Rattle.ide_types.specs.declared.memory.OutOfMemory.{OutOfMemory}

@@ -12,7 +12,7 @@ use Rattle.ide_types.specs.declared.plan.PeerPlan.{PeerPlan}
 use Rattle.ide_types.specs.Ports.{host_port}
 unfoldable use Rattle.spec_interfaces.specs.Peers.{peer_end}
 use Rattle.line_arrivals.proofs.{peer_end_is, each_set, seen_same}
-use Rattle.run_events.specs.declared.event.Loss.{Loss}
+use Rattle.script_events.specs.declared.event.Loss.{Loss}
 use Rattle.line_arrivals.specs.{PairEnds, secure_or_live, OperatesIn, OperatesOnLink, OperatesOnPair, line_place}
 use Rattle.line_arrivals.specs.{changed_at, port_at_place, live_of, live_at_port, pair_port, settled_ends, settled_link}
 use Rattle.line_arrivals.specs.{settled_first_links, settled_peer, cleared_place, cleared_ends, cleared_on, all_cleared}

@@ -18,7 +18,7 @@ pub use Rattle.all_links.specs.Links.{Ends, StepEndsBy, EndsIf, EndsAs, EndsSend
 pub use Rattle.all_links.specs.Links.{StandsForSome}
 pub use Rattle.all_links.specs.Besides.{IsAnsweredBy, answer_of_links, beside_in}
 pub use Rattle.all_links.specs.declared.links.Links.{Links}
-pub use Rattle.run_events.specs.declared.event.Event.TheVariants.{Interface, Dump, Reset, Send, Status}
+pub use Rattle.script_events.specs.declared.event.Event.TheVariants.{Interface, Dump, Reset, Send, Status}
 pub use Rattle.trusted_memory.specs.{MemoryContents}
 pub use Rattle.ide_types.specs.declared.plan.Region.{Region}
 pub use Rattle.spec_links.specs.Plan.{has_port}
@@ -27,7 +27,7 @@ pub use Rattle.machine_ports.specs.Machine.{reset_state, machine_status, status_
 pub use Rattle.spec_stream.specs.Stream.{StreamState}
 unfoldable pub use Rattle.machine_ports.specs.Machine.{step_of}
 pub use Rattle.machine_ports.specs.Stands.{PortsStandFor}
-pub use Rattle.run_verdicts.specs.declared.verdict.Verdict.{Verdict}
+pub use Rattle.event_verdicts.specs.declared.verdict.Verdict.{Verdict}
 pub use Rattle.join_keys.specs.Joined.{OperationsJoin}
 pub use Rattle.std.proofs.Common.{Bool, List, [], ap, arith, drop, false, length, refl, subst, suc, sym, take, true}
 pub use Rattle.std.proofs.Common.{zero, ℕ, ◌++◌, ◌+◌, ◌-◌, ◌<◌, ◌==◌, ◌∙◌, ◌∷◌, ◌≡◌, ◌≤◌}

@@ -2,8 +2,8 @@
 use Rattle.std.specs.Prelude.{ℕ, Option, slice_get, Bool, true, false}
 use Rattle.std.specs.Option.{option_map_or, option_and_then}
 use Rattle.ide_types.specs.declared.sub.SubKind.TheVariants.{Pr}
-use Rattle.run_verdicts.specs.declared.verdict.Verdict.{Verdict}
-use Rattle.run_verdicts.specs.declared.verdict.Verdict.TheVariants as v
+use Rattle.event_verdicts.specs.declared.verdict.Verdict.{Verdict}
+use Rattle.event_verdicts.specs.declared.verdict.Verdict.TheVariants as v
 use Rattle.interface_state.specs.Machine.{Tdi}
 use Rattle.spec_interfaces.specs.Devices.{is_run}
 use Rattle.ide_port.specs.{receiving_draw_in}

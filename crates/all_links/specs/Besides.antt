@@ -1,10 +1,10 @@
 -- What all links say beside their ports: T of what is sent, and the answers to events on interfaces.
 use Rattle.std.specs.Prelude.{ℕ, ◌≡◌, Option, Some, IsSome}
-use Rattle.run_events.specs.declared.event.Event.{Event}
-use Rattle.run_events.specs.declared.event.Event.TheVariants.{Interface}
-use Rattle.run_events.specs.declared.event.InterfaceEvent.{InterfaceEvent}
-use Rattle.run_events.specs.declared.event.Loss.{Loss}
-use Rattle.run_verdicts.specs.declared.verdict.Verdict.{Verdict}
+use Rattle.script_events.specs.declared.event.Event.{Event}
+use Rattle.script_events.specs.declared.event.Event.TheVariants.{Interface}
+use Rattle.script_events.specs.declared.event.InterfaceEvent.{InterfaceEvent}
+use Rattle.script_events.specs.declared.event.Loss.{Loss}
+use Rattle.event_verdicts.specs.declared.verdict.Verdict.{Verdict}
 use Rattle.machine_ports.specs.Machine.{BesidePorts}
 use Rattle.interface_host.specs.declared.operation.InterfaceOperation.{InterfaceOperation}
 use Rattle.line_arrivals.specs.{trusting_on}

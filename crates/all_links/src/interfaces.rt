@@ -6,11 +6,11 @@ ghost use Rattle.ide_types.specs.Lines.{is_peer_line};
 ghost use Rattle.ide_types.specs.RegisterNames.{width_of};
 
 use crate::links::Links;
+use event_verdicts::Verdict;
 use ide_types::{Bytes, FIRST_PEER_LINE, InterfaceVerdict, OutOfMemory, Register, SubKind};
 use interface_host::{InterfaceOperation, PeerStream};
 use line_arrivals::asked_verdict;
-use run_events::{Event, InterfaceEvent, Loss};
-use run_verdicts::Verdict;
+use script_events::{Event, InterfaceEvent, Loss};
 use std::alloc::Global;
 
 /// The most bytes of a report.

@@ -2,11 +2,11 @@
 
 ghost use Rattle.std.specs.Prelude.{◌≡◌, ◌+◌, ◌<◌, ◌^◌, IfOk, length, nat_lt, if◌then◌else◌};
 
+use event_verdicts::Verdict;
 use ide_port::SendBuffer;
 use ide_types::{OutOfMemory, PortName, ValidPlan};
 use line_arrivals::{AllEnds, HostKeeper, Packets};
-use run_events::Event;
-use run_verdicts::Verdict;
+use script_events::Event;
 use std::alloc::Global;
 use trusted_memory::Trusted;
 

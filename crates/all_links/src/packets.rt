@@ -4,12 +4,12 @@ ghost use Rattle.std.specs.Prelude.{◌≡◌, ◌+◌, ◌<◌, ◌≤◌, ◌^
 ghost use Rattle.line_arrivals.specs.{port_on};
 
 use crate::links::Links;
+use event_verdicts::Verdict;
 use ide_port::Sent;
 use ide_types::{Bytes, OutOfMemory, PortName, ValidPlan};
 use line_arrivals::send_verdict;
 use line_routes::{may_send, port_of, sealing_end};
-use run_events::Event;
-use run_verdicts::Verdict;
+use script_events::Event;
 use std::alloc::Global;
 
 impl Links {

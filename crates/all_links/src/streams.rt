@@ -11,11 +11,11 @@ ghost use Rattle.all_links.specs.Events.{operation_event};
 ghost use Rattle.all_links.specs.BesideAfter.{works_on};
 
 use crate::links::Links;
+use event_verdicts::{Operation, Verdict};
 use ide_types::{PortName, Side};
 use key_host::{NamedOperation, StreamOutcome};
 use line_arrivals::{named_op, operated_verdict};
-use run_events::{Event, Loss};
-use run_verdicts::{Operation, Verdict};
+use script_events::{Event, Loss};
 
 // Whether there is such an operation on a line: a refresh is of a link's stream alone.
 fn works_on(operation: Operation, line: u8) -> bool

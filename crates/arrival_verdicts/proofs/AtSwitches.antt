@@ -6,7 +6,7 @@ use Rattle.std.specs.Prelude.{Some, slice_get}
 use Rattle.ide_types.specs.declared.direction.Direction.{Direction}
 use Rattle.ide_types.specs.declared.sub.SubKind.{SubKind}
 use Rattle.ide_prefix.specs.Packet.{Packet}
-use Rattle.run_verdicts.specs.declared.verdict.Effect.{Effect}
+use Rattle.event_verdicts.specs.declared.verdict.Effect.{Effect}
 use Rattle.hop_queues.specs.declared.queue.HopTlp.{HopTlp}
 use Rattle.hop_queues.specs.declared.queues.HopQueues.{HopQueues}
 use Rattle.arrival_verdicts.specs.Switches.{switched_as, switched_each, packet_tlps, tlps_in, queues_after_offer}

@@ -4,12 +4,12 @@ use Rattle.std.proofs.Common.{length-append, arith, refl, ap, sym, ◌∙◌, su
 use Rattle.std.proofs.lemmas.List.{append-nil, append_assoc, drop_more}
 use Rattle.std.specs.Prelude.{map, slice_get, if◌then◌else◌, Some, None, Option, Result, Ok, Err}
 use Rattle.std.proofs.lemmas.Option.{get_or_from_slice_get, slice_get_within}
-use Rattle.run_verdicts.specs.declared.verdict.UnitName.{UnitName}
+use Rattle.event_verdicts.specs.declared.verdict.UnitName.{UnitName}
 use Rattle.ide_types.specs.declared.plan.Region.{Region}
 use Rattle.spec_links.specs.Memory.{Grants}
 use Rattle.ide_types.specs.declared.port.PortName.{PortName}
 use Rattle.ide_prefix.specs.Packet.{Packet, HasTlp, is_sync_packet}
-use Rattle.run_verdicts.specs.declared.verdict.Effect.{Effect}
+use Rattle.event_verdicts.specs.declared.verdict.Effect.{Effect}
 use Rattle.trusted_memory.specs.{Write, Leads, MemoryContents, write_effect, write_span, memory_read, waiting_after}
 use Rattle.spec_keys.specs.Places.{sent_direction}
 use Rattle.std.specs.List.{cons_option}
@@ -18,8 +18,8 @@ use Rattle.tlp_layout.specs.declared.fault.TlpFault.{TlpFault}
 use Rattle.tlp_layout.specs.Head.{FitsHead}
 use Rattle.tlp_layout.specs.Reading.{read_head_of}
 use Rattle.tlp_layout.proofs.Readings.{read_head_spells}
-use Rattle.run_verdicts.specs.declared.verdict.BlockCause.{BlockCause}
-use Rattle.run_verdicts.specs.declared.verdict.Effect.TheVariants as effect
+use Rattle.event_verdicts.specs.declared.verdict.BlockCause.{BlockCause}
+use Rattle.event_verdicts.specs.declared.verdict.Effect.TheVariants as effect
 use Rattle.trusted_memory.specs.declared.grant.Grant.{Grant}
 use Rattle.trusted_memory.specs.declared.span.Span.{Span}
 use Rattle.trusted_memory.specs.Causes.{block_cause, block_effect}

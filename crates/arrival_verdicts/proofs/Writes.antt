@@ -11,8 +11,8 @@ use Rattle.std.proofs.Math.Seq.{take-append_seam, drop-append_seam}
 use Rattle.ide_types.specs.declared.port.PortName.{PortName}
 use Rattle.ide_types.specs.declared.plan.Plan.{Plan}
 use Rattle.ide_prefix.specs.Packet.{Packet}
-use Rattle.run_verdicts.specs.declared.verdict.Effect.{Effect}
-use Rattle.run_verdicts.specs.declared.verdict.UnitName.{UnitName}
+use Rattle.event_verdicts.specs.declared.verdict.Effect.{Effect}
+use Rattle.event_verdicts.specs.declared.verdict.UnitName.{UnitName}
 use Rattle.spec_keys.specs.Places.{sent_direction}
 use Rattle.spec_stream.specs.Stream.{StreamState, LiveKey, Taken, Insecure, Failed, Held, holds_any, is_tagged}
 use Rattle.spec_stream.specs.Stream.{is_allowed, outcome_of_checks, stream_outcome_by_keys, stream_outcome, live_in}

@@ -5,11 +5,11 @@ use Rattle.std.specs.Prelude.{Ok, Err, if◌then◌else◌}
 use Rattle.std.specs.Option.{option_and_then}
 use Rattle.ide_types.specs.declared.port.PortName.{PortName}
 use Rattle.ide_types.specs.declared.plan.Region.{Region}
-use Rattle.run_verdicts.specs.declared.verdict.UnitName.{UnitName}
-use Rattle.run_verdicts.specs.declared.verdict.Verdict.{Verdict}
-use Rattle.run_verdicts.specs.declared.verdict.Verdict.TheVariants as v
-use Rattle.run_verdicts.specs.declared.verdict.Effect.{Effect}
-use Rattle.run_verdicts.specs.declared.verdict.Effect.TheVariants as effect
+use Rattle.event_verdicts.specs.declared.verdict.UnitName.{UnitName}
+use Rattle.event_verdicts.specs.declared.verdict.Verdict.{Verdict}
+use Rattle.event_verdicts.specs.declared.verdict.Verdict.TheVariants as v
+use Rattle.event_verdicts.specs.declared.verdict.Effect.{Effect}
+use Rattle.event_verdicts.specs.declared.verdict.Effect.TheVariants as effect
 use Rattle.tlp_layout.specs.declared.head.HeadView.{HeadView}
 use Rattle.tlp_layout.specs.declared.fault.TlpFault.{TlpFault}
 use Rattle.tlp_layout.specs.Reading.{read_head_of}

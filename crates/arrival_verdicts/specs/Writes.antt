@@ -1,8 +1,8 @@
 -- The writes that an arrival brings to trusted memory.
 use Rattle.std.specs.Prelude.{List, [], Option}
 use Rattle.ide_types.specs.declared.plan.Plan.{Plan}
-use Rattle.run_verdicts.specs.declared.verdict.Verdict.{Verdict}
-use Rattle.run_verdicts.specs.declared.verdict.Verdict.TheVariants as v
+use Rattle.event_verdicts.specs.declared.verdict.Verdict.{Verdict}
+use Rattle.event_verdicts.specs.declared.verdict.Verdict.TheVariants as v
 use Rattle.spec_links.specs.History.{Arrival}
 use Rattle.spec_links.specs.Memory.{Grants, admitted_writes}
 use Rattle.machine_whole.specs.{LinkState}

@@ -8,11 +8,11 @@ ghost use Rattle.arrival_verdicts.specs.Switches.{switched_as, switched_each, pa
 ghost use Rattle.arrival_verdicts.specs.Switches.{queues_after_offer, all_offered};
 
 use crate::verdicts::verdict_with;
+use event_verdicts::{Effect, Effects, UnitName, Verdict};
 use hop_queues::{HopQueues, MOST_BYTES};
 use ide_port::Arrival;
 use ide_prefix::PacketView;
 use ide_types::{Direction, PortName, SubKind};
-use run_verdicts::{Effect, Effects, UnitName, Verdict};
 use sub_stream::Delivered;
 
 // Queues the TLP of a packet, if there is room for it and it is no longer than a TLP may be.

@@ -17,12 +17,12 @@ ghost use Rattle.arrival_verdicts.specs.Verdicts.{grants_in, end_sent_verdict, h
 ghost use Rattle.arrival_verdicts.specs.Verdicts.{queued_by, effects_from, packet_write, packet_stored, unit_writes};
 ghost use Rattle.arrival_verdicts.specs.Verdicts.{of_unit, arrival_verdict, PacketCame, UnitCame};
 
+use event_verdicts::{Effect, Effects, SealedPacket, SealedPackets, UnitName, Verdict};
 use ide_port::{Arrival, SendRefusal, Sent};
 use ide_prefix::{PacketView, packet_word, tlp_word};
 use ide_types::{Binding, PortName, Side};
 use interface_ends::{DeviceInterfaces, InterfaceKeeper};
 use link_stores::LinkAccesses;
-use run_verdicts::{Effect, Effects, SealedPacket, SealedPackets, UnitName, Verdict};
 use sub_stream::Delivered;
 use tlp_layout::{HeadView, TlpView, owner};
 use trusted_memory::{Grant, Trusted};

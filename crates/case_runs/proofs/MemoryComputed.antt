@@ -3,8 +3,8 @@ use Rattle.std.proofs.Common.{◌≡◌, ℕ, List, [], ◌∷◌, Option, true,
 use Rattle.std.specs.Prelude.{bytes_eq}
 use Rattle.ide_types.specs.Ports.{host_port, device_port}
 use Rattle.ide_types.specs.declared.sub.SubKind.TheVariants.{Pr}
-use Rattle.run_events.specs.declared.event.InterfaceEvent.TheVariants as ie
-use Rattle.run_verdicts.specs.declared.verdict.UnitName.{UnitName}
+use Rattle.script_events.specs.declared.event.InterfaceEvent.TheVariants as ie
+use Rattle.event_verdicts.specs.declared.verdict.UnitName.{UnitName}
 use Rattle.trusted_memory.specs.Regions.{in_one_region}
 use Rattle.trusted_memory.specs.Memory.{bytes_from}
 use Rattle.case_runs.specs.InterfaceCases.{interface_plan, write_tlp}
@@ -18,8 +18,8 @@ use Rattle.trusted_memory.specs.Writes.{Write, byte_last_written, newest_first}
 use Rattle.spec_links.specs.History.{packet_of}
 use Rattle.spec_links.specs.Memory.{admitted_writes, admitted_each, shown_if}
 use Rattle.spec_links.specs.Packets.{Arrival, arrival_packet}
-use Rattle.run_verdicts.specs.declared.verdict.Effect.TheVariants.{Applied, Blocked}
-use Rattle.run_verdicts.specs.declared.verdict.BlockCause.TheVariants.{NotRunning, Stale}
+use Rattle.event_verdicts.specs.declared.verdict.Effect.TheVariants.{Applied, Blocked}
+use Rattle.event_verdicts.specs.declared.verdict.BlockCause.TheVariants.{NotRunning, Stale}
 use Rattle.case_runs.specs.MemoryCases.{IsInterfaceDue, MemoryCases, reported_history, started_event, unheard_start}
 use Rattle.case_runs.specs.MemoryCases.{sealed_write, accepted_write, memory_read_back, halted_history, run_again}
 use Rattle.case_runs.proofs.Literals.{due_on_literals}

@@ -11,7 +11,7 @@ use Rattle.ide_types.specs.Ports.{host_port, device_port}
 use Rattle.ide_types.specs.declared.port.PortName.{PortName}
 use Rattle.ide_types.specs.declared.sub.SubKind.{SubKind}
 use Rattle.ide_types.specs.declared.sub.SubKind.TheVariants.{Pr, Npr}
-use Rattle.run_verdicts.specs.declared.verdict.SealedPacket.{SealedPacket}
+use Rattle.event_verdicts.specs.declared.verdict.SealedPacket.{SealedPacket}
 use Rattle.spec_links.specs.History.{packet_of}
 use Rattle.case_runs.specs.InterfaceCases.{interface_plan, small_key, write_tlp}
 use Rattle.case_runs.specs.MmioCases.{bar_write}

@@ -8,18 +8,18 @@ use Rattle.ide_prefix.specs.Packet.{packet_bytes}
 use Rattle.ide_types.specs.Ports.{device_port}
 use Rattle.ide_types.specs.declared.sub.SubKind.TheVariants.{Pr}
 use Rattle.spec_keys.specs.History.{History}
-use Rattle.run_verdicts.specs.declared.verdict.UnitName.{UnitName}
+use Rattle.event_verdicts.specs.declared.verdict.UnitName.{UnitName}
 use Rattle.case_runs.specs.InterfaceCases.{interface_plan}
 use Rattle.case_runs.proofs.Ends.{comes_at, ends_at}
 use Rattle.case_runs.proofs.MemoryPackets.{host_1_write, host_1_write_is, host_1_tag, host_1_tag_is}
 use Rattle.case_runs.proofs.MemoryPackets.{host_2_write, host_2_write_is, host_2_tag, host_2_tag_is}
 use Rattle.spec_links.specs.Guarded.{link_happenings, mmio_by}
-use Rattle.run_events.specs.declared.event.Event.TheVariants.{Arrive, Interface}
-use Rattle.run_events.specs.declared.event.InterfaceEvent.TheVariants as ie
+use Rattle.script_events.specs.declared.event.Event.TheVariants.{Arrive, Interface}
+use Rattle.script_events.specs.declared.event.InterfaceEvent.TheVariants as ie
 use Rattle.ide_types.specs.declared.verdict.InterfaceVerdict.TheVariants as iv
-use Rattle.run_verdicts.specs.declared.verdict.Effect.TheVariants.{Stored, Blocked}
-use Rattle.run_verdicts.specs.declared.verdict.BlockCause.TheVariants.{NotTrusted, NotRunning}
-use Rattle.run_verdicts.specs.declared.verdict.Verdict.TheVariants as v
+use Rattle.event_verdicts.specs.declared.verdict.Effect.TheVariants.{Stored, Blocked}
+use Rattle.event_verdicts.specs.declared.verdict.BlockCause.TheVariants.{NotTrusted, NotRunning}
+use Rattle.event_verdicts.specs.declared.verdict.Verdict.TheVariants as v
 use Rattle.case_runs.specs.MemoryCases.{IsInterfaceDue}
 use Rattle.case_runs.specs.MmioCases.{MmioCases, sent_write, taken_write, shows, running_history, stored_history}
 use Rattle.case_runs.specs.MmioCases.{blocked_history, stopped_history, keyed_history, refused_history}

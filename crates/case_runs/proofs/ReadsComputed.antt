@@ -18,11 +18,11 @@ use Rattle.spec_links.specs.Packets.{Arrival, arrival_packet}
 use Rattle.spec_links.specs.Memory.{admitted_writes}
 use Rattle.spec_links.specs.Sent.{queued_in, reads_taken, reads_by, writes_in, bytes_by, unit_accepted}
 use Rattle.spec_links.specs.Due.{due, answer_first, outgoing_completion}
-use Rattle.run_events.specs.declared.event.Event.TheVariants.{Pass}
-use Rattle.run_verdicts.specs.declared.access.AccessVerdict.TheVariants as av
-use Rattle.run_verdicts.specs.declared.verdict.Effect.TheVariants.{Queued}
-use Rattle.run_verdicts.specs.declared.verdict.BlockCause.TheVariants.{NotRunning}
-use Rattle.run_verdicts.specs.declared.verdict.Verdict.TheVariants as v
+use Rattle.script_events.specs.declared.event.Event.TheVariants.{Pass}
+use Rattle.event_verdicts.specs.declared.access.AccessVerdict.TheVariants as av
+use Rattle.event_verdicts.specs.declared.verdict.Effect.TheVariants.{Queued}
+use Rattle.event_verdicts.specs.declared.verdict.BlockCause.TheVariants.{NotRunning}
+use Rattle.event_verdicts.specs.declared.verdict.Verdict.TheVariants as v
 use Rattle.case_runs.specs.InterfaceCases.{interface_plan}
 use Rattle.case_runs.specs.MemoryCases.{IsInterfaceDue}
 use Rattle.case_runs.specs.ReadCases.{ReadCases, OneMore, sealed_request, queued_read, answer, answered_read, read_unit}

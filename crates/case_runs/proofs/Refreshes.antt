@@ -2,7 +2,7 @@
 use Rattle.std.proofs.Common.{◌≡◌, [], ◌∷◌, map, true, false, refl, ap}
 use Rattle.spec_keys.specs.Keys.{is_open, keys}
 use Rattle.spec_keys.specs.History.{manager, moments}
-use Rattle.run_events.specs.declared.event.Event.TheVariants.{Pass}
+use Rattle.script_events.specs.declared.event.Event.TheVariants.{Pass}
 use Rattle.spec_links.specs.Due.{due}
 use Rattle.ide_types.specs.declared.sub.SubKind.TheVariants.{Pr}
 use Rattle.std.specs.Prelude.{bytes_eq}

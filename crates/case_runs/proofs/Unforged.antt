@@ -6,8 +6,8 @@ use Rattle.ide_prefix.specs.Packet.{Packet, packet_bytes}
 use Rattle.ide_prefix.specs.Units.{authenticated_bytes, encrypted_bytes}
 use Rattle.ide_types.specs.declared.sub.SubKind.TheVariants.{Pr}
 use Rattle.spec_keys.specs.History.{History}
-use Rattle.run_events.specs.declared.event.Event.TheVariants.{Pass}
-use Rattle.run_verdicts.specs.declared.verdict.Verdict.{Verdict}
+use Rattle.script_events.specs.declared.event.Event.TheVariants.{Pass}
+use Rattle.event_verdicts.specs.declared.verdict.Verdict.{Verdict}
 use Rattle.spec_links.specs.History.{Arrival, packet_of, ahead_sent, arrival_of_event}
 use Rattle.spec_links.specs.Due.{Ending, before_tag}
 use Rattle.spec_links.specs.Laws.{WasSealed, NotForged, NoForgery, last_tag}

@@ -1,6 +1,6 @@
 -- Writes that are sealed, accepted, altered or missing.
 use Rattle.std.proofs.Common.{◌≡◌, [], ◌∷◌, false, refl, ap, true}
-use Rattle.run_events.specs.declared.event.Event.TheVariants.{Pass, Alter}
+use Rattle.script_events.specs.declared.event.Event.TheVariants.{Pass, Alter}
 use Rattle.spec_links.specs.Due.{due}
 use Rattle.gcm_seal.specs.Gcm.{masked_bytes}
 use Rattle.ide_prefix.specs.Packet.{Packet}

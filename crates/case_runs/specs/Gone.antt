@@ -1,7 +1,7 @@
 -- Draws that have gone from a place.
 use Rattle.std.specs.Prelude.{◌≡◌, ℕ, Bool, not, List, [], ◌∷◌}
-use Rattle.run_events.specs.declared.event.Event.{Event}
-use Rattle.run_verdicts.specs.declared.verdict.Verdict.{Verdict}
+use Rattle.script_events.specs.declared.event.Event.{Event}
+use Rattle.event_verdicts.specs.declared.verdict.Verdict.{Verdict}
 use Rattle.spec_keys.specs.Places.{KeyPlace}
 use Rattle.spec_keys.specs.Keys.{keys}
 use Rattle.spec_keys.specs.History.{History, moments}

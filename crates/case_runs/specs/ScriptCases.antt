@@ -8,17 +8,17 @@ use Rattle.ide_types.specs.declared.sub.FailCause.TheVariants as fail
 use Rattle.ide_types.specs.declared.port.Side.TheVariants.{Host, Device}
 use Rattle.ide_types.specs.declared.plan.Plan.{Plan}
 use Rattle.ide_types.specs.declared.stream.Selector.TheVariants.{Selective}
-use Rattle.run_events.specs.declared.event.Lost.TheVariants.{Reply}
-use Rattle.run_events.specs.declared.event.Event.{Event}
-use Rattle.run_events.specs.declared.event.Event.TheVariants.{Establish, Refresh, Stop, Send, Pass, Alter}
+use Rattle.script_events.specs.declared.event.Lost.TheVariants.{Reply}
+use Rattle.script_events.specs.declared.event.Event.{Event}
+use Rattle.script_events.specs.declared.event.Event.TheVariants.{Establish, Refresh, Stop, Send, Pass, Alter}
 use Rattle.ide_types.specs.declared.line.LineKind.TheVariants as kind
-use Rattle.run_verdicts.specs.declared.verdict.Operation.TheVariants as op
-use Rattle.run_verdicts.specs.declared.verdict.Verdict.{Verdict}
-use Rattle.run_verdicts.specs.declared.verdict.Verdict.TheVariants as v
-use Rattle.run_verdicts.specs.declared.verdict.SealedPacket.{SealedPacket}
-use Rattle.run_verdicts.specs.declared.verdict.UnitName.{UnitName}
-use Rattle.run_verdicts.specs.declared.verdict.Effect.TheVariants.{Delivered, Blocked}
-use Rattle.run_verdicts.specs.declared.verdict.BlockCause.TheVariants.{NotTrusted}
+use Rattle.event_verdicts.specs.declared.verdict.Operation.TheVariants as op
+use Rattle.event_verdicts.specs.declared.verdict.Verdict.{Verdict}
+use Rattle.event_verdicts.specs.declared.verdict.Verdict.TheVariants as v
+use Rattle.event_verdicts.specs.declared.verdict.SealedPacket.{SealedPacket}
+use Rattle.event_verdicts.specs.declared.verdict.UnitName.{UnitName}
+use Rattle.event_verdicts.specs.declared.verdict.Effect.TheVariants.{Delivered, Blocked}
+use Rattle.event_verdicts.specs.declared.verdict.BlockCause.TheVariants.{NotTrusted}
 use Rattle.spec_keys.specs.History.{History}
 use Rattle.spec_keys.specs.Places.{KeyPlace}
 

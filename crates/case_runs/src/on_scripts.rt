@@ -2,7 +2,7 @@
 //! the device to the host.
 
 ghost use Rattle.std.specs.Prelude.{[], ◌∷◌, map, true, false};
-ghost use Rattle.run_events.specs.declared.event.Event.TheVariants.{Pass};
+ghost use Rattle.script_events.specs.declared.event.Event.TheVariants.{Pass};
 ghost use Rattle.spec_links.specs.Laws.{NoForgery};
 ghost use Rattle.case_runs.specs.Due.{AreDue};
 ghost use Rattle.case_runs.specs.Gone.{AreGone};

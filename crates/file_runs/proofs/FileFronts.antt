@@ -13,8 +13,8 @@ use Rattle.std.proofs.lemmas.Bool.{lt-ltb, le-ltb, ltb-false}
 use Rattle.cli_files.specs.Outside.{Contents, Rose, ShelfCause, ShelfSeen, SinkSeen}
 use Rattle.cli_files.specs.declared.shelf.ShelfFault.{ShelfFault}
 use Rattle.file_runs.specs.Pieces.{pieces}
-use Rattle.run_events.specs.declared.fault.LineFault.{LineFault}
-use Rattle.run_events.specs.declared.fault.LineFault.TheVariants as line
+use Rattle.script_events.specs.declared.fault.LineFault.{LineFault}
+use Rattle.script_events.specs.declared.fault.LineFault.TheVariants as line
 use Rattle.file_runs.specs.declared.ends.End.{End}
 use Rattle.file_runs.specs.declared.ends.End.TheVariants as end
 use Rattle.file_runs.specs.declared.ends.Fault.{Fault}

@@ -12,8 +12,8 @@ use Rattle.std.proofs.lemmas.Bool.Decides.{nat_tests}
 use Rattle.cli_files.specs.Outside.{SinkSeen}
 use Rattle.file_runs.specs.Pieces.{pieces}
 use Rattle.file_runs.proofs.Cuts.{HasFirst, ends_line, some}
-use Rattle.run_events.specs.declared.fault.LineFault.{LineFault}
-use Rattle.run_events.specs.declared.fault.LineFault.TheVariants.{TooLong}
+use Rattle.script_events.specs.declared.fault.LineFault.{LineFault}
+use Rattle.script_events.specs.declared.fault.LineFault.TheVariants.{TooLong}
 use Rattle.file_runs.specs.declared.ends.End.{End}
 use Rattle.file_runs.specs.declared.ends.Fault.{Fault}
 use Rattle.file_runs.specs.Gain.{Text, Gained}

@@ -5,7 +5,7 @@ use Rattle.std.proofs.lemmas.List.{append-nil}
 use Rattle.cli_files.specs.Outside.{Rose}
 use Rattle.file_runs.specs.Pieces.{pieces}
 use Rattle.file_runs.proofs.Cuts.{some}
-use Rattle.run_events.specs.declared.fault.LineFault.{LineFault}
+use Rattle.script_events.specs.declared.fault.LineFault.{LineFault}
 use Rattle.file_runs.specs.declared.ends.End.{End}
 use Rattle.file_runs.specs.declared.ends.Fault.{Fault}
 use Rattle.file_runs.specs.declared.ends.Fault.TheVariants as fault

@@ -9,6 +9,6 @@ pub mod Showing
 pub mod Judging
 -- what clauses and crates above cite
 pub use Rattle.ide_types.specs.Names.{Text}
-pub use Rattle.run_events.specs.Parse.{IsLineAnswer}
+pub use Rattle.script_events.specs.Parse.{IsLineAnswer}
 pub use Rattle.file_runs.specs.Reading.{packet_meaning}
 pub use Rattle.file_runs.specs.Showing.{line_shown}

@@ -3,11 +3,11 @@ use Rattle.std.specs.Prelude.{ℕ, ◌+◌, ◌≡◌, ◌==◌, nat_lt, Bool, L
 use Rattle.std.specs.Prelude.{if◌then◌else◌}
 use Rattle.std.specs.List.{slice_index_or}
 use Rattle.file_runs.specs.Pieces.{pieces}
-use Rattle.run_events.specs.declared.fault.LineFault.{LineFault}
-use Rattle.run_events.specs.declared.fault.LineFault.TheVariants as line
-use Rattle.run_events.specs.declared.fault.LineError.{LineError}
-use Rattle.run_events.specs.declared.fault.LineError.TheVariants as error
-use Rattle.run_events.specs.Words.{fault_line_of, line_limit}
+use Rattle.script_events.specs.declared.fault.LineFault.{LineFault}
+use Rattle.script_events.specs.declared.fault.LineFault.TheVariants as line
+use Rattle.script_events.specs.declared.fault.LineError.{LineError}
+use Rattle.script_events.specs.declared.fault.LineError.TheVariants as error
+use Rattle.script_events.specs.Words.{fault_line_of, line_limit}
 use Rattle.file_runs.specs.declared.ends.End.TheVariants.{Script, TooLong}
 use Rattle.file_runs.specs.Gain.{Text}
 use Rattle.file_runs.specs.Outcome.{Due}

@@ -2,10 +2,10 @@
 use Rattle.std.specs.Prelude.{nat_lt, List, [], ◌∷◌, length, not, Option, Some, None, Result, Ok, Err, if◌then◌else◌}
 use Rattle.std.specs.List.{list_all}
 use Rattle.std.specs.Option.{ok_or, option_map}
-use Rattle.run_events.specs.declared.fault.LineFault.{LineFault}
-use Rattle.run_events.specs.declared.fault.LineFault.TheVariants.{Hex, TooLong, NotAscii}
+use Rattle.script_events.specs.declared.fault.LineFault.{LineFault}
+use Rattle.script_events.specs.declared.fault.LineFault.TheVariants.{Hex, TooLong, NotAscii}
 use Rattle.ide_types.specs.Names.{Text, is_printable}
-use Rattle.run_events.specs.Words.{line_limit, words_in, bytes_in}
+use Rattle.script_events.specs.Words.{line_limit, words_in, bytes_in}
 
 -- one word of bytes; no words are no bytes to be shown
 abbrev pub only_bytes : List Text → Result (Option Text) LineFault

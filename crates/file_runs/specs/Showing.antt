@@ -20,7 +20,7 @@ use Rattle.ide_prefix.specs.Packet.{Packet, is_sync_packet}
 use Rattle.ide_prefix.specs.Reading.{CutValue, PlainTlp, IdePacket, cut_of}
 use Rattle.ide_prefix.specs.FaultWords.{packet_word, tlp_word}
 use Rattle.ide_types.specs.Names.{Text, joined_words, substream_word, fault_word}
-use Rattle.run_verdicts.specs.Lines.{bit_of}
+use Rattle.event_verdicts.specs.Lines.{bit_of}
 
 -- ---- names
 

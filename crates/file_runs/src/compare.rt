@@ -5,7 +5,7 @@ ghost use Rattle.file_runs.specs.Judging.{differs_text, first_finding, finding_d
 
 use crate::End;
 use ide_types::OutOfMemory;
-use run_events::split_at_byte;
+use script_events::split_at_byte;
 use std::alloc::Global;
 
 // What a text has after this line and its line feed, if it begins with them.

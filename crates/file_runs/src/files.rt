@@ -3,7 +3,7 @@
 ghost use Rattle.std.specs.Prelude.{◌≡◌, ◌≢◌, ◌≤◌, ◌<◌, ◌+◌, ◌++◌, ◌^◌, ℕ, [], List, Ok, IsErr, IfOk, IfErr, IfSome};
 ghost use Rattle.std.specs.Prelude.{OnOk, None, length, nat_lt, option_map, take, vec_capacity, vec_len};
 ghost use Rattle.cli_files.specs.Outside.{AsksFor, Given, ShelfCause, given_by};
-ghost use Rattle.run_events.specs.Words.{line_limit};
+ghost use Rattle.script_events.specs.Words.{line_limit};
 ghost use Rattle.file_runs.specs.Front.{AskedPieces, Gave, GaveAtMost, IsReadOf, ReadsOn, bytes_of};
 ghost use Rattle.file_runs.specs.Gathering.{CutIn, Gathers, GoesOn, NoFurther, PieceRan, ReadAsFar, WroteEnded};
 ghost use Rattle.file_runs.specs.Gathering.{due_behind, ended_text, limit_due};
@@ -16,7 +16,7 @@ use crate::writing::write;
 use crate::{End, FILE_LIMIT, Fault};
 use cli_files::{Shelf, ShelfFault, Sink};
 use ide_types::{Bytes, OutOfMemory};
-use run_events::{LINE_LIMIT, LineError, LineFault, split_at_byte};
+use script_events::{LINE_LIMIT, LineError, LineFault, split_at_byte};
 use std::alloc::Global;
 
 // ---- the file

@@ -2,7 +2,7 @@
 ghost use Rattle.std.specs.Prelude.{◌≡◌};
 ghost use Rattle.file_runs.specs.Judging.{last_line_of};
 
-use run_events::split_at_byte;
+use script_events::split_at_byte;
 
 /// The last line of a text, with its line feed if it has one.
 pub fn last_line(text: &[u8]) -> &[u8]

@@ -1,9 +1,9 @@
 //! What is written for the lines of a file, and how a run over them ends.
 ghost use Rattle.std.specs.Prelude.{◌≡◌, ◌≢◌, ◌∷◌, [], ◌+◌, ◌<◌, ◌^◌, ℕ, List, Result, Err, IfOk, IfSome, OnOk, length};
 ghost use Rattle.std.specs.Prelude.{nat_lt, true, false};
-ghost use Rattle.run_events.specs.declared.fault.LineFault.{LineFault};
-ghost use Rattle.run_events.specs.declared.fault.LineFault.TheVariants.{TooLong};
-ghost use Rattle.run_events.specs.Words.{line_limit};
+ghost use Rattle.script_events.specs.declared.fault.LineFault.{LineFault};
+ghost use Rattle.script_events.specs.declared.fault.LineFault.TheVariants.{TooLong};
+ghost use Rattle.script_events.specs.Words.{line_limit};
 ghost use Rattle.file_runs.specs.Outcome.{Due, IsWholeLines, Ran};
 ghost use Rattle.file_runs.specs.Gathering.{EndsIn};
 ghost use Rattle.file_runs.specs.Lines.{Came, after, process, refusal};
@@ -12,7 +12,7 @@ use crate::writing::{finish, write};
 use crate::{End, Fault};
 use cli_files::Sink;
 use ide_types::{Bytes, OutOfMemory};
-use run_events::{LineError, LineFault, fault_line};
+use script_events::{LineError, LineFault, fault_line};
 use std::alloc::Global;
 
 /// How many bytes of a file count (this profile).

@@ -1,11 +1,11 @@
 //! Reading a line of a packet file.
 ghost use Rattle.std.specs.Prelude.{◌≡◌, map};
-ghost use Rattle.run_events.specs.Parse.{IsLineAnswer};
-ghost use Rattle.run_events.specs.Words.{words_in};
+ghost use Rattle.script_events.specs.Parse.{IsLineAnswer};
+ghost use Rattle.script_events.specs.Words.{words_in};
 ghost use Rattle.file_runs.specs.Reading.{only_bytes, packet_meaning};
 
 use ide_types::Bytes;
-use run_events::{LINE_LIMIT, LineError, LineFault, bytes_at, is_printed, words_of};
+use script_events::{LINE_LIMIT, LineError, LineFault, bytes_at, is_printed, words_of};
 use std::alloc::Global;
 
 // The bytes of the only word.

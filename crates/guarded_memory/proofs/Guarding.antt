@@ -13,8 +13,8 @@ use Rattle.guarded_memory.specs.declared.status.InterfaceState.{InterfaceState}
 use Rattle.guarded_memory.specs.declared.status.InterfaceState.TheVariants as state
 use Rattle.guarded_memory.specs.declared.status.InterfaceStatus.{InterfaceStatus}
 use Rattle.guarded_memory.specs.declared.claims.Claim.{Claim}
-use Rattle.run_verdicts.specs.declared.verdict.BlockCause.{BlockCause}
-use Rattle.run_verdicts.specs.declared.verdict.BlockCause.TheVariants as cause
+use Rattle.event_verdicts.specs.declared.verdict.BlockCause.{BlockCause}
+use Rattle.event_verdicts.specs.declared.verdict.BlockCause.TheVariants as cause
 use Rattle.guarded_memory.specs.Statuses.{is_open_range, has_open_range, is_config_unlocked, is_in_run}
 use Rattle.guarded_memory.specs.Statuses.{is_locked_or_run}
 use Rattle.guarded_memory.specs.Claims.{claim_of}

@@ -10,10 +10,10 @@ use Rattle.ide_types.specs.declared.binding.Binding.{Binding}
 use Rattle.guarded_memory.specs.declared.status.InterfaceState.{InterfaceState}
 use Rattle.guarded_memory.specs.declared.status.InterfaceState.TheVariants.{ConfigUnlocked, ConfigLocked, Run, Error}
 use Rattle.guarded_memory.specs.declared.status.InterfaceStatus.{InterfaceStatus}
-use Rattle.run_verdicts.specs.declared.verdict.BlockCause.TheVariants.{Crosses, NotTrusted, NotRunning, WrongStream}
-use Rattle.run_verdicts.specs.declared.verdict.BlockCause.TheVariants.{Stale}
-use Rattle.run_verdicts.specs.declared.verdict.Effect.{Effect}
-use Rattle.run_verdicts.specs.declared.verdict.Effect.TheVariants.{Delivered, Stored, Blocked}
+use Rattle.event_verdicts.specs.declared.verdict.BlockCause.TheVariants.{Crosses, NotTrusted, NotRunning, WrongStream}
+use Rattle.event_verdicts.specs.declared.verdict.BlockCause.TheVariants.{Stale}
+use Rattle.event_verdicts.specs.declared.verdict.Effect.{Effect}
+use Rattle.event_verdicts.specs.declared.verdict.Effect.TheVariants.{Delivered, Stored, Blocked}
 use Rattle.guarded_memory.specs.Causes.{mmio_effect}
 use Rattle.guarded_memory.specs.Happenings.{Happened, InterfaceReset, AllReset, InterfaceStopped, byte_shown}
 use Rattle.guarded_memory.specs.Stored.{write_happened}

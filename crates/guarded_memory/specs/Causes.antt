@@ -7,11 +7,11 @@ use Rattle.trusted_memory.specs.Spans.{crosses}
 use Rattle.guarded_memory.specs.declared.status.InterfaceState.{InterfaceState}
 use Rattle.guarded_memory.specs.declared.status.InterfaceStatus.{InterfaceStatus}
 use Rattle.guarded_memory.specs.declared.claims.Claim.{Claim}
-use Rattle.run_verdicts.specs.declared.verdict.BlockCause.{BlockCause}
-use Rattle.run_verdicts.specs.declared.verdict.BlockCause.TheVariants.{Crosses, NotTrusted, NotRunning, WrongStream}
-use Rattle.run_verdicts.specs.Causes.{stale_cause}
-use Rattle.run_verdicts.specs.declared.verdict.Effect.{Effect}
-use Rattle.run_verdicts.specs.declared.verdict.Effect.TheVariants.{Delivered, Stored, Blocked}
+use Rattle.event_verdicts.specs.declared.verdict.BlockCause.{BlockCause}
+use Rattle.event_verdicts.specs.declared.verdict.BlockCause.TheVariants.{Crosses, NotTrusted, NotRunning, WrongStream}
+use Rattle.event_verdicts.specs.Causes.{stale_cause}
+use Rattle.event_verdicts.specs.declared.verdict.Effect.{Effect}
+use Rattle.event_verdicts.specs.declared.verdict.Effect.TheVariants.{Delivered, Stored, Blocked}
 use Rattle.interface_state.specs.Bindings.{floor_on}
 use Rattle.guarded_memory.specs.Statuses.{is_open_range, is_config_unlocked, is_in_run}
 use Rattle.guarded_memory.specs.Claims.{claim_of}

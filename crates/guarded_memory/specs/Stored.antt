@@ -3,7 +3,7 @@ use Rattle.std.specs.Prelude.{ℕ, ◌-◌, Bool, List, Option, Some, None}
 use Rattle.trusted_memory.specs.Writes.{Write}
 use Rattle.guarded_memory.specs.declared.status.InterfaceStatus.{InterfaceStatus}
 use Rattle.guarded_memory.specs.declared.claims.Claim.{Claim}
-use Rattle.run_verdicts.specs.declared.verdict.BlockCause.{BlockCause}
+use Rattle.event_verdicts.specs.declared.verdict.BlockCause.{BlockCause}
 use Rattle.guarded_memory.specs.Claims.{claim_of}
 use Rattle.guarded_memory.specs.Causes.{mmio_cause}
 use Rattle.guarded_memory.specs.Happenings.{Happened, WriteStored}

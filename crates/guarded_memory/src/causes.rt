@@ -5,8 +5,8 @@ ghost use Rattle.guarded_memory.specs.Causes.{untrusted_cause, floor_cause, trus
 
 use crate::status::is_open_range;
 use crate::{Claim, InterfaceState, InterfaceStatus};
+use event_verdicts::{BlockCause, stale_cause};
 use ide_types::BarPlan;
-use run_verdicts::{BlockCause, stale_cause};
 use trusted_memory::Span;
 
 // Of a write that is not trusted.

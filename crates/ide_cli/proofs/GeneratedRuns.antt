@@ -7,16 +7,16 @@ use Rattle.std.proofs.lemmas.List.{take_all}
 use Rattle.std.proofs.lemmas.Option.{same_Some}
 use Rattle.cli_files.specs.Outside.{Contents}
 use Rattle.cli_words.specs.Words.{CommandRequest, command_asked}
-use Rattle.script_events.specs.GeneratedEvents.{generated_events}
-use Rattle.script_events.specs.GeneratedTopology.{the_plan}
-use Rattle.script_events.specs.TextLaws.{Spells}
-use Rattle.script_events.specs.ScriptText.{generated_script}
-use Rattle.script_events.specs.TopologyText.{generated_topology}
-use Rattle.script_events.proofs.TextEvents.{script_short, script_spells}
-use Rattle.script_events.proofs.Whole.{topology_read, topology_short}
-use Rattle.run_events.specs.declared.event.Event.{Event}
-use Rattle.run_events.specs.declared.script.ScriptEvent.{ScriptEvent}
-use Rattle.run_events.specs.Parse.{line_meaning}
+use Rattle.history_events.specs.GeneratedEvents.{generated_events}
+use Rattle.history_events.specs.GeneratedTopology.{the_plan}
+use Rattle.history_events.specs.TextLaws.{Spells}
+use Rattle.history_events.specs.ScriptText.{generated_script}
+use Rattle.history_events.specs.TopologyText.{generated_topology}
+use Rattle.history_events.proofs.TextEvents.{script_short, script_spells}
+use Rattle.history_events.proofs.Whole.{topology_read, topology_short}
+use Rattle.script_events.specs.declared.event.Event.{Event}
+use Rattle.script_events.specs.declared.script.ScriptEvent.{ScriptEvent}
+use Rattle.script_events.specs.Parse.{line_meaning}
 use Rattle.file_runs.specs.declared.ends.End.{End}
 use Rattle.file_runs.specs.declared.ends.Fault.{Fault}
 use Rattle.file_runs.specs.Gain.{Text}

@@ -8,11 +8,11 @@ use Rattle.ide_types.specs.declared.plan.Plan.{Plan}
 use Rattle.ide_types.specs.Fits.{FitsPlan}
 use Rattle.cli_words.specs.Words.{CommandRequest, command_asked}
 use Rattle.cli_words.proofs.Rounds.{few_rounds}
-use Rattle.script_events.specs.GeneratedEvents.{generated_events}
-use Rattle.script_events.specs.GeneratedTopology.{the_plan}
-use Rattle.script_events.proofs.GeneratedAllowed.{few_events}
-use Rattle.script_events.proofs.PlanFits.{the_plan_fits}
-use Rattle.run_events.specs.declared.event.Event.{Event}
+use Rattle.history_events.specs.GeneratedEvents.{generated_events}
+use Rattle.history_events.specs.GeneratedTopology.{the_plan}
+use Rattle.history_events.proofs.GeneratedAllowed.{few_events}
+use Rattle.history_events.proofs.PlanFits.{the_plan_fits}
+use Rattle.script_events.specs.declared.event.Event.{Event}
 use Rattle.spec_keys.specs.History.{History}
 use Rattle.spec_links.specs.Cause.{CauseLaw}
 use Rattle.law_text.specs.Runs.{history_on, history_with_event, text_on}

@@ -2,11 +2,11 @@
 use Rattle.std.specs.Prelude.{ℕ, ◌≡◌, ◌≤◌, ◌++◌, [], Some}
 use Rattle.cli_files.specs.Outside.{Contents}
 use Rattle.cli_words.specs.Words.{command_asked, run}
-use Rattle.script_events.specs.GeneratedEvents.{generated_events}
-use Rattle.script_events.specs.GeneratedTopology.{the_plan}
-use Rattle.script_events.specs.ScriptText.{generated_script}
-use Rattle.script_events.specs.TopologyText.{generated_topology}
-use Rattle.run_verdicts.specs.Lines.{totals_line_of}
+use Rattle.history_events.specs.GeneratedEvents.{generated_events}
+use Rattle.history_events.specs.GeneratedTopology.{the_plan}
+use Rattle.history_events.specs.ScriptText.{generated_script}
+use Rattle.history_events.specs.TopologyText.{generated_topology}
+use Rattle.event_verdicts.specs.Lines.{totals_line_of}
 use Rattle.law_text.specs.Runs.{text_on, totals_of}
 use Rattle.file_runs.specs.declared.ends.End.TheVariants as end
 use Rattle.file_runs.specs.Gain.{Text}

@@ -2,9 +2,9 @@
 use Rattle.std.specs.Prelude.{ℕ, ◌≡◌, ◌⊎◌, List, [], ◌++◌, Some, IfOk, take}
 use Rattle.cli_files.specs.Outside.{Contents}
 use Rattle.cli_words.specs.Words.{run, generate, command_asked}
-use Rattle.script_events.specs.GeneratedTopology.{the_plan}
+use Rattle.history_events.specs.GeneratedTopology.{the_plan}
 use Rattle.ide_types.specs.declared.plan.Plan.{Plan}
-use Rattle.run_events.specs.declared.event.Event.{Event}
+use Rattle.script_events.specs.declared.event.Event.{Event}
 use Rattle.spec_keys.specs.History.{History}
 use Rattle.law_text.specs.Runs.{history_on}
 use Rattle.law_text.specs.Telling.{VerdictsFit, events_told, lines_told}

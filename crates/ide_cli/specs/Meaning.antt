@@ -3,8 +3,8 @@ use Rattle.std.specs.Prelude.{ℕ, ◌++◌, Option, Some, None, Result, option_
 use Rattle.cli_files.specs.Outside.{Contents, ShelfSeen, SinkSeen}
 use Rattle.cli_words.specs.Words.{CommandRequest, run, judge, why, check, migrate, show, generate, generate_script}
 use Rattle.cli_words.specs.Words.{command_asked, generate_topology}
-use Rattle.script_events.specs.ScriptText.{generated_script}
-use Rattle.script_events.specs.TopologyText.{generated_topology}
+use Rattle.history_events.specs.ScriptText.{generated_script}
+use Rattle.history_events.specs.TopologyText.{generated_topology}
 use Rattle.file_runs.specs.declared.ends.End.{End}
 use Rattle.file_runs.specs.declared.ends.End.TheVariants as end
 use Rattle.file_runs.specs.declared.ends.Fault.{Fault}

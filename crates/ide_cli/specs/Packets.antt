@@ -1,9 +1,9 @@
 -- What a line of a packet file gives: a line that is too long gives nothing, and what is written is whole lines.
 use Rattle.std.specs.Prelude.{ℕ, ◌≡◌, nat_lt, true, [], length, Option, Some, None, Result, Ok, Err, IfOk, refl}
 use Rattle.std.proofs.Common.{inl}
-use Rattle.run_events.specs.declared.fault.LineFault.{LineFault}
-use Rattle.run_events.specs.declared.fault.LineFault.TheVariants.{TooLong}
-use Rattle.run_events.specs.Words.{line_limit}
+use Rattle.script_events.specs.declared.fault.LineFault.{LineFault}
+use Rattle.script_events.specs.declared.fault.LineFault.TheVariants.{TooLong}
+use Rattle.script_events.specs.Words.{line_limit}
 use Rattle.file_runs.specs.Reading.{packet_meaning}
 use Rattle.file_runs.specs.Showing.{line_shown}
 use Rattle.file_runs.specs.declared.ends.End.TheVariants as end

@@ -3,9 +3,9 @@ use Rattle.std.specs.Prelude.{ℕ, ◌≡◌, ◌≢◌, ◌⊎◌, ◌+◌, ◌
 use Rattle.cli_files.specs.Outside.{Contents}
 use Rattle.cli_words.specs.Words.{command_asked, generate, judge, why}
 use Rattle.ide_types.specs.declared.plan.Plan.{Plan}
-use Rattle.script_events.specs.GeneratedEvents.{generated_events}
-use Rattle.script_events.specs.GeneratedTopology.{the_plan}
-use Rattle.run_events.specs.declared.event.Event.{Event}
+use Rattle.history_events.specs.GeneratedEvents.{generated_events}
+use Rattle.history_events.specs.GeneratedTopology.{the_plan}
+use Rattle.script_events.specs.declared.event.Event.{Event}
 use Rattle.spec_keys.specs.History.{History}
 use Rattle.law_text.specs.Runs.{history_on}
 use Rattle.file_runs.specs.declared.ends.End.{End}

@@ -14,7 +14,7 @@ ghost use Rattle.ide_runs.specs.SoFar.{WroteBy};
 use cli_files::{Shelf, Sink};
 use file_runs::{End, Fault, LineWork, parse_packet, run_file, show};
 use ide_types::{Bytes, OutOfMemory};
-use run_events::LineError;
+use script_events::LineError;
 use std::alloc::Global;
 use std::marker::Model;
 

@@ -6,7 +6,7 @@ ghost use Rattle.ide_cli.specs.Meaning.{script_text_due, topology_text_due};
 
 use cli_files::Sink;
 use file_runs::{End, Fault, finish};
-use script_events::{script_text, topology_text};
+use history_events::{script_text, topology_text};
 use std::alloc::Global;
 
 /// `generate SEED COUNT --script`: the script of the events of a seed and a number of rounds.

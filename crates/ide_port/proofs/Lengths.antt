@@ -12,7 +12,7 @@ use Rattle.gcm_seal.proofs.Sealing.{length-masked_bytes, length-tag_of}
 use Rattle.ide_types.specs.declared.sub.SubKind.TheVariants.{Npr, Cpl}
 use Rattle.ide_prefix.specs.Iv.{iv_of}
 use Rattle.ide_prefix.specs.Units.{authenticated_bytes, encrypted_bytes}
-use Rattle.run_verdicts.specs.declared.verdict.SealedPacket.{SealedPacket}
+use Rattle.event_verdicts.specs.declared.verdict.SealedPacket.{SealedPacket}
 use Rattle.sub_stream.specs.declared.answer.MeasuredPacket.{MeasuredPacket}
 use Rattle.ide_port.specs.StreamSends.{IsSent}
 

@@ -18,7 +18,7 @@ pub use Rattle.stream_lanes.specs.{joined_packets}
 pub use Rattle.ide_types.specs.declared.port.Side.{Side}
 pub use Rattle.ide_types.specs.declared.sub.SubKind.{SubKind}
 pub use Rattle.key_slots.specs.{Go, Stop, KeyCall, Program, SlotPair, is_one, live_set, program_answer}
-pub use Rattle.run_verdicts.specs.declared.verdict.Verdict.{Verdict}
+pub use Rattle.event_verdicts.specs.declared.verdict.Verdict.{Verdict}
 pub use Rattle.std.proofs.Common.{Err, List, None, Option, Result, Some, [], ap, arith, drop, false, get_or, length}
 pub use Rattle.std.proofs.Common.{length-append, map, refl, subst, suc, sym, take, true, zero, ℕ, ◌&&◌, ◌++◌, ◌+◌, ◌<◌}
 pub use Rattle.std.proofs.Common.{◌==◌, ◌||◌, ◌∙◌, ◌∷◌, ◌≡◌, ◌≢◌, ◌≤◌}

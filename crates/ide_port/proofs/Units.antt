@@ -15,7 +15,7 @@ use Rattle.ide_types.specs.declared.sub.SubKind.TheVariants.{Pr, Npr, Cpl}
 use Rattle.ide_types.specs.declared.port.PortName.{PortName}
 use Rattle.ide_prefix.specs.declared.fault.PacketFault.{PacketFault}
 use Rattle.ide_prefix.specs.Reading.{CutValue, PlainTlp, IdePacket}
-use Rattle.run_verdicts.specs.declared.verdict.SealedPacket.{SealedPacket}
+use Rattle.event_verdicts.specs.declared.verdict.SealedPacket.{SealedPacket}
 use Rattle.spec_stream.specs.Stream.{Taken, sealed_sub, sealed_one}
 use Rattle.tlp_layout.specs.Outgoing.{Outgoing, NoTlp, OnNone, OnStream}
 use Rattle.stream_lanes.specs.{SealedAtMost, AcceptedAtMost, any_out, any_into}

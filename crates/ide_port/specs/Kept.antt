@@ -11,7 +11,7 @@ use Rattle.ide_prefix.specs.{sub_from}
 use Rattle.spec_stream.specs.Stream.{LaneSlot, Armed, StreamState, at_sub}
 use Rattle.sub_stream.specs.declared.answer.Taken.{Taken}
 use Rattle.sub_stream.specs.declared.answer.Taken.TheVariants as taken
-use Rattle.run_verdicts.specs.declared.verdict.UnitName.{UnitName}
+use Rattle.event_verdicts.specs.declared.verdict.UnitName.{UnitName}
 use Rattle.ide_port.specs.StreamEnds.{StreamEnd, new_end}
 use Rattle.ide_port.specs.declared.answer.Arrival.{Arrival}
 use Rattle.ide_port.specs.declared.answer.Arrival.TheVariants.{Insecure, NotKeyed, Fail, Held, Accepted}

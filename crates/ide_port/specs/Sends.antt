@@ -1,9 +1,9 @@
 -- What becomes of a send at a port.
 use Rattle.std.specs.Prelude.{ℕ, ◌≡◌, Bool, List, [], map, Option, Some, None, Result, Ok, Err}
 use Rattle.ide_types.specs.declared.port.PortName.{PortName}
-use Rattle.run_verdicts.specs.declared.verdict.Verdict.{Verdict}
-use Rattle.run_verdicts.specs.declared.verdict.Verdict.TheVariants as v
-use Rattle.run_verdicts.specs.declared.verdict.SealedPacket.{SealedPacket as Described}
+use Rattle.event_verdicts.specs.declared.verdict.Verdict.{Verdict}
+use Rattle.event_verdicts.specs.declared.verdict.Verdict.TheVariants as v
+use Rattle.event_verdicts.specs.declared.verdict.SealedPacket.{SealedPacket as Described}
 use Rattle.tlp_layout.specs.declared.head.HeadView.{HeadView}
 use Rattle.tlp_layout.specs.declared.tlp.Tlp.{Tlp}
 use Rattle.tlp_layout.specs.Class.{class_of}

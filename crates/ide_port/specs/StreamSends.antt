@@ -3,8 +3,8 @@ use Rattle.std.specs.Prelude.{ℕ, ◌≡◌, Bool, List, [], ◌++◌, map, Opt
 use Rattle.std.specs.Result.{result_map_both}
 use Rattle.ide_types.specs.declared.sub.SubKind.{SubKind}
 use Rattle.ide_types.specs.declared.port.PortName.{PortName}
-use Rattle.run_verdicts.specs.declared.verdict.Verdict.{Verdict}
-use Rattle.run_verdicts.specs.declared.verdict.SealedPacket.{SealedPacket as Described}
+use Rattle.event_verdicts.specs.declared.verdict.Verdict.{Verdict}
+use Rattle.event_verdicts.specs.declared.verdict.SealedPacket.{SealedPacket as Described}
 use Rattle.ide_prefix.specs.Packet.{Packet}
 use Rattle.spec_stream.specs.Sending.{Sending, refusals, first_that_holds, sealed_with_syncs}
 use Rattle.spec_stream.specs.Stream.{sealed_all, Three, TxSub}

@@ -1,9 +1,9 @@
 //! What a port answers.
 
 use crate::{MeasuredPackets, SendRefusal};
+use event_verdicts::UnitName;
 use ide_prefix::PacketFault;
 use ide_types::{FailCause, SubKind};
-use run_verdicts::UnitName;
 use tlp_layout::TlpFault;
 
 /// What becomes of a send (this profile).

@@ -9,15 +9,15 @@ use Rattle.std.proofs.lemmas.List.Splits.{length-slice_split}
 use Rattle.file_runs.specs.Pieces.{pieces}
 use Rattle.ide_types.specs.declared.plan.Plan.{Plan}
 use Rattle.ide_types.specs.Fits.{FitsPlan}
-use Rattle.run_events.specs.declared.script.ScriptEvent.{ScriptEvent}
-use Rattle.run_events.specs.declared.fault.LineFault.{LineFault}
-use Rattle.run_events.specs.declared.fault.LineError.{LineError}
-use Rattle.run_events.specs.Parse.{line_meaning, IsLineAnswer}
-use Rattle.run_events.specs.Spells.{IsAllowed, IsAllowedInScript}
-use Rattle.run_events.proofs.Meanings.{meaning_is_spelling}
-use Rattle.run_events.proofs.Sizes.{spelled_are_allowed}
-use Rattle.script_events.specs.{event_of}
-use Rattle.script_events.proofs.Allowed.{events_are_allowed}
+use Rattle.script_events.specs.declared.script.ScriptEvent.{ScriptEvent}
+use Rattle.script_events.specs.declared.fault.LineFault.{LineFault}
+use Rattle.script_events.specs.declared.fault.LineError.{LineError}
+use Rattle.script_events.specs.Parse.{line_meaning, IsLineAnswer}
+use Rattle.script_events.specs.Spells.{IsAllowed, IsAllowedInScript}
+use Rattle.script_events.proofs.Meanings.{meaning_is_spelling}
+use Rattle.script_events.proofs.Sizes.{spelled_are_allowed}
+use Rattle.history_events.specs.{event_of}
+use Rattle.history_events.proofs.Allowed.{events_are_allowed}
 use Rattle.law_text.specs.Telling.{AreAllowed}
 use Rattle.file_runs.specs.Gain.{Text}
 use Rattle.file_runs.specs.Lines.{bytes_for_lines, cut_text, file_limit, is_over}

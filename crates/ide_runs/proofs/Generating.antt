@@ -1,11 +1,11 @@
 -- Generated events that are given to the world one after another: what is left of them is run on, until none is.
 use Rattle.std.proofs.Common.{◌≡◌, ◌∙◌, ◌≤◌, ◌+◌, ℕ, List, [], ◌∷◌, length, Option, Some, Ok, sym, ap, subst, arith}
 use Rattle.std.specs.List.{AllByRecursion}
-use Rattle.script_events.specs.Left.{Takes}
-use Rattle.script_events.specs.GeneratedTopology.{the_plan}
+use Rattle.history_events.specs.Left.{Takes}
+use Rattle.history_events.specs.GeneratedTopology.{the_plan}
 use Rattle.spec_keys.specs.History.{History}
-use Rattle.run_events.specs.declared.event.Event.{Event}
-use Rattle.run_events.specs.Spells.{IsAllowed}
+use Rattle.script_events.specs.declared.event.Event.{Event}
+use Rattle.script_events.specs.Spells.{IsAllowed}
 use Rattle.law_text.specs.Runs.{history_on, history_with_event}
 use Rattle.ide_types.specs.declared.plan.Plan.{Plan}
 use Rattle.ide_why.specs.{WorldView, IsNewWorld}

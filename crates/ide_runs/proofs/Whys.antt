@@ -6,12 +6,12 @@ use Rattle.std.proofs.lemmas.Bool.{lt-ltb, le-ltb}
 use Rattle.std.proofs.lemmas.List.{length-map}
 use Rattle.std.proofs.lemmas.Bool.Decides.{nat_tests}
 use Rattle.ide_types.specs.declared.plan.Plan.{Plan}
-use Rattle.run_events.specs.declared.event.Event.{Event}
-use Rattle.run_events.specs.declared.script.ScriptEvent.{ScriptEvent}
-use Rattle.run_events.specs.declared.fault.LineFault.{LineFault}
-use Rattle.run_events.specs.Parse.{line_meaning}
+use Rattle.script_events.specs.declared.event.Event.{Event}
+use Rattle.script_events.specs.declared.script.ScriptEvent.{ScriptEvent}
+use Rattle.script_events.specs.declared.fault.LineFault.{LineFault}
+use Rattle.script_events.specs.Parse.{line_meaning}
 use Rattle.spec_keys.specs.History.{History}
-use Rattle.script_events.specs.{event_of}
+use Rattle.history_events.specs.{event_of}
 use Rattle.law_text.specs.Runs.{history_on, history_with_event}
 use Rattle.ide_why.specs.{IsNewWorld, WorldView}
 use Rattle.file_runs.specs.declared.ends.End.TheVariants as end

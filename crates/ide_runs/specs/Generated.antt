@@ -1,11 +1,11 @@
 -- What a run over generated events writes: the totals of their history, in which each verdict is the one that is due.
 use Rattle.std.specs.Prelude.{ℕ, ◌++◌, [], length, codes}
 use Rattle.std.specs.Fmt.{decimal}
-use Rattle.script_events.specs.GeneratedEvents.{generated_events}
-use Rattle.script_events.specs.GeneratedTopology.{the_plan}
+use Rattle.history_events.specs.GeneratedEvents.{generated_events}
+use Rattle.history_events.specs.GeneratedTopology.{the_plan}
 use Rattle.spec_keys.specs.History.{History}
 use Rattle.law_text.specs.Runs.{history_on, totals_of}
-use Rattle.run_verdicts.specs.Lines.{totals_line_of}
+use Rattle.event_verdicts.specs.Lines.{totals_line_of}
 use Rattle.file_runs.specs.declared.ends.End.TheVariants as end
 use Rattle.file_runs.specs.Gain.{Text}
 use Rattle.file_runs.specs.Outcome.{Due}

@@ -14,18 +14,18 @@ use Rattle.why_facts.specs.Lines.{effect_lines, facts_text, rule_line, rules_tex
 use Rattle.ide_why.specs.{facts_due}
 use Rattle.spec_keys.specs.History.{History}
 use Rattle.spec_links.specs.Due.{due}
-use Rattle.run_verdicts.specs.Lines.{line_of}
-use Rattle.run_verdicts.specs.Shown.{verdict_by_ports}
-use Rattle.script_events.specs.{event_of}
-use Rattle.run_events.specs.declared.event.Event.{Event}
-use Rattle.run_events.specs.declared.script.ScriptEvent.{ScriptEvent}
-use Rattle.run_verdicts.specs.declared.verdict.Effect.{Effect}
-use Rattle.run_verdicts.specs.declared.verdict.Verdict.{Verdict}
-use Rattle.run_verdicts.specs.declared.verdict.Verdict.TheVariants as v
-use Rattle.run_events.specs.declared.fault.LineFault.{LineFault}
-use Rattle.run_events.specs.declared.fault.LineFault.TheVariants.{TooLong}
-use Rattle.run_events.specs.Words.{line_limit}
-use Rattle.run_events.specs.Parse.{line_meaning}
+use Rattle.event_verdicts.specs.Lines.{line_of}
+use Rattle.event_verdicts.specs.Shown.{verdict_by_ports}
+use Rattle.history_events.specs.{event_of}
+use Rattle.script_events.specs.declared.event.Event.{Event}
+use Rattle.script_events.specs.declared.script.ScriptEvent.{ScriptEvent}
+use Rattle.event_verdicts.specs.declared.verdict.Effect.{Effect}
+use Rattle.event_verdicts.specs.declared.verdict.Verdict.{Verdict}
+use Rattle.event_verdicts.specs.declared.verdict.Verdict.TheVariants as v
+use Rattle.script_events.specs.declared.fault.LineFault.{LineFault}
+use Rattle.script_events.specs.declared.fault.LineFault.TheVariants.{TooLong}
+use Rattle.script_events.specs.Words.{line_limit}
+use Rattle.script_events.specs.Parse.{line_meaning}
 use Rattle.file_runs.specs.Gain.{Text}
 use Rattle.file_runs.specs.Outcome.{IsWholeLines}
 use Rattle.ide_runs.specs.Why.{WhyPast, event_told, why_by_meaning, why_line, why_past_with}

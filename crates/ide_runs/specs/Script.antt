@@ -3,15 +3,15 @@ use Rattle.std.specs.Prelude.{ℕ, ◌+◌, ◌==◌, nat_lt, Bool, List, [], �
 use Rattle.std.specs.Prelude.{Result, Ok, Err, if◌then◌else◌, option_map}
 use Rattle.file_runs.specs.Pieces.{pieces}
 use Rattle.ide_types.specs.declared.plan.Plan.{Plan}
-use Rattle.run_events.specs.declared.event.Event.{Event}
-use Rattle.run_events.specs.declared.script.ScriptEvent.{ScriptEvent}
-use Rattle.run_events.specs.declared.fault.LineFault.{LineFault}
-use Rattle.run_events.specs.declared.fault.LineFault.TheVariants as line
-use Rattle.run_events.specs.Words.{fault_line_of, line_limit}
-use Rattle.run_events.specs.Parse.{line_meaning}
-use Rattle.run_verdicts.specs.Lines.{totals_line_of}
+use Rattle.script_events.specs.declared.event.Event.{Event}
+use Rattle.script_events.specs.declared.script.ScriptEvent.{ScriptEvent}
+use Rattle.script_events.specs.declared.fault.LineFault.{LineFault}
+use Rattle.script_events.specs.declared.fault.LineFault.TheVariants as line
+use Rattle.script_events.specs.Words.{fault_line_of, line_limit}
+use Rattle.script_events.specs.Parse.{line_meaning}
+use Rattle.event_verdicts.specs.Lines.{totals_line_of}
 use Rattle.spec_keys.specs.History.{History}
-use Rattle.script_events.specs.{event_of}
+use Rattle.history_events.specs.{event_of}
 use Rattle.law_text.specs.Runs.{history_on, text_on, totals_of}
 use Rattle.file_runs.specs.declared.ends.End.{End}
 use Rattle.file_runs.specs.declared.ends.End.TheVariants as end

@@ -3,7 +3,7 @@ use Rattle.std.specs.Prelude.{ℕ, ◌+◌, ◌-◌, ◌≤◌, true, [], length
 use Rattle.cli_files.specs.Outside.{Contents, ShelfSeen, SinkSeen}
 use Rattle.ide_types.specs.declared.plan.Plan.{Plan}
 use Rattle.file_runs.specs.Pieces.{pieces}
-use Rattle.run_events.specs.Words.{line_limit}
+use Rattle.script_events.specs.Words.{line_limit}
 use Rattle.file_runs.specs.Front.{Gave, bytes_of}
 use Rattle.file_runs.specs.declared.ends.Fault.{Fault}
 use Rattle.file_runs.specs.Gain.{Text}

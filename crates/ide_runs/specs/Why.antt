@@ -3,16 +3,16 @@ use Rattle.std.specs.Prelude.{ℕ, ◌+◌, ◌≡◌, nat_lt, true, List, [], �
 use Rattle.std.specs.Prelude.{Err, codes, if◌then◌else◌}
 use Rattle.std.specs.Fmt.{decimal}
 use Rattle.ide_types.specs.declared.plan.Plan.{Plan}
-use Rattle.run_events.specs.declared.event.Event.{Event}
-use Rattle.run_events.specs.declared.script.ScriptEvent.{ScriptEvent}
-use Rattle.run_events.specs.declared.fault.LineFault.{LineFault}
-use Rattle.run_events.specs.Words.{fault_line_of}
-use Rattle.run_events.specs.Parse.{line_meaning}
-use Rattle.run_verdicts.specs.Lines.{line_of}
-use Rattle.run_verdicts.specs.Shown.{verdict_by_ports}
+use Rattle.script_events.specs.declared.event.Event.{Event}
+use Rattle.script_events.specs.declared.script.ScriptEvent.{ScriptEvent}
+use Rattle.script_events.specs.declared.fault.LineFault.{LineFault}
+use Rattle.script_events.specs.Words.{fault_line_of}
+use Rattle.script_events.specs.Parse.{line_meaning}
+use Rattle.event_verdicts.specs.Lines.{line_of}
+use Rattle.event_verdicts.specs.Shown.{verdict_by_ports}
 use Rattle.spec_keys.specs.History.{History}
 use Rattle.spec_links.specs.Due.{due}
-use Rattle.script_events.specs.{event_of}
+use Rattle.history_events.specs.{event_of}
 use Rattle.law_text.specs.Runs.{history_with_event}
 use Rattle.ide_why.specs.{facts_due}
 use Rattle.why_facts.specs.{why_text_of}

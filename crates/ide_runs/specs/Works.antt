@@ -1,18 +1,18 @@
 -- What a line of a script gives by what is kept.
 use Rattle.std.specs.Prelude.{ℕ, ◌≡◌, ◌+◌, ◌*◌, ◌<◌, ◌≤◌, [], length, Option, Some, None, Result, Ok, Err}
 use Rattle.ide_types.specs.declared.plan.Plan.{Plan}
-use Rattle.run_events.specs.declared.event.Event.{Event}
-use Rattle.run_events.specs.declared.script.ScriptEvent.{ScriptEvent}
-use Rattle.run_events.specs.declared.fault.LineFault.{LineFault}
-use Rattle.run_events.specs.Parse.{line_meaning}
-use Rattle.run_events.specs.Spells.{IsAllowedInScript}
-use Rattle.run_verdicts.specs.declared.verdict.Verdict.{Verdict}
-use Rattle.run_verdicts.specs.declared.verdict.Totals.{Totals}
-use Rattle.run_verdicts.specs.Lines.{line_of, totals_line_of}
-use Rattle.run_verdicts.specs.Shown.{verdict_by_ports}
+use Rattle.script_events.specs.declared.event.Event.{Event}
+use Rattle.script_events.specs.declared.script.ScriptEvent.{ScriptEvent}
+use Rattle.script_events.specs.declared.fault.LineFault.{LineFault}
+use Rattle.script_events.specs.Parse.{line_meaning}
+use Rattle.script_events.specs.Spells.{IsAllowedInScript}
+use Rattle.event_verdicts.specs.declared.verdict.Verdict.{Verdict}
+use Rattle.event_verdicts.specs.declared.verdict.Totals.{Totals}
+use Rattle.event_verdicts.specs.Lines.{line_of, totals_line_of}
+use Rattle.event_verdicts.specs.Shown.{verdict_by_ports}
 use Rattle.spec_keys.specs.History.{History}
 use Rattle.spec_links.specs.Due.{due}
-use Rattle.script_events.specs.{event_of}
+use Rattle.history_events.specs.{event_of}
 use Rattle.law_text.specs.Runs.{history_with_event, totals_of, sealed_count, accepted_in, failed_in, blocked_in}
 use Rattle.ide_why.specs.{WorldView, WorldStandsFor}
 use Rattle.file_runs.specs.declared.ends.End.TheVariants as end

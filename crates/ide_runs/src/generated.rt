@@ -3,22 +3,22 @@
 ghost use Rattle.std.specs.Prelude.{◌≡◌, ◌≤◌, ◌++◌, [], IfOk, codes, length};
 ghost use Rattle.std.specs.Fmt.{decimal};
 ghost use Rattle.std.specs.List.{AllByRecursion};
-ghost use Rattle.script_events.specs.GeneratedEvents.{generated_events};
-ghost use Rattle.script_events.specs.GeneratedTopology.{the_plan};
+ghost use Rattle.history_events.specs.GeneratedEvents.{generated_events};
+ghost use Rattle.history_events.specs.GeneratedTopology.{the_plan};
 ghost use Rattle.file_runs.specs.Outcome.{Ran};
-ghost use Rattle.run_events.specs.Spells.{IsAllowed};
+ghost use Rattle.script_events.specs.Spells.{IsAllowed};
 ghost use Rattle.law_text.specs.Runs.{history_on};
-ghost use Rattle.run_verdicts.specs.Lines.{totals_line_of};
+ghost use Rattle.event_verdicts.specs.Lines.{totals_line_of};
 ghost use Rattle.ide_runs.specs.Generated.{generated_due, generated_history, generated_line};
 ghost use Rattle.ide_runs.specs.Works.{Follows, IsEarly};
 
 use crate::script::Running;
 use cli_files::Sink;
+use event_verdicts::totals_line;
 use file_runs::{End, Fault, finish};
+use history_events::{Generator, generated_are_allowed, topology};
 use ide_types::OutOfMemory;
 use ide_why::World;
-use run_verdicts::totals_line;
-use script_events::{Generator, generated_are_allowed, topology};
 use std::alloc::Global;
 
 // The world of the generated topology, before the first event.

@@ -7,10 +7,10 @@ ghost use Rattle.file_runs.specs.Front.{AskedPieces, Gave, GaveAtMost, bytes_of}
 ghost use Rattle.file_runs.specs.Gathering.{NoFurther, ReadAsFar, WroteEnded};
 ghost use Rattle.file_runs.specs.Lines.{file_limit};
 ghost use Rattle.file_runs.specs.Outcome.{RanOn};
-ghost use Rattle.run_events.specs.Parse.{line_meaning, IsLineAnswer};
-ghost use Rattle.run_events.specs.Spells.{IsAllowed, IsAllowedInScript};
-ghost use Rattle.run_verdicts.specs.Lines.{line_of};
-ghost use Rattle.run_verdicts.specs.Shown.{verdict_by_ports as shown_of};
+ghost use Rattle.script_events.specs.Parse.{line_meaning, IsLineAnswer};
+ghost use Rattle.script_events.specs.Spells.{IsAllowed, IsAllowedInScript};
+ghost use Rattle.event_verdicts.specs.Lines.{line_of};
+ghost use Rattle.event_verdicts.specs.Shown.{verdict_by_ports as shown_of};
 ghost use Rattle.ide_runs.specs.LineLaws.{long_event, whole_event};
 ghost use Rattle.ide_runs.specs.Loading.{topology_limit};
 ghost use Rattle.ide_runs.specs.Reads.{RanPast, RunNoFurther, ScriptGoesOn};
@@ -22,12 +22,12 @@ ghost use Rattle.law_text.specs.Runs.{is_blocked, sealed_count, accepted_in, fai
 
 use crate::topologies::{Loaded, load, refuse};
 use cli_files::{Shelf, Sink};
+use event_verdicts::{Effect, Totals, Verdict, line, shown, totals_line};
 use file_runs::{End, Fault, LineWork, run_file};
+use history_events::{event_of, events_are_allowed};
 use ide_types::{Bytes, OutOfMemory, Plan, ValidPlan};
 use ide_why::World;
-use run_events::{Event, LineError, ScriptEvent, lines_spell, parse_line};
-use run_verdicts::{Effect, Totals, Verdict, line, shown, totals_line};
-use script_events::{event_of, events_are_allowed};
+use script_events::{Event, LineError, ScriptEvent, lines_spell, parse_line};
 use std::alloc::Global;
 use std::marker::Model;
 

@@ -7,8 +7,8 @@ ghost use Rattle.file_runs.specs.Front.{AskedPieces, Gave, GaveAtMost, bytes_of}
 ghost use Rattle.file_runs.specs.Gathering.{NoFurther, ReadAsFar, WroteEnded};
 ghost use Rattle.file_runs.specs.Lines.{file_limit};
 ghost use Rattle.file_runs.specs.Outcome.{RanOn};
-ghost use Rattle.run_events.specs.Spells.{IsAllowed, IsAllowedInScript};
-ghost use Rattle.run_verdicts.specs.Lines.{line_of};
+ghost use Rattle.script_events.specs.Spells.{IsAllowed, IsAllowedInScript};
+ghost use Rattle.event_verdicts.specs.Lines.{line_of};
 ghost use Rattle.ide_runs.specs.LineLaws.{long_told, whole_told};
 ghost use Rattle.ide_runs.specs.Loading.{topology_limit};
 ghost use Rattle.ide_runs.specs.Reads.{RanPast, RunNoFurther, ScriptGoesOn};
@@ -21,10 +21,10 @@ use crate::script::{Running, asked};
 use crate::topologies::{Loaded, load, refuse};
 use cli_files::{Shelf, Sink};
 use file_runs::{End, Fault, LineWork, run_file};
+use history_events::{event_of, events_are_allowed};
 use ide_types::{Bytes, OutOfMemory, Plan};
 use ide_why::{World, facts, why_text};
-use run_events::{Event, LineError, ScriptEvent};
-use script_events::{event_of, events_are_allowed};
+use script_events::{Event, LineError, ScriptEvent};
 use std::alloc::Global;
 use std::marker::Model;
 

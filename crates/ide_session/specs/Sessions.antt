@@ -1,9 +1,9 @@
 -- What a session is, and what each call makes of one.
 use Rattle.std.specs.Prelude.{ℕ, ◌≡◌, ◌⊎◌, ◌+◌, ◌<◌, ◌≤◌, length, take, [], Option, Some, None, Result, Ok, Err, IsSome}
-use Rattle.run_events.specs.declared.fault.LineFault.{LineFault}
-use Rattle.run_events.specs.declared.script.ScriptEvent.{ScriptEvent}
-use Rattle.run_events.specs.Parse.{line_meaning}
-use Rattle.run_events.specs.Words.{fault_line_of}
+use Rattle.script_events.specs.declared.fault.LineFault.{LineFault}
+use Rattle.script_events.specs.declared.script.ScriptEvent.{ScriptEvent}
+use Rattle.script_events.specs.Parse.{line_meaning}
+use Rattle.script_events.specs.Words.{fault_line_of}
 use Rattle.ide_types.specs.declared.plan.Plan.{Plan}
 use Rattle.file_runs.specs.declared.ends.End.TheVariants as end
 use Rattle.file_runs.specs.Gain.{Text}

@@ -17,7 +17,7 @@ use answer::Answer;
 use held::{Handle, hold, unhold};
 use ide_runs::{Loaded, World, load_bytes, refusal};
 use ide_types::Plan;
-use run_events::fault_line;
+use script_events::fault_line;
 use session::{NotRun, Session};
 use std::alloc::Global;
 

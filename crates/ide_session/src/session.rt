@@ -6,7 +6,7 @@ ghost use Rattle.ide_runs.specs.Works.{IsEarly, MayAsk};
 use file_runs::LineWork;
 use ide_runs::{ScriptWork, World, asked};
 use ide_types::{Bytes, OutOfMemory};
-use run_events::{LineError, LineFault, ScriptEvent};
+use script_events::{LineError, LineFault, ScriptEvent};
 use std::alloc::Global;
 
 /// How many lines a session takes (this profile).

@@ -7,8 +7,8 @@ use Rattle.std.specs.Prelude.{IfOk, bit_xor, if◌then◌else◌, nat_le, nat_lt
 use Rattle.ide_types.specs.declared.memory.OutOfMemory.{OutOfMemory}
 use Rattle.ide_types.specs.declared.port.PortName.{PortName}
 use Rattle.ide_types.specs.declared.plan.Plan.{Plan}
-use Rattle.run_events.specs.declared.event.Event.{Event}
-use Rattle.run_events.specs.declared.event.Event.TheVariants as event
+use Rattle.script_events.specs.declared.event.Event.{Event}
+use Rattle.script_events.specs.declared.event.Event.TheVariants as event
 use Rattle.spec_links.specs.Packets.{arrival_at}
 use Rattle.spec_links.specs.Plan.{has_link, partner}
 use Rattle.machine_ports.specs.Machine.{LinkPacket, altered_to, cut_short, packet_numbered, whole_arrival}

@@ -7,12 +7,12 @@ use Rattle.ide_types.specs.declared.port.Side.TheVariants.{Host}
 use Rattle.ide_types.specs.declared.plan.Plan.{Plan}
 use Rattle.ide_types.specs.declared.stream.StreamPlan.{StreamPlan}
 use Rattle.spec_keys.specs.Operations.{StreamStage}
-use Rattle.run_events.specs.declared.event.Event.{Event}
-use Rattle.run_events.specs.declared.event.Event.TheVariants as event
-use Rattle.run_events.specs.declared.event.AccessEvent.TheVariants as ae
+use Rattle.script_events.specs.declared.event.Event.{Event}
+use Rattle.script_events.specs.declared.event.Event.TheVariants as event
+use Rattle.script_events.specs.declared.event.AccessEvent.TheVariants as ae
 use Rattle.spec_links.specs.Plan.{has_link, streams_of}
 use Rattle.spec_links.specs.Ports.{may_send, outgoing_at, sealing_end}
-use Rattle.run_verdicts.specs.declared.verdict.Operation.TheVariants as op
+use Rattle.event_verdicts.specs.declared.verdict.Operation.TheVariants as op
 use Rattle.machine_operations.specs.{LinkState, find_op, ports_of, machine_status}
 use Rattle.machine_whole.specs.Machine.{arrival_of}
 use Rattle.why_facts.specs.declared.fact.Fact.{Fact}

@@ -15,8 +15,8 @@ use Rattle.spec_interfaces.specs.Sites.{Site, sites}
 use Rattle.spec_interfaces.specs.Peers.{has_peer, live_by_id}
 use Rattle.spec_interfaces.specs.Views.{number_in, peer_of}
 use Rattle.interface_state.specs.{Tdi}
-use Rattle.run_events.specs.declared.event.InterfaceEvent.{InterfaceEvent}
-use Rattle.run_events.specs.declared.event.InterfaceEvent.TheVariants as ie
+use Rattle.script_events.specs.declared.event.InterfaceEvent.{InterfaceEvent}
+use Rattle.script_events.specs.declared.event.InterfaceEvent.TheVariants as ie
 use Rattle.spec_links.specs.{HopTlp, has_hop, leaving_end}
 use Rattle.spec_links.specs.Plan.{has_link, is_closed}
 use Rattle.spec_links.specs.Ports.{outgoing_at}

@@ -17,8 +17,8 @@ use Rattle.spec_keys.specs.Keys.{refusal_if}
 use Rattle.spec_keys.specs.Places.{KeyPlace, places_of, told_places}
 use Rattle.spec_links.specs.Plan.{is_closed}
 use Rattle.machine_ports.specs.Machine.{is_last_in, refuses_at, slots_refuse}
-use Rattle.run_verdicts.specs.declared.verdict.Operation.{Operation}
-use Rattle.run_verdicts.specs.declared.verdict.Operation.TheVariants as op
+use Rattle.event_verdicts.specs.declared.verdict.Operation.{Operation}
+use Rattle.event_verdicts.specs.declared.verdict.Operation.TheVariants as op
 use Rattle.machine_operations.specs.{find, is_live_at, port_at, ports_of}
 use Rattle.spec_stream.specs.Slots.{is_live_slot, slots_at}
 use Rattle.spec_stream.specs.Stream.{LaneSlot, Empty, Programmed, Armed, Live, LaneSlots, StreamState, slot_in_set}

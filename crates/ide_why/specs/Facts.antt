@@ -24,13 +24,13 @@ use Rattle.spec_interfaces.specs.Peers.{has_peer}
 use Rattle.spec_interfaces.specs.Views.{number_in, peer_of}
 use Rattle.spec_keys.specs.History.{program_exchange}
 use Rattle.spec_keys.specs.Operations.{StreamStage, Up, last_exchange_of, work_of}
-use Rattle.run_verdicts.specs.declared.verdict.Operation.{Operation}
-use Rattle.run_verdicts.specs.declared.verdict.Operation.TheVariants as op
-use Rattle.run_events.specs.declared.event.Event.{Event}
-use Rattle.run_events.specs.declared.event.Event.TheVariants as event
-use Rattle.run_events.specs.declared.event.AccessEvent.TheVariants as ae
-use Rattle.run_events.specs.declared.event.InterfaceEvent.{InterfaceEvent}
-use Rattle.run_events.specs.declared.event.InterfaceEvent.TheVariants as ie
+use Rattle.event_verdicts.specs.declared.verdict.Operation.{Operation}
+use Rattle.event_verdicts.specs.declared.verdict.Operation.TheVariants as op
+use Rattle.script_events.specs.declared.event.Event.{Event}
+use Rattle.script_events.specs.declared.event.Event.TheVariants as event
+use Rattle.script_events.specs.declared.event.AccessEvent.TheVariants as ae
+use Rattle.script_events.specs.declared.event.InterfaceEvent.{InterfaceEvent}
+use Rattle.script_events.specs.declared.event.InterfaceEvent.TheVariants as ie
 use Rattle.spec_links.specs.{HopTlp, has_hop, leaving_end}
 use Rattle.spec_links.specs.History.{Arrival}
 use Rattle.spec_links.specs.Plan.{has_link, streams_of}

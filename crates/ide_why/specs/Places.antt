@@ -7,7 +7,7 @@ use Rattle.ide_types.specs.declared.port.Side.TheVariants.{Host, Device}
 use Rattle.ide_types.specs.declared.sub.SubKind.TheVariants.{Pr, Npr, Cpl}
 use Rattle.ide_types.specs.declared.plan.Plan.{Plan}
 use Rattle.spec_keys.specs.History.{program_exchange}
-use Rattle.run_verdicts.specs.declared.verdict.Operation.{Operation}
+use Rattle.event_verdicts.specs.declared.verdict.Operation.{Operation}
 use Rattle.sub_stream.specs.declared.facts.SetFacts.{SetFacts}
 use Rattle.sub_stream.specs.declared.facts.StreamFacts.{StreamFacts}
 use Rattle.sub_stream.specs.Facts.{lane_seen}

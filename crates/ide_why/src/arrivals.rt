@@ -3,7 +3,7 @@
 ghost use Rattle.std.specs.Prelude.{◌≡◌, ◌<◌, ◌∷◌, ◌++◌, [], IfOk, List, Some, bit_xor, length, slice_index, slice_set};
 ghost use Rattle.ide_prefix.specs.Cut.{packet_of_view, IsView};
 ghost use Rattle.ide_prefix.specs.Reading.{cut_of};
-ghost use Rattle.run_events.specs.declared.event.Event.TheVariants.{Pass, Alter, Cut as CutShort};
+ghost use Rattle.script_events.specs.declared.event.Event.TheVariants.{Pass, Alter, Cut as CutShort};
 ghost use Rattle.spec_links.specs.Packets.{arrival_at};
 ghost use Rattle.why_facts.specs.Forms.{arrives_fact};
 ghost use Rattle.world.specs.{IsWorld};

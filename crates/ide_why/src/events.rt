@@ -9,7 +9,7 @@ ghost use Rattle.ide_why.specs.Facts.{arrived_facts, facts_read, sent_facts};
 use crate::reader::Reader;
 use ide_types::{OutOfMemory, PortName};
 use line_routes::{has_port, may_send, sealing_end};
-use run_events::{AccessEvent, Event};
+use script_events::{AccessEvent, Event};
 use std::alloc::Global;
 use why_facts::{Fact, facts_stand};
 use world::World;

@@ -13,7 +13,7 @@ use crate::reader::Reader;
 use hop_queues::HopQueues;
 use ide_types::{Direction, OutOfMemory, PortName, Side, SubKind};
 use line_routes::{has_hop, leaving_end};
-use run_events::InterfaceEvent;
+use script_events::InterfaceEvent;
 use trusted_memory::WaitingRead;
 use why_facts::{
     FaceSeen, Fact, InterfaceFact, push_draw, push_face, push_memory, push_of_interface,

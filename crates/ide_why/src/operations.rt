@@ -11,9 +11,9 @@ ghost use Rattle.ide_why.specs.Facts.{state_of_whole, status_read, stop_read};
 ghost use Rattle.ide_why.specs.Reading.{stream_read};
 
 use crate::reader::{Reader, StageSeen};
+use event_verdicts::Operation;
 use ide_types::{OutOfMemory, PortName, Side, StreamStatus, SubKind};
 use key_host::StageFacts;
-use run_verdicts::Operation;
 use why_facts::{
     Fact, OperationFact, first_exchange, last_exchange, may_go, push_manager, push_of_operation,
     push_open, push_status,

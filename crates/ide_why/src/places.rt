@@ -8,9 +8,9 @@ ghost use Rattle.ide_why.specs.Facts.{refusing_read};
 ghost use Rattle.ide_why.specs.Places.{first_refusing, is_refusing, refusing_on, sets_at};
 
 use crate::reader::{Reader, StageSeen};
+use event_verdicts::Operation;
 use ide_types::{OutOfMemory, PortName, Side, SubKind};
 use line_routes::port_of;
-use run_verdicts::Operation;
 use sub_stream::SetFacts;
 use why_facts::{
     Fact, OperationFact, Place, first_exchange, is_last, key_set, place_at, program_at,

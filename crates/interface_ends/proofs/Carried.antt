@@ -1,8 +1,8 @@
 -- An exchange that is carried.
 use Rattle.std.proofs.Common.{◌≡◌, ℕ, List, length, Option, Some, None, refl, ap, sym, ◌∙◌}
 use Rattle.std.specs.Prelude.{IfSome}
-use Rattle.run_events.specs.declared.event.Loss.{Loss}
-use Rattle.run_events.specs.declared.event.Lost.{Lost}
+use Rattle.script_events.specs.declared.event.Loss.{Loss}
+use Rattle.script_events.specs.declared.event.Lost.{Lost}
 use Rattle.tdisp_codec.specs.Requests.{request_spelling}
 use Rattle.tdisp_codec.specs.Replies.{reply_reading}
 use Rattle.interface_host.specs.declared.operation.InterfaceOutcome.{InterfaceOutcome}

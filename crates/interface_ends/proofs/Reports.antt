@@ -6,9 +6,9 @@ use Rattle.std.specs.Prelude.{slice_set, nat_le, nat_lt, ◌&&◌, ◌||◌, if�
 use Rattle.std.specs.Option.{option_map}
 use Rattle.spec_keys.proofs.Terms.{nat_tests}
 use Rattle.spec_keys.proofs.Tests.{le-true, lt-true, true-same, true-le, false-le}
-use Rattle.run_events.specs.declared.event.Loss.{Loss}
-use Rattle.run_events.specs.declared.event.Lost.{Lost}
-use Rattle.run_events.specs.declared.event.Lost.TheVariants.{Request, Reply}
+use Rattle.script_events.specs.declared.event.Loss.{Loss}
+use Rattle.script_events.specs.declared.event.Lost.{Lost}
+use Rattle.script_events.specs.declared.event.Lost.TheVariants.{Request, Reply}
 use Rattle.interface_state.specs.declared.states.Lock.{Lock}
 use Rattle.interface_state.specs.Kept.{kept_report}
 use Rattle.interface_state.specs.Machine.{Tdi, lock_of, portion_of}

@@ -2,7 +2,7 @@
 use Rattle.std.proofs.Common.{◌≡◌, ◌≢◌, ℕ, suc, zero, true, List, Option, Some, None, refl, ap, sym, subst, ◌∙◌}
 use Rattle.std.specs.Prelude.{slice_get, is_some, IfSome}
 use Rattle.ide_types.proofs.Places.{set_there, set_again, set_read}
-use Rattle.run_events.specs.declared.event.Loss.{Loss}
+use Rattle.script_events.specs.declared.event.Loss.{Loss}
 use Rattle.interface_host.specs.declared.interfaces.Asking.{Asking}
 use Rattle.interface_host.specs.declared.operation.InterfaceOutcome.{InterfaceOutcome}
 use Rattle.interface_host.specs.declared.operation.InterfaceOutcome.TheVariants as outcome

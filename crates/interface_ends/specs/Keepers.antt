@@ -1,8 +1,8 @@
 -- The manager with all its interfaces, and the device, after the exchanges of an operation.
 use Rattle.std.specs.Prelude.{ℕ, zero, suc, ◌≡◌, length, Option, Some, None, slice_set}
 use Rattle.ide_types.specs.declared.status.StreamStatus.{StreamStatus}
-use Rattle.run_events.specs.declared.event.Loss.{Loss}
-use Rattle.run_events.specs.declared.event.Lost.{Lost}
+use Rattle.script_events.specs.declared.event.Loss.{Loss}
+use Rattle.script_events.specs.declared.event.Lost.{Lost}
 use Rattle.interface_host.specs.declared.operation.InterfaceOperation.{InterfaceOperation}
 use Rattle.interface_host.specs.declared.operation.InterfaceOutcome.{InterfaceOutcome}
 use Rattle.interface_host.specs.declared.operation.InterfaceOutcome.TheVariants as outcome

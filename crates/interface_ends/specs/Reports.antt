@@ -1,7 +1,7 @@
 -- A report, read portion by portion at one event.
 use Rattle.std.specs.Prelude.{ℕ, zero, suc, ◌+◌, ◌-◌, ◌≡◌, ◌≤◌, ◌&&◌, nat_le, nat_lt, List, length, Option, Some}
 use Rattle.std.specs.Prelude.{None, if◌then◌else◌}
-use Rattle.run_events.specs.declared.event.Loss.{Loss}
+use Rattle.script_events.specs.declared.event.Loss.{Loss}
 use Rattle.interface_state.specs.declared.states.Lock.{Lock}
 use Rattle.interface_state.specs.Kept.{kept_report}
 use Rattle.interface_state.specs.Machine.{lock_of}

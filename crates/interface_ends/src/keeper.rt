@@ -14,7 +14,7 @@ use crate::{DeviceInterfaces, StreamSaid, TDISP_REPLY_ROOM};
 use ide_types::{Items, LinkPlan, OutOfMemory, StreamStatus};
 use interface_host::{InterfaceOperation, InterfaceOutcome, Interfaces};
 use key_host::ExchangeReply;
-use run_events::{Loss, Lost};
+use script_events::{Loss, Lost};
 use std::alloc::Global;
 use std::marker::Model;
 

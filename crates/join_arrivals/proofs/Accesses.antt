@@ -26,11 +26,11 @@ use Rattle.ide_types.specs.declared.plan.Plan.{Plan}
 use Rattle.ide_prefix.specs.Packet.{Packet}
 use Rattle.ide_prefix.specs.{encrypted_bytes, iv_of}
 use Rattle.ide_prefix.specs.Reading.{cut_of}
-use Rattle.run_verdicts.specs.declared.verdict.Verdict.{Verdict}
-use Rattle.run_verdicts.specs.declared.verdict.Effect.{Effect}
-use Rattle.run_verdicts.specs.declared.verdict.Effect.TheVariants as effect
-use Rattle.run_verdicts.specs.declared.verdict.UnitName.{UnitName}
-use Rattle.run_events.specs.declared.event.Event.{Event}
+use Rattle.event_verdicts.specs.declared.verdict.Verdict.{Verdict}
+use Rattle.event_verdicts.specs.declared.verdict.Effect.{Effect}
+use Rattle.event_verdicts.specs.declared.verdict.Effect.TheVariants as effect
+use Rattle.event_verdicts.specs.declared.verdict.UnitName.{UnitName}
+use Rattle.script_events.specs.declared.event.Event.{Event}
 use Rattle.trusted_memory.specs.{MemoryContents}
 use Rattle.sub_stream.specs.{opened_from_byte}
 use Rattle.spec_keys.specs.History.{History}

@@ -19,12 +19,12 @@ use Rattle.ide_prefix.specs.Packet.{Packet}
 use Rattle.ide_prefix.specs.{is_sync_packet}
 use Rattle.ide_prefix.specs.declared.fault.PacketFault.{PacketFault}
 use Rattle.ide_prefix.specs.Reading.{CutValue, IdePacket, PlainTlp}
-use Rattle.run_verdicts.specs.declared.verdict.Verdict.{Verdict}
-use Rattle.run_verdicts.specs.declared.verdict.Verdict.TheVariants as v
-use Rattle.run_verdicts.specs.declared.verdict.Effect.{Effect}
-use Rattle.run_verdicts.specs.declared.verdict.Effect.TheVariants as effect
-use Rattle.run_verdicts.specs.declared.verdict.UnitName.{UnitName}
-use Rattle.run_events.specs.declared.event.Event.TheVariants.{Dump}
+use Rattle.event_verdicts.specs.declared.verdict.Verdict.{Verdict}
+use Rattle.event_verdicts.specs.declared.verdict.Verdict.TheVariants as v
+use Rattle.event_verdicts.specs.declared.verdict.Effect.{Effect}
+use Rattle.event_verdicts.specs.declared.verdict.Effect.TheVariants as effect
+use Rattle.event_verdicts.specs.declared.verdict.UnitName.{UnitName}
+use Rattle.script_events.specs.declared.event.Event.TheVariants.{Dump}
 use Rattle.spec_links.specs.Plan.{is_closed, aggregation_of}
 use Rattle.spec_links.specs.Ports.{at_switch, port_of}
 use Rattle.spec_links.specs.Memory.{Policy, device_effect, effect_by, effects_each, host_effect, waiting_then}

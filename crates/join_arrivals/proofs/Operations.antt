@@ -27,11 +27,11 @@ use Rattle.ide_types.specs.declared.port.Side.TheVariants.{Device, Host}
 use Rattle.ide_types.specs.declared.port.PortName.{PortName}
 use Rattle.ide_types.specs.Lines.{is_hosted, is_link_line}
 use Rattle.ide_types.specs.declared.plan.Plan.{Plan}
-use Rattle.run_verdicts.specs.declared.verdict.Verdict.{Verdict}
-use Rattle.run_verdicts.specs.declared.verdict.Verdict.TheVariants as v
-use Rattle.run_verdicts.specs.declared.verdict.Operation.{Operation}
-use Rattle.run_verdicts.specs.declared.verdict.Operation.TheVariants as op
-use Rattle.run_events.specs.declared.event.Loss.{Loss}
+use Rattle.event_verdicts.specs.declared.verdict.Verdict.{Verdict}
+use Rattle.event_verdicts.specs.declared.verdict.Verdict.TheVariants as v
+use Rattle.event_verdicts.specs.declared.verdict.Operation.{Operation}
+use Rattle.event_verdicts.specs.declared.verdict.Operation.TheVariants as op
+use Rattle.script_events.specs.declared.event.Loss.{Loss}
 use Rattle.key_slots.specs.{Pool}
 use Rattle.spec_keys.specs.Operations.{StreamStage, Reach, Work, reach_of, work_of}
 use Rattle.spec_keys.specs.History.{History}

@@ -20,9 +20,9 @@ use Rattle.hop_queues.specs.declared.queue.HopTlp.{HopTlp}
 use Rattle.hop_queues.specs.declared.queues.HopQueues.{HopQueues}
 use Rattle.hop_queues.specs.{most_bytes, queue_of, with_queue}
 use Rattle.spec_keys.specs.History.{History}
-use Rattle.run_verdicts.specs.declared.verdict.UnitName.{UnitName}
-use Rattle.run_verdicts.specs.declared.verdict.Effect.{Effect}
-use Rattle.run_verdicts.specs.declared.verdict.Effect.TheVariants as effect
+use Rattle.event_verdicts.specs.declared.verdict.UnitName.{UnitName}
+use Rattle.event_verdicts.specs.declared.verdict.Effect.{Effect}
+use Rattle.event_verdicts.specs.declared.verdict.Effect.TheVariants as effect
 use Rattle.spec_links.specs.Plan.{aggregation_of, has_stream}
 use Rattle.spec_links.specs.Ports.{at_switch}
 use Rattle.spec_links.specs.Admission.{Policy, effect_by, effects_each, waiting_then}

@@ -5,9 +5,9 @@ use Rattle.std.proofs.Common.{◌≡◌, ◌∙◌, ℕ, zero, suc, Bool, true, 
 use Rattle.std.specs.Prelude.{Option, Some, None, is_some}
 use Rattle.key_slots.specs.{Pool}
 use Rattle.spec_keys.specs.Operations.{StreamStage, Work, Reach, reach_of}
-use Rattle.run_events.specs.declared.event.Loss.{Loss}
-use Rattle.run_verdicts.specs.declared.verdict.Operation.{Operation}
-use Rattle.run_verdicts.specs.declared.verdict.Verdict.{Verdict}
+use Rattle.script_events.specs.declared.event.Loss.{Loss}
+use Rattle.event_verdicts.specs.declared.verdict.Operation.{Operation}
+use Rattle.event_verdicts.specs.declared.verdict.Verdict.{Verdict}
 use Rattle.key_host.specs.declared.judge.Judged.{Judged}
 use Rattle.key_host.specs.declared.operation.StreamOutcome.{StreamOutcome}
 use Rattle.key_host.specs.declared.operation.StreamOutcome.TheVariants as outcome

@@ -1,8 +1,8 @@
 -- What arrivals make of what stands at each link beside its ports and interfaces.
 use Rattle.std.specs.Prelude.{ℕ, ◌≡◌, List, [], length, slice_get, Option, Some, is_some, false}
 use Rattle.ide_types.specs.declared.port.PortName.{PortName}
-use Rattle.run_verdicts.specs.declared.verdict.Verdict.{Verdict}
-use Rattle.run_verdicts.specs.declared.verdict.Verdict.TheVariants.{Nothing}
+use Rattle.event_verdicts.specs.declared.verdict.Verdict.{Verdict}
+use Rattle.event_verdicts.specs.declared.verdict.Verdict.TheVariants.{Nothing}
 use Rattle.guarded_memory.specs.declared.status.InterfaceStatus.{InterfaceStatus}
 use Rattle.trusted_memory.specs.{MemoryContents}
 use Rattle.spec_links.specs.Memory.{Policy}

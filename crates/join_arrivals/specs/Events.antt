@@ -1,10 +1,10 @@
 -- What events name.
 use Rattle.std.specs.Prelude.{ℕ, Option}
-use Rattle.run_events.specs.declared.event.Event.{Event}
-use Rattle.run_events.specs.declared.event.Event.TheVariants.{Establish, Refresh, Stop}
-use Rattle.run_events.specs.declared.event.Loss.{Loss}
-use Rattle.run_verdicts.specs.declared.verdict.Operation.{Operation}
-use Rattle.run_verdicts.specs.declared.verdict.Operation.TheVariants as op
+use Rattle.script_events.specs.declared.event.Event.{Event}
+use Rattle.script_events.specs.declared.event.Event.TheVariants.{Establish, Refresh, Stop}
+use Rattle.script_events.specs.declared.event.Loss.{Loss}
+use Rattle.event_verdicts.specs.declared.verdict.Operation.{Operation}
+use Rattle.event_verdicts.specs.declared.verdict.Operation.TheVariants as op
 
 abbrev pub operation_event : Operation → ℕ → ℕ → Option Loss → Event
 operation_event op.Establish line stream loss = Establish line stream loss

@@ -4,11 +4,11 @@ ghost use Rattle.std.specs.Prelude.{◌≡◌, ◌<◌, ◌^◌, IfOk, OnErr, le
 ghost use Rattle.join_ends.specs.{EndsUnitsAtMost};
 ghost use Rattle.join_arrivals.specs.Accesses.{AccessesStay, Brings};
 
+use event_verdicts::Verdict;
 use ide_types::{OutOfMemory, PortName};
 use interface_ends::InterfaceKeeper;
 use join_ends::AllEnds;
 use link_stores::Accesses;
-use run_verdicts::Verdict;
 use trusted_memory::Trusted;
 
 /// The most pages of trusted memory that the writes of a unit go to: it has at most 8 packets, each in one page.

@@ -19,8 +19,8 @@ use Rattle.tlp_layout.specs.Head.{head_bytes}
 use Rattle.tlp_layout.specs.Tlp.{header, body}
 use Rattle.ide_prefix.specs.FaultWords.{tlp_word}
 use Rattle.tlp_layout.specs.Outgoing.{Outgoing, NoTlp, OnNone, OnStream, outgoing_of}
-use Rattle.run_verdicts.specs.declared.verdict.Verdict.TheVariants as v
-use Rattle.run_verdicts.specs.declared.verdict.SealedPacket.{SealedPacket as Described}
+use Rattle.event_verdicts.specs.declared.verdict.Verdict.TheVariants as v
+use Rattle.event_verdicts.specs.declared.verdict.SealedPacket.{SealedPacket as Described}
 use Rattle.spec_stream.specs.Sending.{Sending, Lanes, refusals, first_that_holds, sealed_with_syncs}
 use Rattle.spec_links.proofs.Choices.{stream_known}
 use Rattle.machine_ports.specs.Machine.{stepped_on_stream, stepped_send}

@@ -3,7 +3,7 @@
 use Rattle.std.proofs.Common.{◌≡◌, ℕ, zero, suc, Option, Some, None, refl, ap, sym}
 use Rattle.std.specs.Prelude.{slice_get, slice_set}
 use Rattle.ide_types.proofs.Places.{set_read}
-use Rattle.run_events.specs.declared.event.Loss.{Loss}
+use Rattle.script_events.specs.declared.event.Loss.{Loss}
 use Rattle.interface_host.specs.declared.interfaces.Asking.{Asking}
 use Rattle.interface_host.specs.declared.operation.InterfaceOperation.{InterfaceOperation}
 use Rattle.interface_host.specs.declared.operation.InterfaceOutcome.{InterfaceOutcome}

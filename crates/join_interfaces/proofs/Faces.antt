@@ -6,9 +6,9 @@ use Rattle.std.specs.Str.{bytes_eq}
 use Rattle.spec_keys.proofs.Tests.{same-true}
 use Rattle.ide_types.specs.declared.plan.Plan.{Plan}
 use Rattle.ide_types.specs.declared.interface.InterfacePlan.{InterfacePlan}
-use Rattle.run_events.specs.declared.event.Loss.{Loss}
-use Rattle.run_events.specs.declared.event.Event.TheVariants as event
-use Rattle.run_verdicts.specs.declared.verdict.Verdict.{Verdict}
+use Rattle.script_events.specs.declared.event.Loss.{Loss}
+use Rattle.script_events.specs.declared.event.Event.TheVariants as event
+use Rattle.event_verdicts.specs.declared.verdict.Verdict.{Verdict}
 use Rattle.interface_state.specs.declared.states.Lock.{Lock}
 use Rattle.interface_state.specs.declared.states.TdiState.{TdiState}
 use Rattle.interface_state.specs.declared.states.TdiState.TheVariants.{ConfigUnlocked, ConfigLocked, Run, Error}

@@ -3,11 +3,11 @@ use Rattle.std.proofs.Common.{◌≡◌, ℕ, ◌+◌, false, [], Option, Some, 
 use Rattle.std.specs.Prelude.{slice_set}
 use Rattle.ide_types.specs.declared.status.StreamStatus.{StreamStatus}
 use Rattle.ide_types.specs.declared.verdict.InterfaceVerdict.TheVariants as iv
-use Rattle.run_events.specs.declared.event.Loss.{Loss}
-use Rattle.run_events.specs.declared.event.Lost.{Lost}
-use Rattle.run_events.specs.declared.event.Lost.TheVariants.{Request, Reply}
-use Rattle.run_verdicts.specs.declared.verdict.Verdict.{Verdict}
-use Rattle.run_verdicts.specs.declared.verdict.Verdict.TheVariants as v
+use Rattle.script_events.specs.declared.event.Loss.{Loss}
+use Rattle.script_events.specs.declared.event.Lost.{Lost}
+use Rattle.script_events.specs.declared.event.Lost.TheVariants.{Request, Reply}
+use Rattle.event_verdicts.specs.declared.verdict.Verdict.{Verdict}
+use Rattle.event_verdicts.specs.declared.verdict.Verdict.TheVariants as v
 use Rattle.spec_interfaces.specs.Sites.{Site}
 use Rattle.spec_interfaces.specs.Views.{Managed, needs_then, on_halt}
 use Rattle.spec_interfaces.specs.Devices.{interface_if_called}

@@ -5,13 +5,13 @@ use Rattle.std.specs.Prelude.{IfSome, if◌then◌else◌}
 use Rattle.std.specs.Option.{option_map}
 use Rattle.ide_types.specs.declared.status.StreamStatus.{StreamStatus}
 use Rattle.ide_types.specs.declared.plan.Plan.{Plan}
-use Rattle.run_events.specs.declared.event.Loss.{Loss}
+use Rattle.script_events.specs.declared.event.Loss.{Loss}
 use Rattle.interface_state.specs.declared.states.Lock.{Lock}
 use Rattle.interface_state.specs.Kept.{kept_report}
 use Rattle.interface_state.specs.Machine.{Tdi, lock_of}
 use Rattle.spec_interfaces.specs.Sites.{Site, nonce_behind}
 use Rattle.spec_interfaces.specs.Views.{Managed}
-use Rattle.run_verdicts.specs.declared.verdict.Verdict.TheVariants as v
+use Rattle.event_verdicts.specs.declared.verdict.Verdict.TheVariants as v
 use Rattle.spec_interfaces.specs.Due.{AskedState, asked_due, portions, bind_due, unbind_due}
 use Rattle.machine_whole.specs.Interfaces.{Face, Streams}
 use Rattle.interface_host.specs.declared.operation.InterfaceOperation.{InterfaceOperation}

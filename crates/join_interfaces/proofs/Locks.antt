@@ -7,10 +7,10 @@ use Rattle.spec_keys.proofs.Tests.{same-true}
 use Rattle.ide_types.specs.declared.status.StreamStatus.{StreamStatus}
 use Rattle.ide_types.specs.declared.status.StreamStatus.TheVariants as status
 use Rattle.ide_types.specs.Fits.{IsKey}
-use Rattle.run_events.specs.declared.event.Loss.{Loss}
-use Rattle.run_events.specs.declared.event.Lost.{Lost}
-use Rattle.run_events.specs.declared.event.Lost.TheVariants.{Request, Reply}
-use Rattle.run_verdicts.specs.declared.verdict.Verdict.{Verdict}
+use Rattle.script_events.specs.declared.event.Loss.{Loss}
+use Rattle.script_events.specs.declared.event.Lost.{Lost}
+use Rattle.script_events.specs.declared.event.Lost.TheVariants.{Request, Reply}
+use Rattle.event_verdicts.specs.declared.verdict.Verdict.{Verdict}
 use Rattle.spec_keys.specs.Due.{lost_message, lost_at}
 use Rattle.spec_interfaces.specs.Sites.{Site}
 use Rattle.spec_interfaces.specs.Views.{Managed, on_lock}

@@ -6,10 +6,10 @@ use Rattle.std.specs.Prelude.{nat_le, nat_lt, ◌&&◌, if◌then◌else◌}
 use Rattle.std.specs.Option.{option_map}
 use Rattle.spec_keys.proofs.Terms.{nat_tests}
 use Rattle.spec_keys.proofs.Tests.{true-same, same-true, lt-false, le-false, different-false}
-use Rattle.run_events.specs.declared.event.Loss.{Loss}
-use Rattle.run_events.specs.declared.event.Lost.{Lost}
-use Rattle.run_events.specs.declared.event.Lost.TheVariants.{Request, Reply}
-use Rattle.run_verdicts.specs.declared.verdict.Verdict.{Verdict}
+use Rattle.script_events.specs.declared.event.Loss.{Loss}
+use Rattle.script_events.specs.declared.event.Lost.{Lost}
+use Rattle.script_events.specs.declared.event.Lost.TheVariants.{Request, Reply}
+use Rattle.event_verdicts.specs.declared.verdict.Verdict.{Verdict}
 use Rattle.spec_keys.specs.Due.{lost_message, lost_at}
 use Rattle.spec_interfaces.specs.Due.{unless_lost}
 use Rattle.spec_interfaces.specs.Exchanges.{carries}

@@ -17,11 +17,11 @@ use Rattle.tlp_layout.specs.Head.{head_bytes}
 use Rattle.tlp_layout.specs.Tlp.{header, body}
 use Rattle.tlp_layout.specs.Outgoing.{Outgoing, NoTlp, OnNone, OnStream, outgoing_of}
 use Rattle.ide_prefix.specs.Packet.{Packet}
-use Rattle.run_events.specs.declared.event.Event.TheVariants.{Access, Forward, Send}
-use Rattle.run_events.specs.declared.event.AccessEvent.TheVariants as ae
-use Rattle.run_verdicts.specs.declared.verdict.SealedPacket.{SealedPacket}
-use Rattle.run_verdicts.specs.declared.verdict.Verdict.{Verdict}
-use Rattle.run_verdicts.specs.declared.verdict.Verdict.TheVariants as v
+use Rattle.script_events.specs.declared.event.Event.TheVariants.{Access, Forward, Send}
+use Rattle.script_events.specs.declared.event.AccessEvent.TheVariants as ae
+use Rattle.event_verdicts.specs.declared.verdict.SealedPacket.{SealedPacket}
+use Rattle.event_verdicts.specs.declared.verdict.Verdict.{Verdict}
+use Rattle.event_verdicts.specs.declared.verdict.Verdict.TheVariants as v
 use Rattle.spec_links.specs.Plan.{aggregation_of, is_closed, is_same_port, streams_of}
 use Rattle.spec_links.specs.Ports.{may_send, outgoing_at, sealing_end}
 use Rattle.spec_links.specs.Hops.{HopTlp, leaving_end}

@@ -3,9 +3,9 @@ use Rattle.std.specs.Prelude.{ℕ, ◌≡◌, ◌+◌, ◌<◌, ◌≤◌, Bool,
 use Rattle.ide_types.specs.declared.plan.Plan.{Plan}
 use Rattle.ide_types.specs.Fits.{IsKey, FitsStream, FitsInterface}
 use Rattle.ide_types.specs.declared.stream.StreamPlan.{StreamPlan}
-use Rattle.run_events.specs.declared.event.Loss.{Loss}
-use Rattle.run_events.specs.declared.event.Event.TheVariants as event
-use Rattle.run_verdicts.specs.declared.verdict.Verdict.{Verdict}
+use Rattle.script_events.specs.declared.event.Loss.{Loss}
+use Rattle.script_events.specs.declared.event.Event.TheVariants as event
+use Rattle.event_verdicts.specs.declared.verdict.Verdict.{Verdict}
 use Rattle.spec_interfaces.specs.Sites.{Site, nonce_behind}
 use Rattle.spec_interfaces.specs.Devices.{accepts_lock, one_if}
 use Rattle.spec_interfaces.specs.Due.{asked_due, op_status}

@@ -13,7 +13,7 @@ pub use Rattle.ide_types.specs.declared.port.Side.{Side}
 pub use Rattle.join_keys.specs.Calls.{lane_key, key_number, StreamCall, told_call, calls_from, exchange_call}
 pub use Rattle.join_keys.specs.Calls.{exchanges_called, all_called, stream_call}
 pub use Rattle.ide_types.specs.declared.port.Side.TheVariants.{Device, Host}
-pub use Rattle.run_verdicts.specs.declared.verdict.Operation.{Operation}
+pub use Rattle.event_verdicts.specs.declared.verdict.Operation.{Operation}
 pub use Rattle.spec_keys.specs.Places.{is_host, is_local, lane, KeyPlace}
 pub use Rattle.machine_operations.specs.{place_at_end, port_at, touches_at, slots_refuse, is_last_in, slots_touched}
 pub use Rattle.machine_operations.specs.{taken_touches, touched_stream}

@@ -18,9 +18,9 @@ use Rattle.ide_types.specs.declared.status.StreamStatus.{StreamStatus}
 use Rattle.ide_types.specs.declared.plan.LinkPlan.{LinkPlan}
 use Rattle.ide_types.specs.declared.stream.StreamPlan.{StreamPlan}
 use Rattle.spec_keys.specs.Laws.{KeyCauseLaw}
-use Rattle.run_events.specs.declared.event.Event.TheVariants as event
-use Rattle.run_verdicts.specs.declared.verdict.Operation.TheVariants as op
-use Rattle.run_verdicts.specs.declared.verdict.Verdict.TheVariants as v
+use Rattle.script_events.specs.declared.event.Event.TheVariants as event
+use Rattle.event_verdicts.specs.declared.verdict.Operation.TheVariants as op
+use Rattle.event_verdicts.specs.declared.verdict.Verdict.TheVariants as v
 
 -- ---- an event draws only if the pool has keys
 

@@ -5,7 +5,7 @@ use Rattle.join_keys.proofs.CallTerms.{last_exchange_of, makes_draw, lane_key, k
 use Rattle.join_keys.proofs.CallTerms.{Host, Device, Operation, is_host, program_number, go_number, stop_number}
 use Rattle.ide_types.specs.Sub.{sub_bits}
 use Rattle.ide_types.proofs.KeySets.{one_of_set}
-use Rattle.run_verdicts.specs.declared.verdict.Operation.TheVariants as op
+use Rattle.event_verdicts.specs.declared.verdict.Operation.TheVariants as op
 use Rattle.join_keys.proofs.Slots.{first_call, second_call, is_of}
 use Rattle.join_keys.proofs.Streams.{one_if, calls_at, all_by, all_append}
 use Rattle.join_keys.proofs.Carried.{calls_within, carried_at}

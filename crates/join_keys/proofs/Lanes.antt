@@ -7,7 +7,7 @@ use Rattle.join_keys.proofs.Terms.{refusal_at, slot_in_set, None, is_empty, slot
 use Rattle.ide_types.specs.declared.key_set.KeySet.TheVariants.{Zero, One}
 use Rattle.key_slots.specs as pair
 use Rattle.ide_types.specs.Lines.{is_hosted}
-use Rattle.run_verdicts.specs.declared.verdict.Operation.TheVariants as op
+use Rattle.event_verdicts.specs.declared.verdict.Operation.TheVariants as op
 use Rattle.key_host.specs.declared.exchange.Exchange.TheVariants as exchange
 
 -- six lanes

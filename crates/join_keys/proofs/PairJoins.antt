@@ -11,7 +11,7 @@ use Rattle.join_keys.proofs.Terms.{find_op, ports_of, machine_status, Side, Pool
 use Rattle.join_keys.proofs.Terms.{HostView, refusal_of, begun_stream, ManagerWalk, answers, walk, manager_walked}
 use Rattle.join_keys.proofs.Terms.{verdict_of, op_if_reached, Comes, walk_comes, PortsStandFor, kept_is, verdict_due}
 use Rattle.join_keys.proofs.Terms.{first_from, cut_at, lost_message}
-use Rattle.run_verdicts.specs.declared.verdict.Operation.TheVariants as op
+use Rattle.event_verdicts.specs.declared.verdict.Operation.TheVariants as op
 use Rattle.key_host.specs.declared.operation.StreamOutcome.TheVariants as outcome
 use Rattle.key_host.specs.Walk.{WalkIsDue}
 use Rattle.key_host.proofs.Dues.{establishes, stops}

@@ -12,7 +12,7 @@ use Rattle.join_keys.proofs.Terms.{LinkState, find, find_op, PortsStandFor, key_
 use Rattle.join_keys.proofs.Terms.{key_cause, six_keys, StreamView, begun_stream, asked_of_unfinished}
 use Rattle.join_keys.proofs.Terms.{kept_key, last_exchange_of, IsAsked, refl, WireKeys}
 use Rattle.key_host.specs.Exchanges.{wire_keys, wire_number}
-use Rattle.run_verdicts.specs.declared.verdict.Operation.TheVariants as op
+use Rattle.event_verdicts.specs.declared.verdict.Operation.TheVariants as op
 use Rattle.spec_keys.proofs.Fits.{FitsAt}
 use Rattle.law_keys.proofs.States.{in_state}
 use Rattle.machine_operations.specs.Points.{point_lane}

@@ -13,12 +13,12 @@ use Rattle.join_keys.proofs.Terms.{PortView, lost_message, cut_at, exchange_judg
 use Rattle.join_keys.proofs.Terms.{finished_verdict, different-false, StreamView, asked_of_unfinished, outcome_of}
 use Rattle.join_keys.proofs.Terms.{taken_stream, shown_at_end, ManagerWalk, answers, walk, walk_after_outcome, WireKeys}
 use Rattle.join_keys.proofs.Terms.{Judged, Expected, Refused, Lost, work_asked}
-use Rattle.run_events.specs.declared.event.Lost.{Lost as Message}
-use Rattle.run_events.specs.declared.event.Lost.TheVariants.{Request, Reply}
+use Rattle.script_events.specs.declared.event.Lost.{Lost as Message}
+use Rattle.script_events.specs.declared.event.Lost.TheVariants.{Request, Reply}
 use Rattle.key_host.specs.declared.operation.StreamOutcome.{StreamOutcome}
 use Rattle.key_host.proofs.Walks.{ends_as}
-use Rattle.run_verdicts.specs.declared.verdict.Operation.TheVariants as op
-use Rattle.run_verdicts.specs.declared.verdict.Verdict.TheVariants as v
+use Rattle.event_verdicts.specs.declared.verdict.Operation.TheVariants as op
+use Rattle.event_verdicts.specs.declared.verdict.Verdict.TheVariants as v
 use Rattle.key_host.specs.declared.operation.StreamOutcome.TheVariants as outcome
 use Rattle.join_keys.proofs.Walking.{asked_of, denial}
 use Rattle.join_keys.proofs.Resting.{calls_more, calls_none, calls_one, standing_asked}

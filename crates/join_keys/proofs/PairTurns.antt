@@ -11,7 +11,7 @@ use Rattle.join_keys.proofs.Terms.{last_exchange_of, ◌%◌, inl, inr, sub_from
 use Rattle.join_keys.proofs.Terms.{exchange_of, KeySet, Option, if◌then◌else◌, [], ◌∷◌}
 use Rattle.ide_types.specs.declared.key_set.KeySet.TheVariants.{Zero, One}
 use Rattle.key_host.specs.Exchanges.{end_of}
-use Rattle.run_verdicts.specs.declared.verdict.Operation.TheVariants as op
+use Rattle.event_verdicts.specs.declared.verdict.Operation.TheVariants as op
 use Rattle.key_host.specs.declared.exchange.Exchange.TheVariants as exchange
 use Rattle.join_keys.proofs.Lanes.{by_lane}
 

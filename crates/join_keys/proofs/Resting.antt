@@ -16,7 +16,7 @@ use Rattle.join_keys.proofs.Terms.{KeysKept, KeysKeptIn, exchange_of, WireKeys, 
 use Rattle.join_keys.proofs.Terms.{Refused, Lost, KeySet, key_set, one_of_set, work_asked}
 use Rattle.key_host.specs.declared.operation.StreamOutcome.{StreamOutcome}
 use Rattle.key_host.proofs.Walks.{WorkFits, ends_as}
-use Rattle.run_verdicts.specs.declared.verdict.Verdict.TheVariants as v
+use Rattle.event_verdicts.specs.declared.verdict.Verdict.TheVariants as v
 use Rattle.key_host.specs.declared.operation.StreamOutcome.TheVariants as outcome
 use Rattle.join_keys.proofs.Lanes.{first_program}
 use Rattle.join_keys.specs.Calls.{calls_from}

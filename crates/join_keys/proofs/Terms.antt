@@ -19,8 +19,8 @@ pub use Rattle.key_messages.specs.{PlaceCall}
 pub use Rattle.std.proofs.lemmas.List.{get_or-map, get_or_past, length-map, get_or-set_other}
 pub use Rattle.std.proofs.lemmas.Bool.{cases_lt}
 pub use Rattle.ide_types.specs.Fits.{IsKey, FitsPlan, FitsStream}
-pub use Rattle.run_events.specs.declared.event.Loss.{Loss}
-pub use Rattle.run_verdicts.specs.declared.verdict.Verdict.{Verdict}
+pub use Rattle.script_events.specs.declared.event.Loss.{Loss}
+pub use Rattle.event_verdicts.specs.declared.verdict.Verdict.{Verdict}
 pub use Rattle.spec_keys.specs.Places.{KeyPlan, lane as lane_number}
 pub use Rattle.spec_keys.specs.History.{History, draws, moments, history_status, op_of}
 pub use Rattle.ide_types.specs.Ports.{keyed_status}

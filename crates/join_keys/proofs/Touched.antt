@@ -9,7 +9,7 @@ use Rattle.spec_links.specs.Plan.{key_of}
 use Rattle.ide_types.specs.declared.port.PortName.{PortName}
 use Rattle.ide_types.specs.declared.port.Side.{Side}
 use Rattle.spec_keys.specs.Due.{PortView}
-use Rattle.run_verdicts.specs.declared.verdict.Operation.TheVariants as op
+use Rattle.event_verdicts.specs.declared.verdict.Operation.TheVariants as op
 use Rattle.join_keys.proofs.Settling.{outs, ins, with_slots, settle}
 use Rattle.join_keys.proofs.Slots.{only_live_is, is_refusal, first_call, second_call, is_of}
 use Rattle.join_keys.proofs.Streams.{one_if, calls_at, called_by, places_are, all_by, called_once, keyed_once}

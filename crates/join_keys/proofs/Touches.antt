@@ -6,7 +6,7 @@ use Rattle.join_keys.proofs.CallTerms.{work_touches, Host, Operation, KeyPlace, 
 use Rattle.join_keys.proofs.CallTerms.{is_only_live, slot_pair, LaneSlots, SubStream, key_of, slots_touched, host_go}
 use Rattle.join_keys.proofs.CallTerms.{if◌then◌else◌, is_hosted, is_local, is_host, lane}
 use Rattle.spec_keys.specs.Keys.{Program as ProgramTouch, Go as GoTouch, Stop as StopTouch}
-use Rattle.run_verdicts.specs.declared.verdict.Operation.TheVariants as op
+use Rattle.event_verdicts.specs.declared.verdict.Operation.TheVariants as op
 use Rattle.join_keys.proofs.Slots.{first_call, second_call}
 use Rattle.join_keys.proofs.Streams.{one_if, called_by}
 use Rattle.join_keys.proofs.Exchanges.{first_number, second_number}

@@ -8,7 +8,7 @@ use Rattle.ide_types.specs.declared.plan.Plan.{Plan}
 use Rattle.key_slots.specs.{new_pool}
 use Rattle.key_messages.specs.{PlaceCall}
 use Rattle.spec_keys.specs.Operations.{StreamStage, Work, Reach, work_of, last_exchange_of, makes_draw}
-use Rattle.run_verdicts.specs.declared.verdict.Operation.{Operation}
+use Rattle.event_verdicts.specs.declared.verdict.Operation.{Operation}
 use Rattle.spec_keys.specs.History.{is_number_between, go_exchange}
 use Rattle.spec_keys.specs.Places.{key_place_at}
 use Rattle.spec_keys.specs.Keys.{refusal_if}

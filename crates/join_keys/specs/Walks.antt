@@ -2,10 +2,10 @@
 -- another. The session may lose each of them.
 use Rattle.std.specs.Prelude.{ℕ, suc, zero, ◌==◌, nat_lt, ◌&&◌, true, List, [], ◌∷◌, Option, Some, None, if◌then◌else◌}
 use Rattle.ide_types.specs.declared.port.Side.TheVariants.{Host, Device}
-use Rattle.run_events.specs.declared.event.Loss.{Loss}
-use Rattle.run_events.specs.declared.event.Lost.{Lost}
-use Rattle.run_events.specs.declared.event.Lost.TheVariants.{Request, Reply}
-use Rattle.run_verdicts.specs.declared.verdict.Operation.{Operation}
+use Rattle.script_events.specs.declared.event.Loss.{Loss}
+use Rattle.script_events.specs.declared.event.Lost.{Lost}
+use Rattle.script_events.specs.declared.event.Lost.TheVariants.{Request, Reply}
+use Rattle.event_verdicts.specs.declared.verdict.Operation.{Operation}
 use Rattle.key_slots.specs.{Pool}
 use Rattle.spec_keys.specs.Operations.{Work, work_of}
 use Rattle.key_messages.specs.declared.object.KmView.{KmView}

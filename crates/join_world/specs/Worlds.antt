@@ -1,8 +1,8 @@
 -- The world of a run, and one step of it.
 use Rattle.std.specs.Prelude.{ℕ, List, ◌≡◌, ◌+◌, ◌∷◌, []}
 use Rattle.ide_types.specs.declared.plan.Plan.{Plan}
-use Rattle.run_events.specs.declared.event.Event.{Event}
-use Rattle.run_verdicts.specs.declared.verdict.Verdict.{Verdict}
+use Rattle.script_events.specs.declared.event.Event.{Event}
+use Rattle.event_verdicts.specs.declared.verdict.Verdict.{Verdict}
 use Rattle.spec_keys.specs.History.{History}
 use Rattle.spec_links.specs.Due.{due}
 use Rattle.machine_ports.specs.Machine.{LinkState}

@@ -8,8 +8,8 @@ use Rattle.ide_types.specs.declared.port.Side.TheVariants.{Host, Device}
 use Rattle.ide_types.specs.declared.key_set.KeySet.TheVariants.{Zero, One}
 use Rattle.key_messages.specs.declared.object.KmView.{KmView}
 use Rattle.key_messages.specs.declared.object.KmView.TheVariants as km
-use Rattle.run_verdicts.specs.declared.verdict.Operation.{Operation}
-use Rattle.run_verdicts.specs.declared.verdict.Operation.TheVariants as op
+use Rattle.event_verdicts.specs.declared.verdict.Operation.{Operation}
+use Rattle.event_verdicts.specs.declared.verdict.Operation.TheVariants as op
 use Rattle.key_host.specs.declared.exchange.Exchange.{Exchange}
 use Rattle.key_host.specs.declared.exchange.Exchange.TheVariants.{Query, Program, Go, Stop}
 

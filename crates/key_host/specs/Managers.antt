@@ -8,7 +8,7 @@ use Rattle.ide_types.specs.declared.port.PortName.{PortName}
 use Rattle.ide_types.specs.declared.stream.StreamPlan.{StreamPlan}
 use Rattle.key_slots.specs.{Pool}
 use Rattle.key_messages.specs.{PlaceCall}
-use Rattle.run_verdicts.specs.declared.verdict.Operation.{Operation}
+use Rattle.event_verdicts.specs.declared.verdict.Operation.{Operation}
 use Rattle.spec_keys.specs.Operations.{StreamStage, Work, work_of}
 use Rattle.key_host.specs.declared.operation.ExchangeReply.{ExchangeReply}
 use Rattle.key_host.specs.declared.operation.StreamOutcome.{StreamOutcome}

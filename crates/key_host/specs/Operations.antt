@@ -1,7 +1,7 @@
 -- What operations of the manager name.
 use Rattle.std.specs.Prelude.{ℕ}
-use Rattle.run_verdicts.specs.declared.verdict.Operation.{Operation}
-use Rattle.run_verdicts.specs.declared.verdict.Operation.TheVariants as op
+use Rattle.event_verdicts.specs.declared.verdict.Operation.{Operation}
+use Rattle.event_verdicts.specs.declared.verdict.Operation.TheVariants as op
 use Rattle.key_host.specs.declared.operation.NamedOperation.{NamedOperation}
 use Rattle.key_host.specs.declared.operation.NamedOperation.TheVariants.{Establish, Refresh, Stop}
 

@@ -2,13 +2,13 @@
 
 ghost use Rattle.std.specs.Prelude.{◌≡◌, ◌≤◌, ◌<◌, true, false};
 ghost use Rattle.ide_types.specs.declared.key_set.KeySet.TheVariants.{Zero};
-ghost use Rattle.run_verdicts.specs.declared.verdict.Operation.TheVariants.{Establish, Stop};
+ghost use Rattle.event_verdicts.specs.declared.verdict.Operation.TheVariants.{Establish, Stop};
 ghost use Rattle.spec_keys.specs.Operations.{last_exchange_of};
 ghost use Rattle.key_host.specs.Exchanges.{selector_of, exchange_of, exchange_lane, end_of, wire_number};
 ghost use Rattle.key_host.specs.Streams.{key_count};
 
+use event_verdicts::Operation;
 use ide_types::{KeySet, Side};
-use run_verdicts::Operation;
 
 /// An exchange with one end of a line. A lane is one of six: the receivers of posted requests, non-posted requests and
 /// completions at that end are lanes 0 to 2, its senders lanes 3 to 5.

@@ -16,9 +16,9 @@ mod port;
 mod stage;
 mod stream;
 
+pub use event_verdicts::Operation;
 pub use facts::StageFacts;
 pub use laws::{pairs_fit, walks_are_due};
 pub use manager::Manager;
 pub use operation::{ExchangeReply, NamedOperation, StreamOutcome, StreamRefusal, StreamResult};
 pub use port::HostPort;
-pub use run_verdicts::Operation;

@@ -3,8 +3,8 @@
 ghost use Rattle.std.specs.Prelude.{◌≡◌};
 ghost use Rattle.key_host.specs.Operations.{op_name};
 
+use event_verdicts::Operation;
 use ide_types::{StreamStatus, SubKind};
-use run_verdicts::Operation;
 
 /// An operation of the manager, by the line's number and the stream's ID (this profile).
 #[derive(Clone, Copy, PartialEq, Eq)]

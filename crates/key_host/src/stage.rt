@@ -14,9 +14,9 @@ use crate::exchange::{Exchange, end_at, exchange_at, last, wire_number};
 use crate::facts::StageFacts;
 use crate::operation::{StreamRefusal, StreamResult};
 use crate::port::HostPort;
+use event_verdicts::Operation;
 use ide_types::{KeySet, Side, StreamStatus, SubKind};
 use key_slots::Wires;
-use run_verdicts::Operation;
 
 /// The state of a stream for the manager. `next` is the number of the exchange that is to be asked next, from 1; the
 /// keys are those that the device has not acknowledged yet.

@@ -19,10 +19,10 @@ use crate::local::{go_six, program_six, stop_all};
 use crate::operation::{ExchangeReply, StreamOutcome, StreamRefusal};
 use crate::port::HostPort;
 use crate::stage::{NextExchange, Stage};
+use event_verdicts::Operation;
 use ide_types::{KeySet, PortName, Side, StreamStatus};
 use key_messages::{KmView, km_write};
 use key_slots::{KeyPool, KeySix, PoolEmpty, Wires};
-use run_verdicts::Operation;
 use std::marker::Model;
 use std::mem;
 

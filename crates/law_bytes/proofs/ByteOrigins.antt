@@ -45,8 +45,8 @@ use Rattle.law_verdicts.specs.{CameFrom}
 use Rattle.law_bytes.proofs.SealedBy.{IsAmong, IsSealedFor, sealed_by}
 use Rattle.law_bytes.proofs.Ranges.{body_of}
 use Rattle.law_bytes.proofs.Parts.{take-behind, front_take}
-use Rattle.run_events.specs.declared.event.AccessEvent.TheVariants as ae
-use Rattle.run_events.specs.declared.event.Event.TheVariants.{Forward}
+use Rattle.script_events.specs.declared.event.AccessEvent.TheVariants as ae
+use Rattle.script_events.specs.declared.event.Event.TheVariants.{Forward}
 
 -- ---- the packets of a unit, where they were sealed
 

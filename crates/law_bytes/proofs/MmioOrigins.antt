@@ -72,8 +72,8 @@ use Rattle.law_bytes.proofs.Taken.{IsTaken, is_taken}
 use Rattle.law_bytes.proofs.NoOtherRun.{no_other_run, no_other_since, made_by}
 use Rattle.law_bytes.proofs.PeerEnds.{is_between}
 use Rattle.law_bytes.proofs.BindFloors.{bound_floor}
-use Rattle.run_events.specs.declared.event.AccessEvent.TheVariants as ae
-use Rattle.run_events.specs.declared.event.Event.TheVariants.{Forward}
+use Rattle.script_events.specs.declared.event.AccessEvent.TheVariants as ae
+use Rattle.script_events.specs.declared.event.Event.TheVariants.{Forward}
 
 -- ---- a write is posted
 

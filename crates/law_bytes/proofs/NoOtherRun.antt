@@ -35,9 +35,9 @@ use Rattle.law_verdicts.proofs.{Since, IsStillStarted, cause_at, fronts, interfa
 use Rattle.law_verdicts.specs.{CameFrom}
 use Rattle.law_bytes.specs.NoOtherRun.{IsInNoOtherRun}
 use Rattle.law_bytes.proofs.StreamDraws.{draw_at_most}
-use Rattle.run_events.specs.declared.event.Event.TheVariants as event
-use Rattle.run_events.specs.declared.event.InterfaceEvent.TheVariants as ie
-use Rattle.run_verdicts.specs.declared.verdict.Verdict.TheVariants as v
+use Rattle.script_events.specs.declared.event.Event.TheVariants as event
+use Rattle.script_events.specs.declared.event.InterfaceEvent.TheVariants as ie
+use Rattle.event_verdicts.specs.declared.verdict.Verdict.TheVariants as v
 use Rattle.ide_types.specs.declared.verdict.InterfaceVerdict.TheVariants as iv
 use Rattle.ide_types.specs.declared.status.StreamStatus.TheVariants as status
 

@@ -36,9 +36,9 @@ use Rattle.law_verdicts.specs.{CameFrom}
 use Rattle.law_bytes.specs.ByteOrigin.{HasByteOrigin, ShowsSent, ByteOriginLaw}
 use Rattle.law_bytes.proofs.Parts.{part_at, part_opens, part_admitted}
 use Rattle.law_bytes.proofs.ByteOrigins.{own, for, host_device}
-use Rattle.run_events.specs.declared.event.Event.TheVariants as event
-use Rattle.run_events.specs.declared.event.InterfaceEvent.TheVariants as ie
-use Rattle.run_verdicts.specs.declared.verdict.Verdict.TheVariants as v
+use Rattle.script_events.specs.declared.event.Event.TheVariants as event
+use Rattle.script_events.specs.declared.event.InterfaceEvent.TheVariants as ie
+use Rattle.event_verdicts.specs.declared.verdict.Verdict.TheVariants as v
 use Rattle.ide_types.specs.declared.verdict.InterfaceVerdict.TheVariants as iv
 
 -- ---- the write that left a byte

@@ -28,9 +28,9 @@ use Rattle.spec_keys.specs.Keys.{with_key, unless_below}
 use Rattle.ide_types.specs.declared.status.StreamStatus.{StreamStatus}
 use Rattle.spec_keys.proofs.Performs.{performed_stays}
 use Rattle.spec_keys.specs.Due.{cut_at, lost_message, refusal_at}
-use Rattle.run_events.specs.declared.event.Event.TheVariants as event
-use Rattle.run_verdicts.specs.declared.verdict.Operation.TheVariants as op
-use Rattle.run_verdicts.specs.declared.verdict.Verdict.TheVariants as v
+use Rattle.script_events.specs.declared.event.Event.TheVariants as event
+use Rattle.event_verdicts.specs.declared.verdict.Operation.TheVariants as op
+use Rattle.event_verdicts.specs.declared.verdict.Verdict.TheVariants as v
 use Rattle.std.proofs.lemmas.Bool.{and_parts, cases_Bool, true≢false}
 use Rattle.spec_interfaces.specs.Peers.{greatest_on, is_secure}
 unfoldable use Rattle.spec_interfaces.specs.Views.{stream_draw}

@@ -33,9 +33,9 @@ use Rattle.spec_links.specs.Admission.{switch_effect, effects_under_policy}
 use Rattle.spec_links.specs.Memory.{Policy, policy_at, device_effect, effect_by, unit_ended, plain_of}
 use Rattle.law_verdicts.specs.{claimed_write, if_claims, if_stored, unit_stored_writes, stores, write_read}
 use Rattle.law_verdicts.proofs.{effect_at, effects_there, of_effect, run_state, some_is}
-use Rattle.run_verdicts.specs.declared.verdict.BlockCause.{BlockCause}
-use Rattle.run_verdicts.specs.declared.verdict.BlockCause.TheVariants as cause
-use Rattle.run_verdicts.specs.declared.verdict.Effect.TheVariants as effect
+use Rattle.event_verdicts.specs.declared.verdict.BlockCause.{BlockCause}
+use Rattle.event_verdicts.specs.declared.verdict.BlockCause.TheVariants as cause
+use Rattle.event_verdicts.specs.declared.verdict.Effect.TheVariants as effect
 
 -- ---- packet n of a unit
 

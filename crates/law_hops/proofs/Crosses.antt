@@ -26,7 +26,7 @@ use Rattle.spec_links.specs.Hops.{HopTlp, has_hop, clears_hop}
 use Rattle.spec_links.specs.HopLaws.{sealed_tlp, in_sub, CrossesInOrder}
 unfoldable use Rattle.spec_links.specs.HopLaws.{tlps_since_reset, draws_since}
 use Rattle.spec_links.specs.Memory.{accepted_tlps, unit_ended}
-use Rattle.run_verdicts.specs.declared.verdict.Verdict.TheVariants as v
+use Rattle.event_verdicts.specs.declared.verdict.Verdict.TheVariants as v
 use Rattle.law_delivery.proofs.Deliveries.{delivery_law}
 use Rattle.law_delivery.proofs.Prefixes.{got_begins}
 use Rattle.law_hops.specs.Statements.{HopLawHolds}

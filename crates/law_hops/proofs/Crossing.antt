@@ -24,7 +24,7 @@ unfoldable use Rattle.spec_links.specs.Hops.{accepted_tlps_in}
 use Rattle.spec_links.specs.HopLaws.{is_tlp_of_sender, sealed_tlp, in_sub}
 unfoldable use Rattle.spec_links.specs.HopLaws.{tlps_since_reset, draws_since}
 use Rattle.spec_links.specs.Memory.{accepted_tlps, unit_ended}
-use Rattle.run_verdicts.specs.declared.verdict.Verdict.TheVariants as v
+use Rattle.event_verdicts.specs.declared.verdict.Verdict.TheVariants as v
 use Rattle.law_delivery.proofs.Orders.{on_there}
 use Rattle.law_reads.proofs.Taken.{tlps_of, here_after, taken_accepted}
 use Rattle.law_hops.proofs.Since.{IsSegment, on_since, on_begun}

@@ -26,9 +26,9 @@ use Rattle.ide_types.specs.Fits.{FitsPlan}
 use Rattle.tlp_layout.specs.Outgoing.{Outgoing, NoTlp, OnNone, OnStream}
 use Rattle.tlp_layout.proofs.Outgoing.{on_stream_reads}
 use Rattle.spec_stream.specs.Sending.{first_that_holds, refusals, sealed_with_syncs}
-use Rattle.run_events.specs.declared.event.Event.TheVariants.{Access, Forward}
-use Rattle.run_events.specs.declared.event.AccessEvent.TheVariants as ae
-use Rattle.run_verdicts.specs.declared.verdict.Verdict.TheVariants as v
+use Rattle.script_events.specs.declared.event.Event.TheVariants.{Access, Forward}
+use Rattle.script_events.specs.declared.event.AccessEvent.TheVariants as ae
+use Rattle.event_verdicts.specs.declared.verdict.Verdict.TheVariants as v
 use Rattle.spec_links.specs.Terms.{Reset}
 use Rattle.spec_links.specs.Plan.{has_port, streams_of}
 use Rattle.spec_links.specs.Ports.{at_switch, goes_to_hop, hop_lists}

@@ -24,8 +24,8 @@ use Rattle.law_key_facts.proofs.Ended.{reached_none, none_first}
 use Rattle.spec_links.specs.Hops.{clears_hop}
 use Rattle.ide_types.specs.declared.port.Side.{Side}
 unfoldable use Rattle.spec_links.specs.HopLaws.{draws_since}
-use Rattle.run_verdicts.specs.declared.verdict.Operation.TheVariants as op
-use Rattle.run_verdicts.specs.declared.verdict.Verdict.TheVariants as v
+use Rattle.event_verdicts.specs.declared.verdict.Operation.TheVariants as op
+use Rattle.event_verdicts.specs.declared.verdict.Verdict.TheVariants as v
 
 -- how many draws had been made at the last reset of the link's hop
 unfoldable pub mark : History → ℕ → ℕ

@@ -19,7 +19,7 @@ use Rattle.spec_links.specs.Hops.{HopTlp, tlps_with, clears_hop}
 unfoldable use Rattle.spec_links.specs.Hops.{accepted_tlps_in}
 use Rattle.spec_links.specs.Memory.{accepted_tlps, plain_of, unit_ended}
 use Rattle.spec_links.specs.Terms.{Reset}
-use Rattle.run_verdicts.specs.declared.verdict.Verdict.TheVariants as v
+use Rattle.event_verdicts.specs.declared.verdict.Verdict.TheVariants as v
 use Rattle.law_delivery.proofs.Received.{came_fits, held_fits}
 use Rattle.law_reads.proofs.Taken.{tlps_of, here_after, taken_accepted}
 

@@ -7,7 +7,7 @@ use Rattle.ide_types.specs.Fits.{FitsPlan}
 use Rattle.ide_types.specs.declared.plan.HopPlan.{HopPlan}
 use Rattle.ide_types.specs.declared.plan.Plan.{Plan}
 use Rattle.spec_keys.specs.History.{History}
-use Rattle.run_events.specs.declared.event.Event.TheVariants.{Forward}
+use Rattle.script_events.specs.declared.event.Event.TheVariants.{Forward}
 use Rattle.spec_links.specs.Cause.{CauseLaw}
 use Rattle.spec_links.specs.Due.{due, lanes_at, verdict_of_send}
 use Rattle.spec_links.specs.History.{sealed_packets}

@@ -45,8 +45,8 @@ use Rattle.law_key_facts.proofs.RealFacts.{sealed, uncleared}
 use Rattle.law_key_facts.proofs.Moments.{busy_is, sends_lane, sealed_m}
 use Rattle.law_key_facts.proofs.SealedKeys.{each_more, live_all, below_draws, on_is_owned}
 use Rattle.law_key_facts.proofs.SealedOrder.{on_above}
-use Rattle.run_verdicts.specs.declared.verdict.Operation.TheVariants as op
-use Rattle.run_verdicts.specs.declared.verdict.Verdict.TheVariants as v
+use Rattle.event_verdicts.specs.declared.verdict.Operation.TheVariants as op
+use Rattle.event_verdicts.specs.declared.verdict.Verdict.TheVariants as v
 
 -- ---- the manager's state
 

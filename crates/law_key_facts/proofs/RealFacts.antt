@@ -25,7 +25,7 @@ use Rattle.spec_links.proofs.Causes.{accepted_by}
 use Rattle.spec_links.proofs.SealingIs.{sealed_by_sealing, sealing_touches}
 use Rattle.law_key_facts.proofs.Given.{accepted_on, key_cause}
 use Rattle.law_key_facts.proofs.Unplanned.{on_at}
-use Rattle.run_verdicts.specs.declared.verdict.Verdict.TheVariants as v
+use Rattle.event_verdicts.specs.declared.verdict.Verdict.TheVariants as v
 
 -- ---- pairs that touch nothing
 

@@ -26,8 +26,8 @@ use Rattle.law_key_facts.proofs.Seats.{keys_out, keys_into, live_here}
 use Rattle.law_key_facts.proofs.RealFacts.{used_most, accepted_touches}
 use Rattle.law_key_facts.proofs.Moments.{earlier_used, none_in, none_left, sends_lane}
 use Rattle.law_key_facts.proofs.SealedKeys.{live_all, live_below}
-use Rattle.run_verdicts.specs.declared.verdict.Operation.TheVariants as op
-use Rattle.run_verdicts.specs.declared.verdict.Verdict.TheVariants as v
+use Rattle.event_verdicts.specs.declared.verdict.Operation.TheVariants as op
+use Rattle.event_verdicts.specs.declared.verdict.Verdict.TheVariants as v
 
 -- ---- no draw that is On at a sender is below what was sealed there
 

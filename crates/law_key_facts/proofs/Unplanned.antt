@@ -12,9 +12,9 @@ use Rattle.spec_keys.specs.Due.{has_refresh}
 use Rattle.spec_keys.specs.History.{begun_of_draw}
 use Rattle.ide_types.specs.Lines.{is_hosted, is_link_line}
 use Rattle.law_key_facts.proofs.Given.{key_cause}
-use Rattle.run_events.specs.declared.event.Event.TheVariants as event
-use Rattle.run_verdicts.specs.declared.verdict.Operation.TheVariants as op
-use Rattle.run_verdicts.specs.declared.verdict.Verdict.TheVariants as v
+use Rattle.script_events.specs.declared.event.Event.TheVariants as event
+use Rattle.event_verdicts.specs.declared.verdict.Operation.TheVariants as op
+use Rattle.event_verdicts.specs.declared.verdict.Verdict.TheVariants as v
 
 -- ---- what an operation does to the stream of a place
 

@@ -8,9 +8,9 @@ use Rattle.law_keys.proofs.Terms.{draw_on_at, key_due, KeyCauseLaw, both-true, k
 use Rattle.law_keys.proofs.Terms.{behind_owned, came_owned, cleared_owned, owned_on, same_place, op_cut, is_cleared}
 use Rattle.law_keys.proofs.Terms.{PortName, Begun, Work, begun_after_work, by_stream, is_hosted, makes_draw}
 use Rattle.law_keys.proofs.Terms.{op_after_reach, worked_owned, None, if◌then◌else◌}
-use Rattle.run_events.specs.declared.event.Event.TheVariants as event
-use Rattle.run_verdicts.specs.declared.verdict.Operation.TheVariants as op
-use Rattle.run_verdicts.specs.declared.verdict.Verdict.TheVariants as v
+use Rattle.script_events.specs.declared.event.Event.TheVariants as event
+use Rattle.event_verdicts.specs.declared.verdict.Operation.TheVariants as op
+use Rattle.event_verdicts.specs.declared.verdict.Verdict.TheVariants as v
 use Rattle.law_keys.proofs.States.{in_state}
 
 abbrev pub From : ℕ → Bool → ℕ → Type 0

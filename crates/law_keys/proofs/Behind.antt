@@ -4,9 +4,9 @@ use Rattle.law_keys.proofs.Terms.{Touch, Seal, Keyed, On, Keys, key_in, on_in, k
 use Rattle.law_keys.proofs.Terms.{is_open, keys, Event, Verdict, KeyPlace, is_on_stream, StreamStage, Work, Reach}
 use Rattle.law_keys.proofs.Terms.{work_of, reach_of, touches_after, work_touches, on_it, came, touches, draws_used}
 use Rattle.law_keys.proofs.Terms.{draws_started}
-use Rattle.run_events.specs.declared.event.Event.TheVariants as event
-use Rattle.run_verdicts.specs.declared.verdict.Operation.TheVariants as op
-use Rattle.run_verdicts.specs.declared.verdict.Verdict.TheVariants as v
+use Rattle.script_events.specs.declared.event.Event.TheVariants as event
+use Rattle.event_verdicts.specs.declared.verdict.Operation.TheVariants as op
+use Rattle.event_verdicts.specs.declared.verdict.Verdict.TheVariants as v
 
 marks_touch : (t : Touch) (ts : List Touch) → (draws_used ts ≤ draws_used (t ∷ ts))
     × (draws_started ts ≤ draws_started (t ∷ ts))

@@ -8,9 +8,9 @@ use Rattle.law_keys.proofs.Terms.{draw_on_at, history_status, PortView, ports_at
 use Rattle.law_keys.proofs.Terms.{finished_verdict, is_cut, performed_is, may_establish, may_refresh, unless_open, ◌⊎◌}
 use Rattle.law_keys.proofs.Terms.{KeyCauseLaw, OperationsSettle, SettledAt, same-true, Alone, IsAt, FitsAt}
 use Rattle.law_keys.proofs.Terms.{establish_ends, establish_takes, establish_begins, establish_goes_on, fits, elsewhere}
-use Rattle.run_events.specs.declared.event.Event.TheVariants as event
-use Rattle.run_verdicts.specs.declared.verdict.Operation.TheVariants as op
-use Rattle.run_verdicts.specs.declared.verdict.Verdict.TheVariants as v
+use Rattle.script_events.specs.declared.event.Event.TheVariants as event
+use Rattle.event_verdicts.specs.declared.verdict.Operation.TheVariants as op
+use Rattle.event_verdicts.specs.declared.verdict.Verdict.TheVariants as v
 use Rattle.law_keys.proofs.States.{keys_follow_operations}
 
 -- ---- the operation that ended

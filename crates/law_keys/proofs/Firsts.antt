@@ -8,9 +8,9 @@ use Rattle.law_keys.proofs.Terms.{place_keys, base, begins_keyed, keeps_live, hi
 use Rattle.law_keys.proofs.Terms.{establish_on, refresh_on, key_due, KeyCauseLaw, marks, Shape, keys_of, draws_used}
 use Rattle.law_keys.proofs.Terms.{draws_started, IsAt, Rising, FitsAt, fits, Operation, StreamStatus, op_cut, PortName}
 use Rattle.std.proofs.Math.Bool.{and-false}
-use Rattle.run_events.specs.declared.event.Event.TheVariants as event
-use Rattle.run_verdicts.specs.declared.verdict.Operation.TheVariants as op
-use Rattle.run_verdicts.specs.declared.verdict.Verdict.TheVariants as v
+use Rattle.script_events.specs.declared.event.Event.TheVariants as event
+use Rattle.event_verdicts.specs.declared.verdict.Operation.TheVariants as op
+use Rattle.event_verdicts.specs.declared.verdict.Verdict.TheVariants as v
 use Rattle.law_keys.proofs.States.{in_state, is_up, keyed_up}
 use Rattle.law_keys.proofs.Bases.{establish_idle}
 

@@ -10,10 +10,10 @@ use Rattle.law_keys.proofs.Terms.{refresh_on, key_due, KeyCauseLaw, StaysSecure,
 use Rattle.law_keys.proofs.Terms.{is_cut, performed_is, may_refresh, unless_open, ◌⊎◌}
 use Rattle.std.specs.List.{list_all}
 use Rattle.spec_keys.proofs.Terms.{Side, SubKind}
-use Rattle.run_events.specs.declared.event.Event.TheVariants as event
-use Rattle.run_verdicts.specs.declared.verdict.Operation.TheVariants as op
+use Rattle.script_events.specs.declared.event.Event.TheVariants as event
+use Rattle.event_verdicts.specs.declared.verdict.Operation.TheVariants as op
 use Rattle.ide_types.specs.declared.status.StreamStatus.TheVariants as status
-use Rattle.run_verdicts.specs.declared.verdict.Verdict.TheVariants as v
+use Rattle.event_verdicts.specs.declared.verdict.Verdict.TheVariants as v
 use Rattle.law_keys.proofs.States.{is_up, keyed_up}
 use Rattle.law_keys.proofs.Ends.{on_same}
 

@@ -1,5 +1,5 @@
 -- What the state of a stream says of its places.
-use Rattle.run_verdicts.specs.declared.verdict.Operation.TheVariants as op
+use Rattle.event_verdicts.specs.declared.verdict.Operation.TheVariants as op
 use Rattle.spec_keys.proofs.Terms.{go_exchange}
 use Rattle.spec_keys.specs.Keys.{keys}
 use Rattle.law_keys.proofs.Terms.{◌≡◌, ℕ, Bool, true, false, Some, None, List, ◌≢◌, ◌<◌, subst, arith, KeyPlan}

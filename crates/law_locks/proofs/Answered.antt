@@ -43,9 +43,9 @@ use Rattle.law_memory.proofs.Causes.{interface_cause}
 use Rattle.law_locks.specs.Runs.{AdmittedAt, IsReadInLock, AnswersInLock}
 use Rattle.law_locks.proofs.Runs.{one_lock}
 use Rattle.law_locks.proofs.OneLock.{number_owned, owner_there, runs_there, made_there, cause_at}
-use Rattle.run_verdicts.specs.declared.verdict.Effect.TheVariants as effect
-use Rattle.run_events.specs.declared.event.AccessEvent.TheVariants as ae
-use Rattle.run_verdicts.specs.declared.verdict.Verdict.TheVariants as v
+use Rattle.event_verdicts.specs.declared.verdict.Effect.TheVariants as effect
+use Rattle.script_events.specs.declared.event.AccessEvent.TheVariants as ae
+use Rattle.event_verdicts.specs.declared.verdict.Verdict.TheVariants as v
 
 -- ---- a read that waits was queued
 

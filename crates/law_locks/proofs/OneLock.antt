@@ -32,8 +32,8 @@ use Rattle.spec_keys.specs.Keys.{Keyed, On, on_in}
 use Rattle.spec_keys.specs.Operations.{Begun}
 use Rattle.spec_keys.specs.History.{begun_of_draw, manager}
 use Rattle.spec_keys.proofs.Owners.{owner}
-use Rattle.run_verdicts.specs.declared.verdict.BlockCause.{BlockCause}
-use Rattle.run_verdicts.specs.declared.verdict.Effect.TheVariants as effect
+use Rattle.event_verdicts.specs.declared.verdict.BlockCause.{BlockCause}
+use Rattle.event_verdicts.specs.declared.verdict.Effect.TheVariants as effect
 use Rattle.spec_interfaces.specs.Terms.{View, Running}
 use Rattle.spec_interfaces.specs.Sites.{Site, site_at, site_of_requester}
 use Rattle.spec_interfaces.specs.Devices.{locks_accepted}

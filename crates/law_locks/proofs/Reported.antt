@@ -20,9 +20,9 @@ use Rattle.spec_interfaces.proofs.Rests.{starts, rests_on, locks_it, not_accepte
 use Rattle.spec_interfaces.proofs.Views.{managed_step, managed_own, managed_other, same_number, due_own, not_carried}
 use Rattle.law_mmio.proofs.RunLocks.{runs_unlocked, same_locks}
 use Rattle.law_locks.specs.Locks.{IsReported}
-use Rattle.run_events.specs.declared.event.Event.TheVariants as event
-use Rattle.run_events.specs.declared.event.InterfaceEvent.TheVariants as ie
-use Rattle.run_verdicts.specs.declared.verdict.Verdict.TheVariants as v
+use Rattle.script_events.specs.declared.event.Event.TheVariants as event
+use Rattle.script_events.specs.declared.event.InterfaceEvent.TheVariants as ie
+use Rattle.event_verdicts.specs.declared.verdict.Verdict.TheVariants as v
 use Rattle.ide_types.specs.declared.verdict.InterfaceVerdict.TheVariants as iv
 
 -- ---- a report under the lock that stands

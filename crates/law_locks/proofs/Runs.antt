@@ -21,9 +21,9 @@ use Rattle.spec_keys.specs.Operations.{Begun}
 use Rattle.spec_keys.specs.History.{begun_of_draw}
 unfoldable use Rattle.spec_keys.specs.History.{manager}
 use Rattle.spec_keys.proofs.Owners.{begun_below, after_longer}
-use Rattle.run_events.specs.declared.event.Event.TheVariants as event
-use Rattle.run_events.specs.declared.event.InterfaceEvent.TheVariants as ie
-use Rattle.run_verdicts.specs.declared.verdict.Verdict.TheVariants as v
+use Rattle.script_events.specs.declared.event.Event.TheVariants as event
+use Rattle.script_events.specs.declared.event.InterfaceEvent.TheVariants as ie
+use Rattle.event_verdicts.specs.declared.verdict.Verdict.TheVariants as v
 use Rattle.ide_types.specs.declared.verdict.InterfaceVerdict.TheVariants as iv
 
 -- ---- what the manager keeps since a draw was admitted

@@ -27,8 +27,8 @@ use Rattle.interface_state.specs.Machine as call
 use Rattle.interface_state.proofs.Bound.{left_bound}
 use Rattle.law_mmio.proofs.Secure.{interface_leaves_secure}
 use Rattle.law_locks.specs.Locks.{IsSecurePeer}
-use Rattle.run_events.specs.declared.event.Event.TheVariants as event
-use Rattle.run_verdicts.specs.declared.verdict.Verdict.TheVariants as v
+use Rattle.script_events.specs.declared.event.Event.TheVariants as event
+use Rattle.event_verdicts.specs.declared.verdict.Verdict.TheVariants as v
 
 -- ---- streams that leave
 

@@ -20,9 +20,9 @@ unfoldable use Rattle.law_mmio.specs.Stored.{writes_since_zero}
 unfoldable use Rattle.trusted_memory.specs.Writes.{byte_last_written}
 use Rattle.law_mmio.specs.Stored.{sets_to_zero, stored_byte}
 use Rattle.law_locks.specs.Locks.{Scrubs}
-use Rattle.run_events.specs.declared.event.Event.TheVariants as event
-use Rattle.run_events.specs.declared.event.InterfaceEvent.TheVariants as ie
-use Rattle.run_verdicts.specs.declared.verdict.Verdict.TheVariants as v
+use Rattle.script_events.specs.declared.event.Event.TheVariants as event
+use Rattle.script_events.specs.declared.event.InterfaceEvent.TheVariants as ie
+use Rattle.event_verdicts.specs.declared.verdict.Verdict.TheVariants as v
 
 -- ---- which calls lead to CONFIG_UNLOCKED
 

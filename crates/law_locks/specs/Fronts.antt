@@ -1,8 +1,8 @@
 -- What holds at each front of a history: after each of its first pairs, and at each pair.
 use Rattle.std.specs.Prelude.{[], ◌∷◌}
 use Rattle.spec_keys.specs.History.{History}
-use Rattle.run_events.specs.declared.event.Event.{Event}
-use Rattle.run_verdicts.specs.declared.verdict.Verdict.{Verdict}
+use Rattle.script_events.specs.declared.event.Event.{Event}
+use Rattle.event_verdicts.specs.declared.verdict.Verdict.{Verdict}
 
 -- after so many of its pairs as one likes, from none to all
 abbrev pub AtEach : (History → Type 0) → History → Type 0

@@ -15,9 +15,9 @@ use Rattle.guarded_memory.specs.Statuses.{has_open_range}
 use Rattle.interface_state.specs.Machine.{is_unlocked}
 use Rattle.law_mmio.specs.Stored.{stored_byte}
 use Rattle.law_locks.specs.Fronts.{AtEach, AtPairs}
-use Rattle.run_events.specs.declared.event.Event.TheVariants as event
-use Rattle.run_events.specs.declared.event.InterfaceEvent.TheVariants as ie
-use Rattle.run_verdicts.specs.declared.verdict.Verdict.TheVariants as v
+use Rattle.script_events.specs.declared.event.Event.TheVariants as event
+use Rattle.script_events.specs.declared.event.InterfaceEvent.TheVariants as ie
+use Rattle.event_verdicts.specs.declared.verdict.Verdict.TheVariants as v
 use Rattle.ide_types.specs.declared.verdict.InterfaceVerdict.TheVariants as iv
 
 -- ---- the streams

@@ -4,13 +4,13 @@ use Rattle.spec_links.specs.Terms.{PortName, Plan, Event, Effect, UnitName, Acce
 use Rattle.spec_links.specs.Terms.{owner_site, site_of_requester, Access, Verdict, Sealed, WaitingRead, memory_read}
 use Rattle.spec_links.specs.Sent.{reads_taken}
 use Rattle.law_locks.specs.Fronts.{AtPairs}
-use Rattle.run_events.specs.declared.event.AccessEvent.TheVariants as ae
+use Rattle.script_events.specs.declared.event.AccessEvent.TheVariants as ae
 use Rattle.spec_links.specs.Ports.{port_of}
 use Rattle.spec_links.specs.Memory.{unit_ended, queued_reads}
 use Rattle.spec_interfaces.specs.Sites.{Site}
 use Rattle.spec_interfaces.specs.Devices.{locks_accepted}
 use Rattle.tlp_layout.specs.declared.head.HeadView.{HeadView}
-use Rattle.run_verdicts.specs.declared.verdict.Effect.TheVariants.{Applied, Queued}
+use Rattle.event_verdicts.specs.declared.verdict.Effect.TheVariants.{Applied, Queued}
 
 -- its write is applied, or its read is queued
 abbrev pub is_admitted_effect : Effect → Bool

@@ -28,9 +28,9 @@ unfoldable use Rattle.spec_interfaces.specs.Due.{interface_verdict_due as interf
 use Rattle.spec_interfaces.specs.Cause.{InterfaceCause, PairFits, SealFits, is_peer, owner_site, owner_read}
 use Rattle.spec_interfaces.specs.Cause.{owners_link, t_at}
 use Rattle.spec_interfaces.specs.Devices.{peer_t}
-use Rattle.run_events.specs.declared.event.Event.TheVariants as event
-use Rattle.run_events.specs.declared.event.InterfaceEvent.TheVariants as ie
-use Rattle.run_verdicts.specs.declared.verdict.Verdict.TheVariants as v
+use Rattle.script_events.specs.declared.event.Event.TheVariants as event
+use Rattle.script_events.specs.declared.event.InterfaceEvent.TheVariants as ie
+use Rattle.event_verdicts.specs.declared.verdict.Verdict.TheVariants as v
 
 -- ---- interfaces
 

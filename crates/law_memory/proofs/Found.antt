@@ -17,7 +17,7 @@ use Rattle.ide_types.specs.Ports.{host_port}
 use Rattle.law_reads.proofs.Forwarded.{forward_means}
 use Rattle.spec_links.proofs.Terms.{Device}
 unfoldable use Rattle.spec_links.proofs.Terms.{bytes_by}
-use Rattle.run_events.specs.declared.event.AccessEvent.TheVariants as ae
+use Rattle.script_events.specs.declared.event.AccessEvent.TheVariants as ae
 use Rattle.spec_interfaces.specs.Sites.{Site, sites_of_plans, sites_of_links, site_at}
 unfoldable use Rattle.spec_interfaces.specs.Sites.{sites}
 use Rattle.spec_interfaces.specs.Terms.{LinkPlan, InterfacePlan}
@@ -25,8 +25,8 @@ use Rattle.spec_interfaces.specs.Cause.{InterfaceCause}
 use Rattle.spec_interfaces.specs.Laws.{OfTrusted}
 use Rattle.law_memory.specs.Origin.{CameFrom}
 use Rattle.std.specs.Prelude.{find}
-use Rattle.run_events.specs.declared.event.Event.TheVariants as event
-use Rattle.run_verdicts.specs.declared.verdict.Verdict.TheVariants as v
+use Rattle.script_events.specs.declared.event.Event.TheVariants as event
+use Rattle.event_verdicts.specs.declared.verdict.Verdict.TheVariants as v
 
 -- ---- places
 

@@ -9,7 +9,7 @@ use Rattle.law_sealing.proofs.Terms.{unit_that_ends}
 unfoldable use Rattle.law_sealing.proofs.Terms.{due}
 use Rattle.std.specs.Option.{option_map}
 use Rattle.tlp_layout.specs.declared.head.HeadView.{HeadView}
-use Rattle.run_verdicts.specs.declared.verdict.Effect.TheVariants as effect
+use Rattle.event_verdicts.specs.declared.verdict.Effect.TheVariants as effect
 use Rattle.tlp_layout.specs.declared.fault.TlpFault.{TlpFault}
 use Rattle.tlp_layout.specs.Reading.{read_head_of}
 use Rattle.ide_types.specs.Sub.{sent_direction}
@@ -27,8 +27,8 @@ use Rattle.guarded_memory.specs.Claims.{claim_of}
 use Rattle.guarded_memory.specs.Causes.{mmio_cause, cause_effect, claim_effect, mmio_effect}
 use Rattle.tlp_layout.specs.declared.head.Lead.{Lead}
 use Rattle.tlp_layout.specs.declared.head.Fields.{Fields}
-use Rattle.run_verdicts.specs.declared.verdict.BlockCause.{BlockCause}
-use Rattle.run_verdicts.specs.declared.verdict.Effect.TheVariants.{Delivered}
+use Rattle.event_verdicts.specs.declared.verdict.BlockCause.{BlockCause}
+use Rattle.event_verdicts.specs.declared.verdict.Effect.TheVariants.{Delivered}
 unfoldable use Rattle.trusted_memory.specs.Writes.{byte_last_written}
 use Rattle.trusted_memory.specs.Regions.{in_one_region}
 use Rattle.trusted_memory.specs.Causes.{is_applied, write_effect}
@@ -40,9 +40,9 @@ use Rattle.spec_links.specs.Memory.{admitted_each, unit_ended, plain_of, Policy,
 use Rattle.spec_links.specs.Memory.{writes, shown_if, effect_by, effects_of}
 unfoldable use Rattle.spec_interfaces.specs.Due.{interface_verdict_due as interface_due}
 use Rattle.law_memory.specs.Origin.{ShowsWrites, AppliesAdmitted, MemoryLaw}
-use Rattle.run_events.specs.declared.event.Event.TheVariants as event
-use Rattle.run_events.specs.declared.event.InterfaceEvent.TheVariants as ie
-use Rattle.run_verdicts.specs.declared.verdict.Verdict.TheVariants as v
+use Rattle.script_events.specs.declared.event.Event.TheVariants as event
+use Rattle.script_events.specs.declared.event.InterfaceEvent.TheVariants as ie
+use Rattle.event_verdicts.specs.declared.verdict.Verdict.TheVariants as v
 use Rattle.ide_types.specs.declared.verdict.InterfaceVerdict.TheVariants as iv
 
 -- ---- effects

@@ -33,13 +33,13 @@ use Rattle.spec_links.specs.Plan.{has_link}
 use Rattle.std.specs.Prelude.{length, nat_le}
 use Rattle.ide_types.specs.declared.binding.Binding.{Binding}
 use Rattle.ide_types.specs.declared.port.Side.TheVariants.{Host}
-use Rattle.run_verdicts.proofs.Admits.{Admits, binding_admits}
-use Rattle.run_verdicts.specs.declared.verdict.BlockCause.{BlockCause}
-use Rattle.run_verdicts.specs.declared.verdict.BlockCause.TheVariants as blocks
-use Rattle.run_events.specs.declared.event.AccessEvent.TheVariants as ae
-use Rattle.run_verdicts.specs.declared.access.AccessVerdict.TheVariants as av
+use Rattle.event_verdicts.proofs.Admits.{Admits, binding_admits}
+use Rattle.event_verdicts.specs.declared.verdict.BlockCause.{BlockCause}
+use Rattle.event_verdicts.specs.declared.verdict.BlockCause.TheVariants as blocks
+use Rattle.script_events.specs.declared.event.AccessEvent.TheVariants as ae
+use Rattle.event_verdicts.specs.declared.access.AccessVerdict.TheVariants as av
 use Rattle.ide_types.specs.declared.verdict.InterfaceVerdict.TheVariants as iv
-use Rattle.run_verdicts.specs.declared.verdict.Verdict.TheVariants as v
+use Rattle.event_verdicts.specs.declared.verdict.Verdict.TheVariants as v
 use Rattle.law_reads.proofs.Oldest.{takes, clash, First, first_means, bytes_are}
 use Rattle.law_reads.proofs.Order.{reads_in_order}
 use Rattle.law_reads.proofs.Requesters.{requester_meets, same_number}

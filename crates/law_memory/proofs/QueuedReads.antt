@@ -17,8 +17,8 @@ use Rattle.trusted_memory.specs.declared.grant.Grant.{Grant}
 use Rattle.trusted_memory.specs.Causes.{grant_cause, place_cause, block_cause}
 use Rattle.trusted_memory.specs.Admitted.{is_on_bound}
 use Rattle.trusted_memory.specs.Waiting.{request_effect}
-use Rattle.run_verdicts.specs.declared.verdict.BlockCause.{BlockCause}
-use Rattle.run_verdicts.specs.declared.verdict.Effect.TheVariants as effect
+use Rattle.event_verdicts.specs.declared.verdict.BlockCause.{BlockCause}
+use Rattle.event_verdicts.specs.declared.verdict.Effect.TheVariants as effect
 use Rattle.spec_interfaces.specs.Views.{grant_at}
 use Rattle.spec_links.specs.Memory.{Policy, policy_at, unit_grant, host_effect, device_effect, effect_by}
 use Rattle.spec_links.specs.Memory.{effects_each, waiting_then, unit_ended}

@@ -5,7 +5,7 @@ use Rattle.spec_links.specs.Plan.{SubStream}
 use Rattle.spec_links.specs.History.{sealed_packets, accepted_packets, received_in}
 use Rattle.spec_links.specs.Memory.{unit_ended}
 use Rattle.spec_links.specs.Ordered.{IsPacketAtPlace}
-use Rattle.run_events.specs.declared.event.Event.TheVariants as event
+use Rattle.script_events.specs.declared.event.Event.TheVariants as event
 use Rattle.spec_interfaces.specs.Peers.{peer_end}
 use Rattle.spec_interfaces.specs.Laws.{OwnerIsBound}
 use Rattle.law_memory.specs.Origin.{CameFrom}

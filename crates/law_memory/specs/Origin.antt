@@ -13,9 +13,9 @@ use Rattle.spec_interfaces.specs.Terms.{Running}
 use Rattle.spec_interfaces.specs.Views.{view_at, floor_at}
 use Rattle.tlp_layout.specs.declared.head.HeadView.{HeadView}
 use Rattle.spec_interfaces.specs.Devices.{runs_at, locks_accepted}
-use Rattle.run_verdicts.specs.declared.verdict.Verdict.TheVariants as v
-use Rattle.run_events.specs.declared.event.Event.TheVariants as event
-use Rattle.run_events.specs.declared.event.InterfaceEvent.TheVariants as ie
+use Rattle.event_verdicts.specs.declared.verdict.Verdict.TheVariants as v
+use Rattle.script_events.specs.declared.event.Event.TheVariants as event
+use Rattle.script_events.specs.declared.event.InterfaceEvent.TheVariants as ie
 use Rattle.ide_types.specs.declared.verdict.InterfaceVerdict.TheVariants as iv
 
 -- ---- memory

@@ -9,10 +9,10 @@ use Rattle.spec_interfaces.specs.Sites.{Site, site_at}
 use Rattle.spec_interfaces.specs.Terms.{Running}
 use Rattle.spec_interfaces.specs.Views.{view_at, floor_at}
 use Rattle.ide_types.specs.declared.sub.SubKind.TheVariants.{Cpl}
-use Rattle.run_events.specs.declared.event.AccessEvent.TheVariants as ae
-use Rattle.run_verdicts.specs.declared.access.AccessVerdict.TheVariants as av
-use Rattle.run_verdicts.specs.declared.verdict.Effect.TheVariants.{Queued}
-use Rattle.run_verdicts.specs.declared.verdict.Verdict.TheVariants as v
+use Rattle.script_events.specs.declared.event.AccessEvent.TheVariants as ae
+use Rattle.event_verdicts.specs.declared.access.AccessVerdict.TheVariants as av
+use Rattle.event_verdicts.specs.declared.verdict.Effect.TheVariants.{Queued}
+use Rattle.event_verdicts.specs.declared.verdict.Verdict.TheVariants as v
 use Rattle.law_reads.specs.Order.{TakesFirst, FewWait}
 use Rattle.law_memory.specs.Origin.{IsFrom}
 

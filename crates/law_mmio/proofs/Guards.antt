@@ -55,11 +55,11 @@ unfoldable use Rattle.law_mmio.specs.Stored.{writes_since_zero}
 use Rattle.law_mmio.specs.Mmio.{IsStoredInRun, GuardsBytes}
 use Rattle.law_mmio.proofs.SameWrites.{some_is, effects_there}
 use Rattle.law_mmio.proofs.Secure.{Held, not_failed}
-use Rattle.run_verdicts.specs.declared.verdict.BlockCause.{BlockCause}
-use Rattle.run_verdicts.specs.declared.verdict.Effect.TheVariants as effect
-use Rattle.run_verdicts.specs.declared.verdict.Verdict.TheVariants as v
-use Rattle.run_events.specs.declared.event.Event.TheVariants as event
-use Rattle.run_events.specs.declared.event.InterfaceEvent.TheVariants as ie
+use Rattle.event_verdicts.specs.declared.verdict.BlockCause.{BlockCause}
+use Rattle.event_verdicts.specs.declared.verdict.Effect.TheVariants as effect
+use Rattle.event_verdicts.specs.declared.verdict.Verdict.TheVariants as v
+use Rattle.script_events.specs.declared.event.Event.TheVariants as event
+use Rattle.script_events.specs.declared.event.InterfaceEvent.TheVariants as ie
 
 -- ---- nothing sets it to 0
 

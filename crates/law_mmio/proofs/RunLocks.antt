@@ -10,8 +10,8 @@ use Rattle.spec_interfaces.specs.Devices.{Around, around_at, interface_if_called
 use Rattle.spec_interfaces.specs.Devices.{accepts_lock, is_run, runs_at, interface_at, locks_accepted, is_stream_left}
 unfoldable use Rattle.spec_interfaces.specs.Devices.{devices}
 use Rattle.interface_state.specs.Machine.{new_lock, interface_after_lock}
-use Rattle.run_events.specs.declared.event.Event.TheVariants as event
-use Rattle.run_events.specs.declared.event.InterfaceEvent.TheVariants as ie
+use Rattle.script_events.specs.declared.event.Event.TheVariants as event
+use Rattle.script_events.specs.declared.event.InterfaceEvent.TheVariants as ie
 
 -- an accepted lock leaves CONFIG_LOCKED
 taken_rests : (b c : Bool) (t : Tdi) (answer : Result (List ℕ) ℕ) (new : Lock) (call : Tdi)

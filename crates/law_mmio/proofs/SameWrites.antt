@@ -31,9 +31,9 @@ use Rattle.law_mmio.specs.Stored.{unit_stored_writes, stores, asked_zero, sets_t
 use Rattle.ide_types.specs.Ports.{device_port}
 unfoldable use Rattle.law_mmio.specs.Stored.{writes_since_zero}
 use Rattle.law_mmio.proofs.Units.{unit_stores}
-use Rattle.run_events.specs.declared.event.Event.TheVariants as event
-use Rattle.run_events.specs.declared.event.InterfaceEvent.TheVariants as ie
-use Rattle.run_verdicts.specs.declared.verdict.Verdict.TheVariants as v
+use Rattle.script_events.specs.declared.event.Event.TheVariants as event
+use Rattle.script_events.specs.declared.event.InterfaceEvent.TheVariants as ie
+use Rattle.event_verdicts.specs.declared.verdict.Verdict.TheVariants as v
 
 pub some_is : {A : Type 0} (x y : A) → Some x ≡ Some y → x ≡ y
 some_is x y is = cc

@@ -14,10 +14,10 @@ use Rattle.guarded_memory.specs.Happenings.{byte_shown}
 use Rattle.guarded_memory.specs.Contents.{page_counts, fits_range}
 use Rattle.law_mmio.specs.Mmio.{ShowsRange, ShowsStored}
 use Rattle.law_mmio.proofs.SameWrites.{same_writes}
-use Rattle.run_events.specs.declared.event.Event.TheVariants as event
-use Rattle.run_events.specs.declared.event.AccessEvent.TheVariants as ae
-use Rattle.run_verdicts.specs.declared.verdict.Verdict.TheVariants as v
-use Rattle.run_verdicts.specs.declared.access.AccessVerdict.TheVariants as access
+use Rattle.script_events.specs.declared.event.Event.TheVariants as event
+use Rattle.script_events.specs.declared.event.AccessEvent.TheVariants as ae
+use Rattle.event_verdicts.specs.declared.verdict.Verdict.TheVariants as v
+use Rattle.event_verdicts.specs.declared.access.AccessVerdict.TheVariants as access
 
 length-bytes : (f : ℕ → ℕ) (at n : ℕ) → length (bytes_from f at n) ≡ n
 length-bytes f at zero = refl

@@ -26,10 +26,10 @@ use Rattle.law_mmio.specs.Mmio.{IsStartedUnder, KeepsFloors}
 use Rattle.law_mmio.proofs.SameWrites.{and_none}
 use Rattle.law_mmio.proofs.Secure.{Held, secure_parts, locked_secure}
 use Rattle.law_mmio.proofs.RunLocks.{runs_unlocked, same_locks}
-use Rattle.run_verdicts.specs.declared.verdict.Verdict.TheVariants as v
-use Rattle.run_events.specs.declared.event.Event.TheVariants as event
+use Rattle.event_verdicts.specs.declared.verdict.Verdict.TheVariants as v
+use Rattle.script_events.specs.declared.event.Event.TheVariants as event
 use Rattle.spec_interfaces.proofs.Rests.{is_start, after_rests, reset_starts_none}
-use Rattle.run_events.specs.declared.event.InterfaceEvent.TheVariants as ie
+use Rattle.script_events.specs.declared.event.InterfaceEvent.TheVariants as ie
 
 -- ---- a draw is On
 

@@ -12,8 +12,8 @@ use Rattle.tlp_layout.specs.declared.head.HeadView.{HeadView}
 use Rattle.spec_links.specs.Memory.{Policy, device_effect, effect_by, waiting_then, effects_each}
 use Rattle.spec_links.specs.Guarded.{tlp_happened, stored_packet, stored_each}
 use Rattle.trusted_memory.specs.declared.span.Span.{Span}
-use Rattle.run_verdicts.specs.declared.verdict.BlockCause.{BlockCause}
-use Rattle.run_verdicts.specs.declared.verdict.Effect.TheVariants as effect
+use Rattle.event_verdicts.specs.declared.verdict.BlockCause.{BlockCause}
+use Rattle.event_verdicts.specs.declared.verdict.Effect.TheVariants as effect
 use Rattle.guarded_memory.specs.declared.status.InterfaceStatus.{InterfaceStatus}
 use Rattle.guarded_memory.specs.declared.claims.Claim.{Claim}
 use Rattle.guarded_memory.specs.Claims.{claim_of}

@@ -18,7 +18,7 @@ unfoldable use Rattle.spec_links.specs.Memory.{writes}
 use Rattle.spec_links.specs.Sent.{unit_accepted, reads_by}
 unfoldable use Rattle.spec_links.specs.Sent.{packets_held, writes_in, queued_in}
 use Rattle.ide_prefix.specs.Packet.{packet_bytes}
-use Rattle.run_verdicts.specs.declared.verdict.Verdict.TheVariants as v
+use Rattle.event_verdicts.specs.declared.verdict.Verdict.TheVariants as v
 
 -- ---- what an event brings
 

@@ -9,7 +9,7 @@ use Rattle.spec_links.specs.Terms.{Reset}
 use Rattle.spec_links.specs.Hops.{HopTlp, entering_end, clears_hop, is_forward_on}
 unfoldable use Rattle.spec_links.specs.Hops.{accepted_tlps_in, forwarded_count}
 use Rattle.spec_links.specs.Memory.{accepted_tlps, hop_waiting, unit_ended}
-use Rattle.run_verdicts.specs.declared.verdict.Verdict.TheVariants as v
+use Rattle.event_verdicts.specs.declared.verdict.Verdict.TheVariants as v
 use Rattle.law_reads.specs.Waiting.{WaitingFollows}
 use Rattle.law_reads.proofs.Taken.{here_after, taken_accepted, tlps_of}
 use Rattle.law_reads.proofs.Forwarded.{within}

@@ -8,9 +8,9 @@ use Rattle.spec_links.proofs.Growth.{at_front}
 unfoldable use Rattle.spec_links.proofs.Terms.{due}
 use Rattle.ide_types.specs.Sub.{direction_number}
 use Rattle.ide_types.specs.declared.direction.Direction.{Direction}
-use Rattle.run_events.specs.declared.event.Event.TheVariants.{Forward}
-use Rattle.run_verdicts.specs.declared.access.AccessVerdict.TheVariants as av
-use Rattle.run_verdicts.specs.declared.verdict.Verdict.TheVariants as v
+use Rattle.script_events.specs.declared.event.Event.TheVariants.{Forward}
+use Rattle.event_verdicts.specs.declared.access.AccessVerdict.TheVariants as av
+use Rattle.event_verdicts.specs.declared.verdict.Verdict.TheVariants as v
 use Rattle.spec_links.specs.Due.{send_due, forward_out, forward_first}
 use Rattle.spec_links.specs.Hops.{HopTlp, has_hop, entering_end, leaving_end, clears_hop, is_forward_on}
 unfoldable use Rattle.spec_links.specs.Hops.{accepted_tlps_in, forwarded_count}

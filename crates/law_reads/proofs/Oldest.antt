@@ -11,9 +11,9 @@ use Rattle.spec_links.specs.Memory.{queued_reads, writes}
 use Rattle.spec_links.specs.Sent.{reads_taken, writes_in}
 use Rattle.trusted_memory.specs.Writes.{byte_last_written}
 use Rattle.trusted_memory.specs.Completions.{completion_bytes}
-use Rattle.run_events.specs.declared.event.AccessEvent.TheVariants as ae
-use Rattle.run_verdicts.specs.declared.access.AccessVerdict.TheVariants as av
-use Rattle.run_verdicts.specs.declared.verdict.Verdict.TheVariants as v
+use Rattle.script_events.specs.declared.event.AccessEvent.TheVariants as ae
+use Rattle.event_verdicts.specs.declared.access.AccessVerdict.TheVariants as av
+use Rattle.event_verdicts.specs.declared.verdict.Verdict.TheVariants as v
 use Rattle.spec_links.proofs.HopFirst.{drop_first}
 use Rattle.law_reads.proofs.ByNumber.{writes_same}
 

@@ -33,12 +33,12 @@ use Rattle.spec_links.specs.Memory.{Policy, policy_at, effect_by, effects_each, 
 use Rattle.spec_links.specs.Memory.{device_effect, unit_ended, queued_reads}
 unfoldable use Rattle.spec_links.specs.Sent.{reads_taken, queued_in}
 use Rattle.spec_links.specs.Sent.{is_answer_on, unit_accepted, reads_by, read_in, drawn_read}
-use Rattle.run_verdicts.specs.declared.verdict.BlockCause.{BlockCause}
-use Rattle.run_verdicts.specs.declared.verdict.BlockCause.TheVariants as blocks
-use Rattle.run_verdicts.specs.declared.verdict.Effect.TheVariants as effect
-use Rattle.run_events.specs.declared.event.AccessEvent.TheVariants as ae
-use Rattle.run_verdicts.specs.declared.access.AccessVerdict.TheVariants as av
-use Rattle.run_verdicts.specs.declared.verdict.Verdict.TheVariants as v
+use Rattle.event_verdicts.specs.declared.verdict.BlockCause.{BlockCause}
+use Rattle.event_verdicts.specs.declared.verdict.BlockCause.TheVariants as blocks
+use Rattle.event_verdicts.specs.declared.verdict.Effect.TheVariants as effect
+use Rattle.script_events.specs.declared.event.AccessEvent.TheVariants as ae
+use Rattle.event_verdicts.specs.declared.access.AccessVerdict.TheVariants as av
+use Rattle.event_verdicts.specs.declared.verdict.Verdict.TheVariants as v
 use Rattle.law_reads.specs.Order.{TakesFirst, FewWait, ReadsInOrder}
 use Rattle.law_reads.proofs.ByNumber.{IsBehind, unit_same, queued_same}
 use Rattle.law_reads.proofs.Oldest.{takes, first_means}

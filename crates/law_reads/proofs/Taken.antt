@@ -6,7 +6,7 @@ use Rattle.spec_links.proofs.Growth.{packets_grow}
 use Rattle.spec_links.specs.Hops.{HopTlp, tlps_with, clears_hop}
 unfoldable use Rattle.spec_links.specs.Hops.{accepted_tlps_in}
 use Rattle.spec_links.specs.Memory.{accepted_tlps, plain_of, unit_ended}
-use Rattle.run_verdicts.specs.declared.verdict.Verdict.TheVariants as v
+use Rattle.event_verdicts.specs.declared.verdict.Verdict.TheVariants as v
 use Rattle.law_reads.proofs.ByNumber.{IsBehind, behind_earlier, unit_same, unit_again}
 
 -- those of a unit that was accepted

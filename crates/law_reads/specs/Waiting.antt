@@ -3,10 +3,10 @@ use Rattle.std.specs.Prelude.{if◌then◌else◌, ◌++◌, ◌∷◌, ◌≡�
 use Rattle.ide_types.specs.declared.direction.Direction.{Direction}
 use Rattle.ide_types.specs.declared.plan.Plan.{Plan}
 use Rattle.spec_keys.specs.History.{History}
-use Rattle.run_events.specs.declared.event.Event.{Event}
-use Rattle.run_events.specs.declared.event.Event.TheVariants.{Reset}
-use Rattle.run_verdicts.specs.declared.verdict.Verdict.{Verdict}
-use Rattle.run_verdicts.specs.declared.verdict.Verdict.TheVariants as v
+use Rattle.script_events.specs.declared.event.Event.{Event}
+use Rattle.script_events.specs.declared.event.Event.TheVariants.{Reset}
+use Rattle.event_verdicts.specs.declared.verdict.Verdict.{Verdict}
+use Rattle.event_verdicts.specs.declared.verdict.Verdict.TheVariants as v
 use Rattle.spec_links.specs.Cause.{CauseLaw}
 use Rattle.spec_links.specs.Plan.{is_same_port}
 use Rattle.spec_links.specs.Hops.{HopTlp, tlps_with, entering_end, clears_hop, is_forward_on}

@@ -27,10 +27,10 @@ pub use Rattle.ide_prefix.specs.Reading.{IdePacket, cut_of}
 pub use Rattle.ide_types.specs.declared.sub.SubKind.{SubKind}
 pub use Rattle.ide_types.specs.declared.sub.SubKind.TheVariants.{Pr, Npr, Cpl}
 pub use Rattle.ide_types.specs.declared.port.PortName.{PortName}
-pub use Rattle.run_events.specs.declared.event.Event.{Event}
-pub use Rattle.run_events.specs.declared.event.Event.TheVariants.{Send, Pass, Alter, Cut, Arrive}
-pub use Rattle.run_verdicts.specs.declared.verdict.Verdict.{Verdict}
-pub use Rattle.run_verdicts.specs.declared.verdict.SealedPacket.{SealedPacket}
+pub use Rattle.script_events.specs.declared.event.Event.{Event}
+pub use Rattle.script_events.specs.declared.event.Event.TheVariants.{Send, Pass, Alter, Cut, Arrive}
+pub use Rattle.event_verdicts.specs.declared.verdict.Verdict.{Verdict}
+pub use Rattle.event_verdicts.specs.declared.verdict.SealedPacket.{SealedPacket}
 pub use Rattle.ide_prefix.specs.declared.packet.Prefix.{Prefix}
 pub use Rattle.ide_types.specs.declared.plan.Plan.{Plan}
 pub use Rattle.spec_links.specs.Plan.{SubStream, lane_out, aggregation_of, is_same, is_same_port, streams_of, with_id}
@@ -57,12 +57,12 @@ pub use Rattle.spec_links.specs.Cause.{CauseLaw}
 pub use Rattle.spec_links.specs.KeyFacts.{DrawFacts, NoneFrom, BaseStays}
 pub use Rattle.spec_keys.specs.Places.{is_same_sub, received_direction}
 pub use Rattle.ide_types.specs.Sub.{sub_bits}
-pub use Rattle.run_verdicts.specs.declared.verdict.Verdict.TheVariants.{Sealed, Accepted, Held, Fail}
+pub use Rattle.event_verdicts.specs.declared.verdict.Verdict.TheVariants.{Sealed, Accepted, Held, Fail}
 pub use Rattle.spec_links.specs.Laws.{TotalsFit, NoForgery, NotForged, ClosedLaw, IsPrefixOf, NeverFalls, WasSealed}
 pub use Rattle.spec_links.specs.Laws.{last_tag, IsOn, ArrivesInOrder, OrderIsNoForgery, WholeLaw, IsTaken}
 pub use Rattle.tlp_layout.specs.Class.{class_of, layout_of}
-pub use Rattle.run_verdicts.specs.declared.verdict.UnitName.{UnitName}
-pub use Rattle.run_verdicts.specs.declared.verdict.Effect.{Effect}
+pub use Rattle.event_verdicts.specs.declared.verdict.UnitName.{UnitName}
+pub use Rattle.event_verdicts.specs.declared.verdict.Effect.{Effect}
 pub use Rattle.ide_prefix.specs.Iv.{iv_of}
 pub use Rattle.gcm_seal.specs.Gcm.{masked_bytes, tag_of, verifies}
 unfoldable pub use Rattle.gcm_seal.specs.Gcm.{open_of}

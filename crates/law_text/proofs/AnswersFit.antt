@@ -15,14 +15,14 @@ use Rattle.spec_interfaces.specs.Views.{bound_if, granted_to, view_at, floor_at}
 use Rattle.ide_types.specs.declared.view.View.{View}
 use Rattle.ide_types.specs.declared.view.View.TheVariants as view
 use Rattle.ide_types.specs.declared.verdict.InterfaceVerdict.TheVariants as iv
-use Rattle.run_events.specs.declared.event.AccessEvent.TheVariants as ae
-use Rattle.run_events.specs.declared.event.Event.TheVariants.{Access}
-use Rattle.run_verdicts.specs.declared.verdict.Verdict.{Verdict}
-use Rattle.run_verdicts.specs.declared.verdict.Verdict.TheVariants as v
-use Rattle.run_verdicts.specs.declared.verdict.BlockCause.{BlockCause}
-use Rattle.run_verdicts.specs.Causes.{is_stream, binding_cause}
-use Rattle.run_verdicts.proofs.Admits.{binding_admits}
-use Rattle.run_verdicts.specs.Apart.{Fits}
+use Rattle.script_events.specs.declared.event.AccessEvent.TheVariants as ae
+use Rattle.script_events.specs.declared.event.Event.TheVariants.{Access}
+use Rattle.event_verdicts.specs.declared.verdict.Verdict.{Verdict}
+use Rattle.event_verdicts.specs.declared.verdict.Verdict.TheVariants as v
+use Rattle.event_verdicts.specs.declared.verdict.BlockCause.{BlockCause}
+use Rattle.event_verdicts.specs.Causes.{is_stream, binding_cause}
+use Rattle.event_verdicts.proofs.Admits.{binding_admits}
+use Rattle.event_verdicts.specs.Apart.{Fits}
 use Rattle.trusted_memory.specs.declared.queue.WaitingRead.{WaitingRead}
 use Rattle.spec_links.specs.Plan.{has_link, lane_out, streams_of}
 use Rattle.spec_links.specs.History.{KeyName, live_key, sent_bytes, sending_port}

@@ -1,8 +1,25 @@
 -- What is due fits.
 use Rattle.std.proofs.Common.{refl}
-use Rattle.run_events.specs.declared.event.Event.TheVariants.{Send, Pass, Alter, Cut, Arrive, Dump, Establish, Refresh}
-use Rattle.run_events.specs.declared.event.Event.TheVariants.{Stop, Reset, Status, Interface, Access, Forward, Absent}
-use Rattle.run_events.specs.declared.event.AccessEvent.TheVariants as ae
+use Rattle.script_events.specs.declared.event.Event.TheVariants.{
+  Send,
+  Pass,
+  Alter,
+  Cut,
+  Arrive,
+  Dump,
+  Establish,
+  Refresh,
+}
+use Rattle.script_events.specs.declared.event.Event.TheVariants.{
+  Stop,
+  Reset,
+  Status,
+  Interface,
+  Access,
+  Forward,
+  Absent,
+}
+use Rattle.script_events.specs.declared.event.AccessEvent.TheVariants as ae
 use Rattle.spec_links.specs.History.{arrival_of_event, packet_by_number, sealed_packets}
 use Rattle.spec_links.specs.Due.{due}
 use Rattle.spec_links.specs.Memory.{memory_due}

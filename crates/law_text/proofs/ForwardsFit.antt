@@ -12,11 +12,11 @@ use Rattle.ide_types.specs.Ends.{link_hop}
 use Rattle.ide_types.specs.Fits.{FitsPlan}
 use Rattle.spec_keys.specs.History.{History}
 use Rattle.spec_stream.specs.Sending.{Sending}
-use Rattle.run_events.specs.declared.event.Event.TheVariants.{Forward}
-use Rattle.run_verdicts.specs.Apart.{Fits}
-use Rattle.run_verdicts.specs.declared.access.AccessVerdict.TheVariants as av
-use Rattle.run_verdicts.specs.declared.verdict.Verdict.{Verdict}
-use Rattle.run_verdicts.specs.declared.verdict.Verdict.TheVariants as v
+use Rattle.script_events.specs.declared.event.Event.TheVariants.{Forward}
+use Rattle.event_verdicts.specs.Apart.{Fits}
+use Rattle.event_verdicts.specs.declared.access.AccessVerdict.TheVariants as av
+use Rattle.event_verdicts.specs.declared.verdict.Verdict.{Verdict}
+use Rattle.event_verdicts.specs.declared.verdict.Verdict.TheVariants as v
 use Rattle.spec_links.specs.Cause.{CauseLaw}
 unfoldable use Rattle.spec_links.specs.Due.{due}
 use Rattle.spec_links.specs.Due.{forward_first}

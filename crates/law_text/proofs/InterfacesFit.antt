@@ -15,14 +15,14 @@ use Rattle.ide_types.specs.Fits.{AreBytes, FitsPlan}
 use Rattle.ide_types.specs.declared.view.View.{View}
 use Rattle.ide_types.specs.declared.view.View.TheVariants as view
 use Rattle.ide_types.specs.declared.verdict.InterfaceVerdict.TheVariants as iv
-use Rattle.run_events.specs.declared.event.Event.{Event}
-use Rattle.run_events.specs.declared.event.Event.TheVariants as event
-use Rattle.run_events.specs.declared.event.InterfaceEvent.{InterfaceEvent}
-use Rattle.run_events.specs.declared.event.InterfaceEvent.TheVariants as ie
-use Rattle.run_events.specs.declared.event.Loss.{Loss}
-use Rattle.run_verdicts.specs.declared.verdict.Verdict.{Verdict}
-use Rattle.run_verdicts.specs.declared.verdict.Verdict.TheVariants as v
-use Rattle.run_verdicts.specs.Apart.{Fits}
+use Rattle.script_events.specs.declared.event.Event.{Event}
+use Rattle.script_events.specs.declared.event.Event.TheVariants as event
+use Rattle.script_events.specs.declared.event.InterfaceEvent.{InterfaceEvent}
+use Rattle.script_events.specs.declared.event.InterfaceEvent.TheVariants as ie
+use Rattle.script_events.specs.declared.event.Loss.{Loss}
+use Rattle.event_verdicts.specs.declared.verdict.Verdict.{Verdict}
+use Rattle.event_verdicts.specs.declared.verdict.Verdict.TheVariants as v
+use Rattle.event_verdicts.specs.Apart.{Fits}
 use Rattle.tdisp_codec.specs.Reports.{Report, report_spelling}
 use Rattle.tdisp_codec.proofs.Octets.{AreOctets, are_bytes, octets, joins, two_bytes, four_bytes, zero_bytes_by, IsByte}
 use Rattle.tdisp_codec.proofs.RangeBytes.{range_octets}

@@ -10,11 +10,11 @@ use Rattle.ide_types.specs.declared.sub.SubKind.TheVariants.{Npr, Cpl}
 use Rattle.ide_types.specs.declared.port.PortName.{PortName}
 use Rattle.ide_types.specs.declared.plan.Plan.{Plan}
 use Rattle.ide_types.specs.Fits.{FitsPlan}
-use Rattle.run_events.specs.declared.event.Event.TheVariants.{Send}
-use Rattle.run_verdicts.specs.declared.verdict.Verdict.{Verdict}
-use Rattle.run_verdicts.specs.declared.verdict.Verdict.TheVariants as v
-use Rattle.run_verdicts.specs.declared.verdict.SealedPacket.{SealedPacket}
-use Rattle.run_verdicts.specs.Apart.{Fits, FitPackets, FitsSealed}
+use Rattle.script_events.specs.declared.event.Event.TheVariants.{Send}
+use Rattle.event_verdicts.specs.declared.verdict.Verdict.{Verdict}
+use Rattle.event_verdicts.specs.declared.verdict.Verdict.TheVariants as v
+use Rattle.event_verdicts.specs.declared.verdict.SealedPacket.{SealedPacket}
+use Rattle.event_verdicts.specs.Apart.{Fits, FitPackets, FitsSealed}
 use Rattle.tlp_layout.specs.Class.{class_of}
 use Rattle.tlp_layout.specs.declared.tlp.Tlp.{Tlp}
 use Rattle.tlp_layout.specs.Tlp.{header}

@@ -1,14 +1,14 @@
 -- The history of a list of events, its text and its totals.
 use Rattle.std.specs.Prelude.{ℕ, ◌+◌, Bool, true, false, List, [], ◌∷◌, ◌++◌, length, count_by, sum_by}
 use Rattle.ide_types.specs.declared.plan.Plan.{Plan}
-use Rattle.run_events.specs.declared.event.Event.{Event}
-use Rattle.run_verdicts.specs.declared.verdict.Verdict.{Verdict}
-use Rattle.run_verdicts.specs.declared.verdict.Verdict.TheVariants.{Sealed, Fail, Accepted}
-use Rattle.run_verdicts.specs.declared.verdict.Effect.{Effect}
-use Rattle.run_verdicts.specs.declared.verdict.Effect.TheVariants.{Blocked}
-use Rattle.run_verdicts.specs.declared.verdict.Totals.{Totals}
-use Rattle.run_verdicts.specs.Lines.{line_of}
-use Rattle.run_verdicts.specs.Shown.{verdict_by_ports}
+use Rattle.script_events.specs.declared.event.Event.{Event}
+use Rattle.event_verdicts.specs.declared.verdict.Verdict.{Verdict}
+use Rattle.event_verdicts.specs.declared.verdict.Verdict.TheVariants.{Sealed, Fail, Accepted}
+use Rattle.event_verdicts.specs.declared.verdict.Effect.{Effect}
+use Rattle.event_verdicts.specs.declared.verdict.Effect.TheVariants.{Blocked}
+use Rattle.event_verdicts.specs.declared.verdict.Totals.{Totals}
+use Rattle.event_verdicts.specs.Lines.{line_of}
+use Rattle.event_verdicts.specs.Shown.{verdict_by_ports}
 use Rattle.spec_keys.specs.History.{History}
 use Rattle.spec_links.specs.Due.{due}
 

@@ -2,9 +2,9 @@
 use Rattle.std.specs.Prelude.{ℕ, ◌≡◌, ◌<◌, ◌^◌, List, [], ◌++◌, length}
 use Rattle.ide_types.specs.declared.plan.Plan.{Plan}
 use Rattle.ide_types.specs.Fits.{FitsPlan}
-use Rattle.run_events.specs.declared.event.Event.{Event}
-use Rattle.run_events.specs.Spells.{IsAllowed}
-use Rattle.run_verdicts.specs.Apart.{Fits}
+use Rattle.script_events.specs.declared.event.Event.{Event}
+use Rattle.script_events.specs.Spells.{IsAllowed}
+use Rattle.event_verdicts.specs.Apart.{Fits}
 use Rattle.spec_keys.specs.History.{History}
 use Rattle.spec_links.specs.Due.{due}
 use Rattle.spec_links.specs.Cause.{CauseLaw}

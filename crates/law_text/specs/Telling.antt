@@ -1,11 +1,11 @@
 -- What a history tells: its events, and the lines of its verdicts.
 use Rattle.std.specs.Prelude.{ℕ, ◌+◌, ◌<◌, ◌^◌, List, [], ◌∷◌, ◌++◌, length}
 use Rattle.std.specs.List.{AllByRecursion}
-use Rattle.run_events.specs.declared.event.Event.{Event}
-use Rattle.run_events.specs.Spells.{IsAllowed}
-use Rattle.run_verdicts.specs.Apart.{Fits}
-use Rattle.run_verdicts.specs.Lines.{line_of}
-use Rattle.run_verdicts.specs.Shown.{verdict_by_ports}
+use Rattle.script_events.specs.declared.event.Event.{Event}
+use Rattle.script_events.specs.Spells.{IsAllowed}
+use Rattle.event_verdicts.specs.Apart.{Fits}
+use Rattle.event_verdicts.specs.Lines.{line_of}
+use Rattle.event_verdicts.specs.Shown.{verdict_by_ports}
 use Rattle.ide_types.specs.declared.plan.Plan.{Plan}
 use Rattle.spec_keys.specs.History.{History}
 

@@ -19,7 +19,7 @@ use Rattle.ide_prefix.specs.Units.{encrypted_bytes}
 use Rattle.law_locks.proofs.{draws, first_means, owned_means, read_law, under_means}
 use Rattle.law_locks.specs.{IsReadAnswered}
 use Rattle.law_verdicts.specs.Answers.{SealsCompletion, AnswersWhole}
-use Rattle.run_events.specs.declared.event.AccessEvent.TheVariants as ae
+use Rattle.script_events.specs.declared.event.AccessEvent.TheVariants as ae
 
 -- ---- the last that is sealed
 

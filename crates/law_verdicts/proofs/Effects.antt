@@ -40,11 +40,11 @@ use Rattle.spec_links.specs.Memory.{effects_each, waiting_then, unit_ended}
 use Rattle.law_verdicts.specs.Effects.{is_queued, is_full, asks_granted_read, packet_asks_read, asks_read, before_64}
 use Rattle.law_verdicts.specs.Effects.{behind_64, takes_as, takes_claimed, takes_claim, takes_span, takes_write}
 use Rattle.law_verdicts.specs.Effects.{is_waiting_effect, waits_at, HasExactEffects}
-use Rattle.run_verdicts.specs.declared.verdict.BlockCause.{BlockCause}
-use Rattle.run_verdicts.specs.declared.verdict.BlockCause.TheVariants as blocks
+use Rattle.event_verdicts.specs.declared.verdict.BlockCause.{BlockCause}
+use Rattle.event_verdicts.specs.declared.verdict.BlockCause.TheVariants as blocks
 use Rattle.ide_types.specs.declared.interface.BarPlan.{BarPlan}
 use Rattle.law_locks.proofs.{effects_there}
-use Rattle.run_verdicts.specs.declared.verdict.Effect.TheVariants as effect
+use Rattle.event_verdicts.specs.declared.verdict.Effect.TheVariants as effect
 
 -- ---- what a cause says of reads
 

@@ -16,8 +16,8 @@ use Rattle.spec_links.specs.Hops.{HopTlp, has_hop, leaving_end}
 use Rattle.spec_links.specs.Memory.{hop_waiting}
 use Rattle.ide_types.specs.declared.binding.Binding.{Binding}
 use Rattle.ide_types.specs.declared.direction.Direction.{Direction}
-use Rattle.run_verdicts.specs.declared.verdict.BlockCause.{BlockCause}
-use Rattle.run_events.specs.declared.event.Event.TheVariants.{Forward, Absent}
+use Rattle.event_verdicts.specs.declared.verdict.BlockCause.{BlockCause}
+use Rattle.script_events.specs.declared.event.Event.TheVariants.{Forward, Absent}
 use Rattle.spec_links.specs.Ports.{may_send, outgoing_at, sealing_end, goes_through}
 use Rattle.spec_links.proofs.Causes.{held_by, accepted_by, Passed}
 use Rattle.spec_links.proofs.SealingIs.{sealing_is, AllLive, all_live}
@@ -29,8 +29,8 @@ use Rattle.ide_prefix.specs.Reading.{PlainTlp, IdePacket, cut_of}
 use Rattle.tlp_layout.specs.Class.{class_of}
 use Rattle.tlp_layout.specs.Tlp.{header}
 use Rattle.law_verdicts.specs.Verdicts.{IsOfWhole}
-use Rattle.run_events.specs.declared.event.AccessEvent.TheVariants as ae
-use Rattle.run_verdicts.specs.declared.verdict.Verdict.TheVariants as v
+use Rattle.script_events.specs.declared.event.AccessEvent.TheVariants as ae
+use Rattle.event_verdicts.specs.declared.verdict.Verdict.TheVariants as v
 
 -- ---- what is sealed
 

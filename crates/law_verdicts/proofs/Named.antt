@@ -25,11 +25,11 @@ use Rattle.tlp_layout.specs.Class.{class_of}
 use Rattle.tlp_layout.specs.Tlp.{header}
 use Rattle.ide_types.specs.declared.binding.Binding.{Binding}
 use Rattle.ide_types.specs.declared.direction.Direction.{Direction}
-use Rattle.run_verdicts.specs.declared.verdict.BlockCause.{BlockCause}
+use Rattle.event_verdicts.specs.declared.verdict.BlockCause.{BlockCause}
 use Rattle.spec_keys.proofs.Performs.{is_cut, performed_is}
 use Rattle.std.specs.Option.{option_map, option_map_or}
 use Rattle.std.specs.Prelude.{nat_le, ◌&&◌}
-use Rattle.run_events.specs.declared.event.Lost.{Lost}
+use Rattle.script_events.specs.declared.event.Lost.{Lost}
 use Rattle.spec_keys.specs.Due.{lost_at, has_refresh, if_secure}
 use Rattle.spec_interfaces.specs.Terms.{View, has_register, kept_report, lock_of, start_answer, bind_answer}
 use Rattle.spec_interfaces.specs.Terms.{unbind_answer}
@@ -45,12 +45,12 @@ unfoldable use Rattle.spec_interfaces.specs.Due.{interface_verdict_due}
 use Rattle.law_locks.proofs.{drop_first}
 use Rattle.law_locks.proofs.Answered.{reader_there}
 use Rattle.law_verdicts.specs.Verdicts.{is_none_at_all, has_named, is_named_at, range_named, names_exist, IsNoneExactly}
-use Rattle.run_events.specs.declared.event.Event.TheVariants as event
-use Rattle.run_events.specs.declared.event.InterfaceEvent.TheVariants as ie
-use Rattle.run_events.specs.declared.event.AccessEvent.TheVariants as ae
+use Rattle.script_events.specs.declared.event.Event.TheVariants as event
+use Rattle.script_events.specs.declared.event.InterfaceEvent.TheVariants as ie
+use Rattle.script_events.specs.declared.event.AccessEvent.TheVariants as ae
 use Rattle.ide_types.specs.declared.verdict.InterfaceVerdict.TheVariants as iv
-use Rattle.run_verdicts.specs.declared.verdict.Operation.TheVariants as op
-use Rattle.run_verdicts.specs.declared.verdict.Verdict.TheVariants as v
+use Rattle.event_verdicts.specs.declared.verdict.Operation.TheVariants as op
+use Rattle.event_verdicts.specs.declared.verdict.Verdict.TheVariants as v
 
 -- ---- operations on streams
 

@@ -18,9 +18,9 @@ use Rattle.ide_types.specs.declared.direction.Direction.{Direction}
 use Rattle.ide_types.specs.declared.direction.Direction.TheVariants.{Downstream, Upstream}
 use Rattle.std.proofs.lemmas.Bool.{true≢false}
 use Rattle.law_verdicts.specs.Verdicts.{IsTrustAsked, TrustsAsked, is_at_host}
-use Rattle.run_events.specs.declared.event.Event.TheVariants as event
-use Rattle.run_events.specs.declared.event.AccessEvent.TheVariants as ae
-use Rattle.run_verdicts.specs.declared.verdict.Verdict.TheVariants as v
+use Rattle.script_events.specs.declared.event.Event.TheVariants as event
+use Rattle.script_events.specs.declared.event.AccessEvent.TheVariants as ae
+use Rattle.event_verdicts.specs.declared.verdict.Verdict.TheVariants as v
 
 no_peer : (line links : ℕ) → nat_lt line 16 ≡ true → (nat_le 24 line && not (nat_lt line links)) ≡ false
 no_peer line links is = grind (arith, nat_tests)

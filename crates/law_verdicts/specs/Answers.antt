@@ -7,7 +7,7 @@ use Rattle.spec_links.specs.History.{SealedList, sealed_packets, sub_stream_of}
 use Rattle.spec_links.specs.Memory.{queued_reads, writes}
 use Rattle.spec_links.specs.Sent.{reads_taken}
 use Rattle.law_locks.specs.Fronts.{AtPairs}
-use Rattle.run_events.specs.declared.event.AccessEvent.TheVariants as ae
+use Rattle.script_events.specs.declared.event.AccessEvent.TheVariants as ae
 
 -- The last packet that the verdict seals is no sync packet, and ends its unit. It is the completion of the oldest read
 -- that waits, from memory as it is then: its header stands in clear, and behind it the payload, masked under the

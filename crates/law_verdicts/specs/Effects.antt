@@ -18,8 +18,8 @@ use Rattle.guarded_memory.specs.Causes.{is_stored}
 use Rattle.guarded_memory.specs.Laws.{is_admitted}
 use Rattle.guarded_memory.specs.Statuses.{is_open_range, is_config_unlocked}
 use Rattle.law_locks.specs.Fronts.{AtPairs}
-use Rattle.run_verdicts.specs.declared.verdict.BlockCause.TheVariants.{Full}
-use Rattle.run_verdicts.specs.declared.verdict.Effect.TheVariants.{Queued, Blocked, Waiting}
+use Rattle.event_verdicts.specs.declared.verdict.BlockCause.TheVariants.{Full}
+use Rattle.event_verdicts.specs.declared.verdict.Effect.TheVariants.{Queued, Blocked, Waiting}
 
 -- ---- reads
 

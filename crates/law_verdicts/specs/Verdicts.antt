@@ -15,10 +15,10 @@ use Rattle.spec_links.specs.Hops.{has_hop}
 use Rattle.spec_links.specs.History.{has_failed, arrival_of_event, packet_by_number, sealed_packets}
 use Rattle.spec_keys.specs.Places.{is_host}
 use Rattle.law_locks.specs.Fronts.{AtPairs}
-use Rattle.run_events.specs.declared.event.Event.TheVariants as event
-use Rattle.run_events.specs.declared.event.InterfaceEvent.TheVariants as ie
-use Rattle.run_events.specs.declared.event.AccessEvent.TheVariants as ae
-use Rattle.run_verdicts.specs.declared.verdict.Verdict.TheVariants as v
+use Rattle.script_events.specs.declared.event.Event.TheVariants as event
+use Rattle.script_events.specs.declared.event.InterfaceEvent.TheVariants as ie
+use Rattle.script_events.specs.declared.event.AccessEvent.TheVariants as ae
+use Rattle.event_verdicts.specs.declared.verdict.Verdict.TheVariants as v
 
 -- ---- failed streams
 

@@ -6,7 +6,7 @@ ghost use Rattle.layer_tests.specs.Copies.{copied_line as copied_of, long_copy, 
 use cli_files::{MemShelf, MemSink, NamedFile};
 use file_runs::{End, Fault, LineWork, run_file};
 use ide_types::{Bytes, OutOfMemory};
-use run_events::{LINE_LIMIT, LineError, LineFault};
+use script_events::{LINE_LIMIT, LineError, LineFault};
 use std::alloc::Global;
 use std::process::Abort;
 use std::test::Fail;

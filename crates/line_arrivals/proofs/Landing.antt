@@ -28,9 +28,9 @@ use Rattle.join_arrivals.specs.{IsBounded, carried_next, same_floors, way_of, se
 use Rattle.join_arrivals.specs.{Pair}
 use Rattle.join_arrivals.specs.Accesses.{statuses_of_ends, Brings, policy_in}
 use Rattle.ide_prefix.specs.Reading.{cut_of}
-use Rattle.run_events.specs.declared.event.Event.{Event}
-use Rattle.run_verdicts.specs.declared.verdict.Verdict.{Verdict}
-use Rattle.run_verdicts.specs.declared.verdict.Verdict.TheVariants as v
+use Rattle.script_events.specs.declared.event.Event.{Event}
+use Rattle.event_verdicts.specs.declared.verdict.Verdict.{Verdict}
+use Rattle.event_verdicts.specs.declared.verdict.Verdict.TheVariants as v
 use Rattle.hop_queues.specs.declared.queue.HopTlp.{HopTlp}
 use Rattle.hop_queues.specs.declared.queues.HopQueues.{HopQueues}
 use Rattle.hop_queues.specs.{all_roomy, queue_of}

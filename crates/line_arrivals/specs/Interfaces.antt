@@ -6,11 +6,11 @@ use Rattle.std.specs.Option.{option_and_then}
 use Rattle.ide_types.specs.declared.register.Register.{Register}
 use Rattle.ide_types.specs.declared.verdict.InterfaceVerdict.TheVariants as iv
 use Rattle.ide_types.specs.RegisterNames.{has_register}
-use Rattle.run_events.specs.declared.event.Loss.{Loss}
-use Rattle.run_events.specs.declared.event.InterfaceEvent.{InterfaceEvent}
-use Rattle.run_events.specs.declared.event.InterfaceEvent.TheVariants as ie
-use Rattle.run_verdicts.specs.declared.verdict.Verdict.{Verdict}
-use Rattle.run_verdicts.specs.declared.verdict.Verdict.TheVariants as verdict
+use Rattle.script_events.specs.declared.event.Loss.{Loss}
+use Rattle.script_events.specs.declared.event.InterfaceEvent.{InterfaceEvent}
+use Rattle.script_events.specs.declared.event.InterfaceEvent.TheVariants as ie
+use Rattle.event_verdicts.specs.declared.verdict.Verdict.{Verdict}
+use Rattle.event_verdicts.specs.declared.verdict.Verdict.TheVariants as verdict
 use Rattle.interface_state.specs.Machine.{Tdi, WriteRegister, LevelReset, FirmwareUpdate}
 use Rattle.interface_ends.specs.Replies.{DeviceTdis}
 use Rattle.interface_host.specs.declared.operation.InterfaceOperation.{InterfaceOperation}

@@ -6,12 +6,12 @@ ghost use Rattle.join_arrivals.specs.{port_on, EndsUnitsAtMost, way_of};
 ghost use Rattle.join_arrivals.specs.Accesses.{AccessesStay, Brings};
 ghost use Rattle.line_arrivals.specs.Landing.{ComesTo, Lands};
 
+use event_verdicts::Verdict;
 use ide_types::{Direction, OutOfMemory, PortName, Side, ValidPlan};
 use interface_ends::InterfaceKeeper;
 use join_arrivals::{AllEnds, bytes_arrive};
 use line_routes::{goes_through, port_of, reached};
 use link_stores::Accesses;
-use run_verdicts::Verdict;
 use std::alloc::Global;
 use trusted_memory::Trusted;
 

@@ -4,10 +4,10 @@ ghost use Rattle.std.specs.Prelude.{◌≡◌};
 ghost use Rattle.join_interfaces.specs.Verdicts.{verdict_of_shown, refused_as, outcome_verdict};
 
 use crate::stream_verdicts::lost_verdict;
+use event_verdicts::Verdict;
 use ide_types::{Bytes, InterfaceVerdict};
 use interface_host::{InterfaceOutcome, InterfaceRefusal, InterfaceResult};
-use run_events::Loss;
-use run_verdicts::Verdict;
+use script_events::Loss;
 
 fn of_interface(verdict: InterfaceVerdict) -> Verdict
     ensures { result ≡ Verdict.Interface verdict }

@@ -8,10 +8,10 @@ ghost use Rattle.key_host.specs.Walk.{shown_verdict as verdict_shown, key_refusa
 ghost use Rattle.key_host.specs.Walk.{verdict_of};
 
 use all_ends::lost_at;
+use event_verdicts::{Operation, Verdict};
 use ide_types::LineKind;
 use key_host::{NamedOperation, StreamOutcome, StreamRefusal, StreamResult};
-use run_events::{Loss, Lost};
-use run_verdicts::{Operation, Verdict};
+use script_events::{Loss, Lost};
 
 /// An operation on a stream of a line.
 pub fn named_op(operation: Operation, line: u8, stream: u8) -> NamedOperation

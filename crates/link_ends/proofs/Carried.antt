@@ -11,7 +11,7 @@ use Rattle.link_ends.proofs.Terms.{judged_bytes, Found, DeviceEnd, asked_device,
 use Rattle.link_ends.proofs.Terms.{Pool, KeeperView, HasStream, IsAtBothEnds, DiffersInStream, IsExchanged, ap, subst}
 use Rattle.key_slots.specs.{is_one}
 use Rattle.ide_types.specs.Lines.{is_hosted}
-use Rattle.run_events.specs.declared.event.Lost.{Lost}
+use Rattle.script_events.specs.declared.event.Lost.{Lost}
 use Rattle.key_host.specs.declared.judge.Judged.TheVariants.{Lost as NotCarried}
 use Rattle.ide_types.proofs.Places.{read_set, set_again}
 use Rattle.link_ends.proofs.Ports.{AllAt, PortMoves, all_there, goes_at}

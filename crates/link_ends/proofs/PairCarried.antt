@@ -15,7 +15,7 @@ use Rattle.ide_types.specs.declared.direction.Direction.{Direction}
 use Rattle.ide_types.specs.declared.direction.Direction.TheVariants.{Downstream, Upstream}
 use Rattle.ide_types.specs.declared.port.Side.TheVariants.{Host, Device}
 use Rattle.key_messages.specs.Objects as objects
-use Rattle.run_events.specs.declared.event.Lost.{Lost}
+use Rattle.script_events.specs.declared.event.Lost.{Lost}
 use Rattle.key_host.specs.Streams.{wire_asked, end_asked, has_host}
 use Rattle.key_host.specs.declared.exchange.Exchange.TheVariants as exchange
 use Rattle.join_keys.specs.Paired.{PairEnds as PairStreams, PairExchanged, pair_exchanged, pair_after, came_to_end}

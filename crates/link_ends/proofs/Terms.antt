@@ -15,8 +15,8 @@ pub use Rattle.link_ends.specs.Keepers.{Exchanges, HasStream, IsExchanged, IsAtB
 pub use Rattle.link_ends.specs.Keepers.{KeeperView, KeysAlone, DiffersInStream, Walks, ends_found}
 pub use Rattle.spec_keys.specs.Due.{lost_message}
 pub use Rattle.link_ends.specs.declared.ends.LinkEnds.{LinkEnds}
-pub use Rattle.run_events.specs.declared.event.Loss.{Loss}
-pub use Rattle.run_verdicts.specs.declared.verdict.Operation.{Operation}
+pub use Rattle.script_events.specs.declared.event.Loss.{Loss}
+pub use Rattle.event_verdicts.specs.declared.verdict.Operation.{Operation}
 pub use Rattle.join_keys.specs.Walks.{Exchanged, StreamEnds, WalkedEnds, begun_ends, came_to, ends_after_exchange}
 pub use Rattle.join_keys.specs.Walks.{event_walk, exchange_outcome, goes_on, judged_bytes, exchange_if_lost}
 pub use Rattle.join_keys.specs.Walks.{port_called, shown_stream, exchanged_unless_lost, walk_on, walked_ends_unless}

@@ -4,7 +4,7 @@ use Rattle.ide_types.specs.declared.status.StreamStatus.{StreamStatus}
 use Rattle.interface_host.specs.declared.operation.InterfaceOperation.TheVariants.{Bind, Unbind}
 use Rattle.key_host.specs.Managers.{ManagerView, named_stream, status_named}
 use Rattle.link_ends.specs.Keepers.{KeeperView}
-use Rattle.run_events.specs.declared.event.Loss.{Loss}
+use Rattle.script_events.specs.declared.event.Loss.{Loss}
 use Rattle.key_host.specs.declared.operation.NamedOperation.{NamedOperation}
 use Rattle.key_host.specs.declared.operation.NamedOperation.TheVariants.{Establish, Refresh, Stop}
 use Rattle.key_host.specs.declared.operation.StreamOutcome.{StreamOutcome}

@@ -2,7 +2,7 @@
 -- changes.
 use Rattle.std.specs.Prelude.{ℕ, ◌≡◌, ◌<◌, length, slice_set, Option, Some, true}
 use Rattle.ide_types.specs.declared.port.Side.TheVariants.{Host, Device}
-use Rattle.run_events.specs.declared.event.Loss.{Loss}
+use Rattle.script_events.specs.declared.event.Loss.{Loss}
 use Rattle.key_slots.specs.{Pool}
 use Rattle.spec_stream.specs.Stream.{StreamState}
 use Rattle.key_host.specs.declared.operation.NamedOperation.{NamedOperation}

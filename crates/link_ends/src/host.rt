@@ -22,7 +22,7 @@ use ide_types::{FIRST_PEER_LINE, OutOfMemory, PortName, StreamStatus, ValidPlan}
 use interface_ends::{InterfaceKeeper, StreamSaid};
 use interface_host::InterfaceOperation;
 use key_host::{NamedOperation, StreamOutcome, StreamResult};
-use run_events::Loss;
+use script_events::Loss;
 use std::alloc::Global;
 
 /// The host's manager of all lines: of keys, and of device interfaces (PCI Express Base 6.0 section 6.33 and chapter

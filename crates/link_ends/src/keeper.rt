@@ -22,7 +22,7 @@ use crate::{Device, PairEnds};
 use ide_types::{OutOfMemory, PortName, StreamStatus, ValidPlan};
 use key_host::{ExchangeReply, Manager, NamedOperation, StageFacts, StreamOutcome};
 use key_slots::KeyPool;
-use run_events::{Loss, Lost};
+use script_events::{Loss, Lost};
 use std::alloc::Global;
 use std::marker::Model;
 

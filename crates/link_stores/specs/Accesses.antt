@@ -3,7 +3,7 @@ use Rattle.std.specs.Prelude.{ℕ, ◌+◌, Bool, false, if◌then◌else◌, Li
 use Rattle.std.specs.Prelude.{Option, Some, None}
 use Rattle.ide_types.specs.declared.interface.InterfacePlan.{InterfacePlan}
 use Rattle.ide_types.specs.declared.plan.LinkPlan.{LinkPlan}
-use Rattle.run_verdicts.specs.declared.verdict.Effect.{Effect}
+use Rattle.event_verdicts.specs.declared.verdict.Effect.{Effect}
 use Rattle.tlp_layout.specs.declared.head.HeadView.{HeadView}
 use Rattle.interface_state.specs.Machine.{Tdi}
 use Rattle.interface_ends.specs.Replies.{DeviceTdis}

@@ -10,11 +10,11 @@ ghost use Rattle.link_stores.specs.Accesses.{new_link_accesses, reads_after, tru
 ghost use Rattle.link_stores.specs.Accesses.{without_tlps};
 
 use crate::floors::Floors;
+use event_verdicts::{Effect, UnitName};
 use guarded_memory::{Claim, Guarded, InterfaceStatus, Statuses, claim_of};
 use hop_queues::HopQueues;
 use ide_types::{InterfacePlan, OutOfMemory};
 use interface_ends::DeviceInterfaces;
-use run_verdicts::{Effect, UnitName};
 use std::alloc::Global;
 use tlp_layout::{HeadView, TlpView};
 use trusted_memory::{Grant, MemReadView, Reads, Span, Trusted};

@@ -9,14 +9,14 @@ use Rattle.machine_operations.proofs.Terms.{Operation, Plan, ports_of, quiet, re
 use Rattle.machine_operations.proofs.Terms.{refresh_on, Reset, reset_state, Side, slice_index_or, PortsStandFor, Status}
 use Rattle.machine_operations.proofs.Terms.{machine_status, status_found, step_of, Stepped, Steps, StepStands, Stop}
 use Rattle.machine_operations.proofs.Terms.{stop_found, stop_on, stream_plan, streams_of, Verdict, work_done, work_of}
-use Rattle.run_events.specs.declared.event.Event.TheVariants.{Interface, Access, Absent}
-use Rattle.run_events.specs.declared.event.AccessEvent.TheVariants as ae
+use Rattle.script_events.specs.declared.event.Event.TheVariants.{Interface, Access, Absent}
+use Rattle.script_events.specs.declared.event.AccessEvent.TheVariants as ae
 use Rattle.machine_ports.specs.{mmio_due}
-use Rattle.run_events.specs.declared.event.InterfaceEvent.{InterfaceEvent}
+use Rattle.script_events.specs.declared.event.InterfaceEvent.{InterfaceEvent}
 use Rattle.machine_ports.proofs.{interface_due_quiet, mmio_quiet}
 use Rattle.machine_ports.specs.Stands.{beside_at}
-use Rattle.run_verdicts.specs.declared.verdict.Operation.TheVariants as op
-use Rattle.run_verdicts.specs.declared.verdict.Verdict.TheVariants as v
+use Rattle.event_verdicts.specs.declared.verdict.Operation.TheVariants as op
+use Rattle.event_verdicts.specs.declared.verdict.Verdict.TheVariants as v
 use Rattle.machine_ports.proofs.Steps.{none_status, packets_stand}
 use Rattle.machine_operations.proofs.Operates.{event_of_operation, asked_work}
 use Rattle.machine_operations.proofs.Kept.{Kept, step_kept}

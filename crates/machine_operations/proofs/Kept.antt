@@ -1,10 +1,10 @@
 -- A send, an answer to a read or an arrival leaves the manager's operations and the draws.
 use Rattle.machine_ports.specs.Machine.{BesidePorts, port_at, sealing_draw_at, stepped_completion, stepped_reply}
 use Rattle.machine_ports.specs.Machine.{stepped_forward}
-use Rattle.run_events.specs.declared.event.Event.TheVariants.{Forward, Access}
+use Rattle.script_events.specs.declared.event.Event.TheVariants.{Forward, Access}
 use Rattle.machine_ports.specs.{HopTlp, leaving_end, may_send, outgoing_at, arrival_at}
 use Rattle.machine_ports.specs.Replies.{BoundCompletion}
-use Rattle.run_events.specs.declared.event.AccessEvent.TheVariants as ae
+use Rattle.script_events.specs.declared.event.AccessEvent.TheVariants as ae
 use Rattle.ide_types.specs.declared.verdict.InterfaceVerdict.TheVariants as iv
 use Rattle.ide_types.specs.declared.port.Side.TheVariants.{Host}
 use Rattle.ide_types.specs.declared.sub.SubKind.TheVariants.{Cpl}
@@ -16,8 +16,8 @@ use Rattle.machine_operations.proofs.Terms.{stepped_send, streams_of, Sending, s
 use Rattle.std.specs.Prelude.{unwrap_or}
 use Rattle.spec_keys.specs.Keys.{is_some_below}
 unfoldable use Rattle.machine_ports.specs.{sealing_end}
-use Rattle.run_verdicts.specs.declared.verdict.Verdict.TheVariants as v
-use Rattle.run_verdicts.specs.declared.verdict.SealedPacket.{SealedPacket}
+use Rattle.event_verdicts.specs.declared.verdict.Verdict.TheVariants as v
+use Rattle.event_verdicts.specs.declared.verdict.SealedPacket.{SealedPacket}
 use Rattle.tlp_layout.specs.Class.{class_of}
 use Rattle.tlp_layout.specs.Tlp.{header}
 use Rattle.tlp_layout.specs.declared.tlp.Tlp.{Tlp}

@@ -17,7 +17,7 @@ use Rattle.machine_operations.proofs.Terms.{sealed_packets, sealed_same, Side, s
 use Rattle.machine_operations.proofs.Terms.{StopTouch, SubKind, SubStream, total_in, Touch, touches, units_since}
 use Rattle.machine_operations.proofs.Terms.{draws_used, Verdict, with_key, Work, work_of, work_touches, is_some}
 use Rattle.machine_operations.proofs.Terms.{refuses}
-use Rattle.run_verdicts.specs.declared.verdict.Operation.TheVariants as op
+use Rattle.event_verdicts.specs.declared.verdict.Operation.TheVariants as op
 use Rattle.ide_prefix.specs.Packet.{Packet}
 use Rattle.spec_keys.specs.Keys.{refusal_if}
 use Rattle.spec_keys.proofs.Whole.{fits, next_fits}

@@ -16,7 +16,7 @@ use Rattle.machine_operations.proofs.Terms.{reset_state, rx_slots, sealed_packet
 use Rattle.machine_operations.proofs.Terms.{slice_index_or, stream_state_due, state_due_if_planned, PortsStandFor}
 use Rattle.machine_operations.proofs.Terms.{stream_plan, streams_by_line, streams_of, StreamState, SubKind}
 use Rattle.machine_operations.proofs.Terms.{total_in, tx_slots, units_since, with_id, within, place_in_sub_stream}
-use Rattle.run_verdicts.specs.declared.verdict.Verdict.TheVariants as v
+use Rattle.event_verdicts.specs.declared.verdict.Verdict.TheVariants as v
 use Rattle.ide_types.specs.declared.stream.StreamPlan.{StreamPlan}
 use Rattle.machine_operations.proofs.Worked.{Still, StillAt, untouched, still_stands, still_standing}
 use Rattle.machine_ports.specs.Machine.{row_cleared, rows_cleared, all_rows_cleared, op_when_cut, all_cut}

@@ -36,8 +36,8 @@ unfoldable pub use Rattle.spec_keys.specs.Keys.{is_open, keys}
 pub use Rattle.spec_keys.specs.Operations.{Begun, Idle, Manager, StreamStage, Reach, Work, makes_draw, op_after_reach}
 pub use Rattle.spec_keys.specs.Operations.{manager_after_operation as operated_manager, reach_of, work_of}
 pub use Rattle.spec_keys.specs.Places.{KeyPlace, is_on_stream, sent_direction}
-pub use Rattle.run_events.specs.declared.event.Event.TheVariants.{Establish, Refresh, Reset, Stop}
-pub use Rattle.run_events.specs.declared.event.Loss.{Loss}
+pub use Rattle.script_events.specs.declared.event.Event.TheVariants.{Establish, Refresh, Reset, Stop}
+pub use Rattle.script_events.specs.declared.event.Loss.{Loss}
 pub use Rattle.machine_ports.specs.{place_in_sub_stream, key_plan, with_id}
 unfoldable pub use Rattle.machine_ports.specs.{port_keys, posted_since_last, sub_stream_packets, streams_by_line}
 unfoldable pub use Rattle.machine_ports.specs.{stream_plan}
@@ -58,7 +58,7 @@ pub use Rattle.machine_ports.specs.Stream.{any_live, has_all_live, has_some_live
 pub use Rattle.machine_ports.specs.Stream.{rested_stream, slots_at}
 pub use Rattle.machine_ports.specs.Touches.{slot_touched, slots_touched, taken_touches, touched_stream}
 pub use Rattle.machine_ports.specs.Stands.{FirstStands, PortsStandFor, StepStands, op_at, receiving_key}
-pub use Rattle.run_verdicts.specs.declared.verdict.Operation.{Operation}
+pub use Rattle.event_verdicts.specs.declared.verdict.Operation.{Operation}
 pub use Rattle.machine_operations.specs.Operations.{AllowedIn, AllowedOut, IsOperation, key_touched_in, key_touched_out}
 pub use Rattle.machine_operations.specs.Operations.{LeadTo, Operated, OperationStands, OperationSteps, busy_in}
 pub use Rattle.std.specs.List.{slice_index_or}

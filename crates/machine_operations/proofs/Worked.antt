@@ -11,7 +11,7 @@ use Rattle.machine_operations.proofs.Terms.{PortView, posted_since_last, posted_
 use Rattle.machine_operations.proofs.Terms.{Reach, reach_of, rx_slots, rx_slots_same, sealed_same, since_same}
 use Rattle.machine_operations.proofs.Terms.{stream_state_due, StreamState, SubKind, SubStream, total_in, touches}
 use Rattle.machine_operations.proofs.Terms.{tx_slots, units_same, units_since, Verdict, Work, work_done}
-use Rattle.run_verdicts.specs.declared.verdict.Operation.TheVariants as op
+use Rattle.event_verdicts.specs.declared.verdict.Operation.TheVariants as op
 use Rattle.machine_ports.proofs.{seat_same}
 use Rattle.ide_types.specs.Lines.{is_hosted}
 use Rattle.machine_operations.proofs.Operations.{takes_nothing, failed_quiet}

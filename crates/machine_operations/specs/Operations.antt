@@ -3,8 +3,8 @@ use Rattle.std.specs.Prelude.{◌≡◌, ℕ, Bool, true, false, not, nat_lt, Li
 use Rattle.ide_types.specs.declared.sub.SubKind.{SubKind}
 use Rattle.ide_types.specs.declared.port.Side.{Side}
 use Rattle.ide_types.specs.declared.port.PortName.{PortName}
-use Rattle.run_events.specs.declared.event.Event.{Event}
-use Rattle.run_verdicts.specs.declared.verdict.Verdict.{Verdict}
+use Rattle.script_events.specs.declared.event.Event.{Event}
+use Rattle.event_verdicts.specs.declared.verdict.Verdict.{Verdict}
 use Rattle.ide_types.specs.declared.plan.Plan.{Plan}
 use Rattle.machine_ports.specs.{SubStream, lane_out, lane_in, open_unit, SealedList, waits, port_keys}
 use Rattle.machine_ports.specs.{sub_stream_packets, sealed_packets, posted_count, has_live_out, has_live_in, total_in}

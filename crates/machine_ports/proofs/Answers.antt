@@ -16,7 +16,7 @@ use Rattle.machine_ports.proofs.Terms.{SubKind, SubStream, sum_by-append, Taken,
 use Rattle.machine_ports.proofs.Terms.{Three, under_keys, next_unit_name, units_got, units_since, Verdict}
 use Rattle.machine_ports.proofs.Terms.{verdict_of_taken}
 use Rattle.ide_types.specs.declared.sub.FailCause.TheVariants as fail
-use Rattle.run_verdicts.specs.declared.verdict.Verdict.TheVariants as v
+use Rattle.event_verdicts.specs.declared.verdict.Verdict.TheVariants as v
 
 pub at_each : {A : Type 0} → (f : SubKind → A) (u : SubKind) → at_sub (each_sub f) u ≡ f u
 at_each f Pr = refl

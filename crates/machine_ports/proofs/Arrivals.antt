@@ -13,7 +13,7 @@ use Rattle.machine_ports.proofs.Terms.{pending_packets, Plan, PortName, PortsSta
 use Rattle.machine_ports.proofs.Terms.{receiving_sub_stream, sealed_same, seals_none, ending_due, stream_state_due}
 use Rattle.machine_ports.proofs.Terms.{state_after, StreamState, stepped_packet, stepped_cut, stepped_arrival, Taken}
 use Rattle.machine_ports.proofs.Terms.{verdict_of_taken}
-use Rattle.run_verdicts.specs.declared.verdict.Verdict.TheVariants as v
+use Rattle.event_verdicts.specs.declared.verdict.Verdict.TheVariants as v
 use Rattle.ide_prefix.specs.declared.fault.PacketFault.{PacketFault}
 use Rattle.ide_prefix.specs.Faults.{packet_place}
 use Rattle.ide_prefix.specs.Reading.{CutValue, PlainTlp, IdePacket, cut_of}

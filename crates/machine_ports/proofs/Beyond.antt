@@ -3,7 +3,7 @@ use Rattle.machine_ports.proofs.Terms.{◌≡◌, ℕ, ◌+◌, ◌<◌, ◌==�
 use Rattle.machine_ports.proofs.Terms.{arrived_packet, CauseLaw, packets_in_hold, held_by, History, is_received_under}
 use Rattle.machine_ports.proofs.Terms.{nat_tests, numbered, Packet, Plan, PortName, received_in, same_stream, SubStream}
 use Rattle.machine_ports.proofs.Terms.{UnitName, units_got}
-use Rattle.run_verdicts.specs.declared.verdict.Verdict.TheVariants as v
+use Rattle.event_verdicts.specs.declared.verdict.Verdict.TheVariants as v
 
 -- what is held is of the next unit
 held_next : (plan : Plan) (h : History) (s : SubStream) (j n : ℕ) (port : PortName) (unit : UnitName) (p : Packet)

@@ -4,9 +4,9 @@ use Rattle.machine_ports.proofs.Terms.{◌≡◌, ℕ, Bool, true, false, List, 
 use Rattle.machine_ports.proofs.Terms.{if◌then◌else◌, History, KeyFacts, LinkState, Plan, PortsStand}
 unfoldable use Rattle.machine_ports.proofs.Terms.{due}
 use Rattle.ide_types.specs.declared.direction.Direction.{Direction}
-use Rattle.run_events.specs.declared.event.Event.TheVariants.{Forward}
-use Rattle.run_verdicts.specs.declared.access.AccessVerdict.TheVariants as av
-use Rattle.run_verdicts.specs.declared.verdict.Verdict.TheVariants as v
+use Rattle.script_events.specs.declared.event.Event.TheVariants.{Forward}
+use Rattle.event_verdicts.specs.declared.access.AccessVerdict.TheVariants as av
+use Rattle.event_verdicts.specs.declared.verdict.Verdict.TheVariants as v
 use Rattle.spec_links.specs.Due.{forward_out, forward_first}
 use Rattle.spec_links.specs.Hops.{HopTlp, has_hop, leaving_end}
 use Rattle.spec_links.specs.Memory.{hop_waiting}

@@ -14,7 +14,7 @@ use Rattle.machine_ports.proofs.Terms.{SealedList, SealedPacket, sent_elsewhere,
 use Rattle.machine_ports.proofs.Terms.{stream_state_due, StreamState, sub_stream_of, SubKind, SubStream}
 use Rattle.machine_ports.proofs.Terms.{total_elsewhere, total_in, tx_slot, tx_slots, tx_state_due, TxSub, UnitName}
 use Rattle.machine_ports.proofs.Terms.{units, units_got, units_since, Verdict, with_sealed}
-use Rattle.run_verdicts.specs.declared.verdict.Verdict.TheVariants as v
+use Rattle.event_verdicts.specs.declared.verdict.Verdict.TheVariants as v
 use Rattle.spec_links.specs.History.{sent_bytes}
 use Rattle.law_key_facts.proofs.Failures.{failed_next}
 

@@ -11,15 +11,15 @@ use Rattle.ide_types.specs.declared.binding.Binding.{Binding}
 use Rattle.ide_types.specs.declared.port.Side.TheVariants.{Host}
 use Rattle.tlp_layout.specs.Outgoing.{Outgoing, NoTlp, OnNone, OnStream, outgoing_of, stream_taken}
 use Rattle.spec_links.specs.{Site, site_of_requester, grant_at, granted_to, WaitingRead}
-use Rattle.run_events.specs.declared.event.AccessEvent.TheVariants as ae
-use Rattle.run_events.specs.declared.event.Event.TheVariants.{Access}
+use Rattle.script_events.specs.declared.event.AccessEvent.TheVariants as ae
+use Rattle.script_events.specs.declared.event.Event.TheVariants.{Access}
 use Rattle.ide_types.specs.declared.verdict.InterfaceVerdict.TheVariants as iv
-use Rattle.run_verdicts.specs.declared.access.AccessVerdict.TheVariants as av
-use Rattle.run_verdicts.specs.declared.verdict.BlockCause.{BlockCause}
-use Rattle.run_verdicts.specs.declared.verdict.BlockCause.TheVariants as cause
-use Rattle.run_verdicts.specs.Causes.{is_stream, binding_cause}
-use Rattle.run_verdicts.proofs.Admits.{binding_admits}
-use Rattle.run_verdicts.specs.declared.verdict.Verdict.TheVariants as v
+use Rattle.event_verdicts.specs.declared.access.AccessVerdict.TheVariants as av
+use Rattle.event_verdicts.specs.declared.verdict.BlockCause.{BlockCause}
+use Rattle.event_verdicts.specs.declared.verdict.BlockCause.TheVariants as cause
+use Rattle.event_verdicts.specs.Causes.{is_stream, binding_cause}
+use Rattle.event_verdicts.proofs.Admits.{binding_admits}
+use Rattle.event_verdicts.specs.declared.verdict.Verdict.TheVariants as v
 use Rattle.spec_links.specs.Plan.{has_link}
 use Rattle.spec_links.specs.History.{sent_bytes}
 use Rattle.spec_links.specs.Memory.{waiting_reads}

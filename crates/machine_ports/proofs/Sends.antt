@@ -6,7 +6,7 @@ use Rattle.machine_ports.specs.Stands.{beside_at, is_of_packets}
 use Rattle.machine_ports.specs.Machine.{Stepped, stepped_bytes}
 use Rattle.spec_links.specs.History.{sent_bytes}
 unfoldable use Rattle.spec_links.specs.Sent.{bytes_by}
-use Rattle.run_events.specs.declared.event.Event.{Event}
+use Rattle.script_events.specs.declared.event.Event.{Event}
 unfoldable use Rattle.spec_links.specs.Due.{t_sealed}
 use Rattle.spec_links.specs.Ports.{may_send, outgoing_at}
 unfoldable use Rattle.spec_links.specs.Ports.{port_of, sealing_end}
@@ -26,7 +26,7 @@ use Rattle.machine_ports.proofs.Terms.{sealed_by_is, sealed_packets, SealedList,
 use Rattle.machine_ports.proofs.Terms.{stepped_send, streams_of, Sending, verdict_of_send, stream_state_due}
 use Rattle.machine_ports.proofs.Terms.{StreamState, SubKind, Three, Tlp, tlp_word, total_in, tx_slots, TxSub, Verdict}
 use Rattle.machine_ports.proofs.Terms.{with_sealed}
-use Rattle.run_verdicts.specs.declared.verdict.Verdict.TheVariants as v
+use Rattle.event_verdicts.specs.declared.verdict.Verdict.TheVariants as v
 use Rattle.tlp_layout.specs.Class.{class_of}
 use Rattle.tlp_layout.specs.Faults.{place_in}
 use Rattle.tlp_layout.specs.Outgoing.{Outgoing, NoTlp, OnNone, OnStream, outgoing_of}

@@ -9,15 +9,15 @@ use Rattle.machine_ports.proofs.Terms.{IsNoOperation, KeyFacts, LinkPacket, Link
 use Rattle.machine_ports.proofs.Terms.{packet_numbered, PacketsStand, Pass, whole_arrival, Plan, PortName, PortsStand}
 use Rattle.machine_ports.proofs.Terms.{quiet_test, sealed_packets, Send, shortened_arrival, packet_verdict}
 use Rattle.machine_ports.proofs.Terms.{stepped_arrival, Status, step_of}
-use Rattle.run_verdicts.specs.declared.verdict.Verdict.TheVariants as v
+use Rattle.event_verdicts.specs.declared.verdict.Verdict.TheVariants as v
 use Rattle.machine_ports.proofs.Changes.{Steps, none_of_packets, quiet}
 use Rattle.machine_ports.proofs.Numbers.{of_numbered}
 use Rattle.machine_ports.proofs.Arrivals.{arrives}
 use Rattle.machine_ports.proofs.Sends.{sends}
 use Rattle.machine_ports.proofs.Replies.{replies}
 use Rattle.machine_ports.proofs.Forwards.{forwards}
-use Rattle.run_events.specs.declared.event.Event.TheVariants.{Access, Forward}
-use Rattle.run_events.specs.declared.event.AccessEvent.TheVariants as ae
+use Rattle.script_events.specs.declared.event.Event.TheVariants.{Access, Forward}
+use Rattle.script_events.specs.declared.event.AccessEvent.TheVariants as ae
 
 pub none_status : (l s : ℕ) → IsNoOperation (Status l s)
 unfolding operates

@@ -15,9 +15,9 @@ use Rattle.machine_ports.proofs.Terms.{Pr, receiving_sub_stream, slot_unless_old
 use Rattle.machine_ports.proofs.Terms.{RxSub, set_sub, slot_in_set, stream_state_due, state_after, sub_bits, SubKind}
 use Rattle.machine_ports.proofs.Terms.{SubStream, sum_by-append, unit_name, UnitName, units_got, units_since}
 use Rattle.machine_ports.proofs.Terms.{unless_below, Verdict, with_slot}
-use Rattle.run_verdicts.specs.declared.verdict.Verdict.TheVariants as v
+use Rattle.event_verdicts.specs.declared.verdict.Verdict.TheVariants as v
 use Rattle.ide_types.specs.declared.sub.FailCause.{FailCause}
-use Rattle.run_verdicts.specs.declared.verdict.Effect.{Effect}
+use Rattle.event_verdicts.specs.declared.verdict.Effect.{Effect}
 use Rattle.machine_ports.proofs.Frames.{seals_at, accepts_in, holds_in, each_same, rx_is, slots_is, stream_is, tx_frame}
 use Rattle.machine_ports.proofs.Frames.{rx_frame, rx_with, rx_slot_same, units_same, held_same, live_in, failed_more}
 use Rattle.machine_ports.proofs.Frames.{failed_same}

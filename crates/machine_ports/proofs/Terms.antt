@@ -15,8 +15,8 @@ pub use Rattle.spec_keys.specs.History.{History, base}
 unfoldable pub use Rattle.spec_keys.specs.History.{failed_there}
 pub use Rattle.spec_keys.specs.Keys.{Keyed, Keys, Loaded, Off, On, is_on, key_in, on_in, unless_below}
 pub use Rattle.spec_keys.specs.Places.{is_same_sub}
-pub use Rattle.run_events.specs.declared.event.Event.{Event}
-pub use Rattle.run_events.specs.declared.event.Event.TheVariants.{Alter, Arrive, Cut, Dump, Pass, Send, Status}
+pub use Rattle.script_events.specs.declared.event.Event.{Event}
+pub use Rattle.script_events.specs.declared.event.Event.TheVariants.{Alter, Arrive, Cut, Dump, Pass, Send, Status}
 pub use Rattle.spec_links.proofs.Causes.{Came, held_by, numbered, packet_that_came}
 pub use Rattle.spec_links.proofs.Sealed.{any_out, is_out, not_here, posted-more, posted-own, posted-same}
 pub use Rattle.spec_links.proofs.Sealed.{posted_elsewhere, sent-same, sent_elsewhere, sub_stream_packets-snoc}
@@ -66,9 +66,9 @@ pub use Rattle.machine_ports.specs.Stream.{each_sub, ended_slots, gone_on, held_
 pub use Rattle.machine_ports.specs.Stream.{lane_of, lanes_of, live_in, live_sender, packet_under, posted_sum}
 pub use Rattle.machine_ports.specs.Stream.{slot_unless_older, sealed_all, sealed_slots, sealed_sub, set_sub}
 pub use Rattle.machine_ports.specs.Stream.{slot_in_set, state_after, stream_outcome, stream_outcome_by_keys, with_slot}
-pub use Rattle.run_verdicts.specs.declared.verdict.SealedPacket.{SealedPacket}
-pub use Rattle.run_verdicts.specs.declared.verdict.UnitName.{UnitName}
-pub use Rattle.run_verdicts.specs.declared.verdict.Verdict.{Verdict}
+pub use Rattle.event_verdicts.specs.declared.verdict.SealedPacket.{SealedPacket}
+pub use Rattle.event_verdicts.specs.declared.verdict.UnitName.{UnitName}
+pub use Rattle.event_verdicts.specs.declared.verdict.Verdict.{Verdict}
 pub use Rattle.std.proofs.lemmas.Bool.Decides.{nat_tests}
 pub use Rattle.std.proofs.lemmas.List.{append-nil, get_or-set_other, get_or-set_same, get_or_past, length-map}
 pub use Rattle.std.proofs.lemmas.List.{map-append, set_past}

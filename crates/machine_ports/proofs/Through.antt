@@ -5,7 +5,7 @@ use Rattle.machine_ports.proofs.Terms.{Packet, has_port, packet_numbered, whole_
 use Rattle.machine_ports.proofs.Terms.{StreamState, stepped_arrival, step_of, Pass, Alter, Cut, Arrive}
 use Rattle.ide_prefix.specs.declared.fault.PacketFault.{PacketFault}
 use Rattle.ide_prefix.specs.Reading.{CutValue, PlainTlp, IdePacket, cut_of}
-use Rattle.run_verdicts.specs.declared.verdict.Verdict.TheVariants as v
+use Rattle.event_verdicts.specs.declared.verdict.Verdict.TheVariants as v
 use Rattle.spec_links.specs.Due.{through_due}
 unfoldable use Rattle.spec_links.specs.Ports.{goes_through}
 use Rattle.spec_links.specs.Packets.{arrival_at}

@@ -2,9 +2,9 @@
 use Rattle.std.specs.Prelude.{ℕ, if◌then◌else◌, List, [], ◌∷◌, Result, Ok, Err}
 use Rattle.ide_types.specs.declared.plan.Plan.{Plan}
 use Rattle.spec_links.specs.Hops.{HopTlp, has_hop}
-use Rattle.run_verdicts.specs.declared.access.AccessVerdict.TheVariants as av
-use Rattle.run_verdicts.specs.declared.verdict.Verdict.{Verdict}
-use Rattle.run_verdicts.specs.declared.verdict.Verdict.TheVariants as v
+use Rattle.event_verdicts.specs.declared.access.AccessVerdict.TheVariants as av
+use Rattle.event_verdicts.specs.declared.verdict.Verdict.{Verdict}
+use Rattle.event_verdicts.specs.declared.verdict.Verdict.TheVariants as v
 
 abbrev pub first_waiting : ℕ → List HopTlp → Result HopTlp Verdict
 first_waiting link [] = Err (v.Access (av.Empty link))

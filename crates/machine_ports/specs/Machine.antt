@@ -6,14 +6,31 @@ use Rattle.std.specs.List.{slice_index_or}
 use Rattle.std.specs.Option.{option_and_then}
 use Rattle.spec_stream.specs.Stream.{unit_name}
 use Rattle.ide_types.specs.declared.port.PortName.{PortName}
-use Rattle.run_events.specs.declared.event.Event.TheVariants.{Send, Pass, Alter, Cut, Arrive, Dump, Establish, Refresh}
-use Rattle.run_events.specs.declared.event.Event.TheVariants.{Stop, Reset, Status, Interface, Access, Forward, Absent}
-use Rattle.run_events.specs.declared.event.AccessEvent.TheVariants as ae
+use Rattle.script_events.specs.declared.event.Event.TheVariants.{
+  Send,
+  Pass,
+  Alter,
+  Cut,
+  Arrive,
+  Dump,
+  Establish,
+  Refresh,
+}
+use Rattle.script_events.specs.declared.event.Event.TheVariants.{
+  Stop,
+  Reset,
+  Status,
+  Interface,
+  Access,
+  Forward,
+  Absent,
+}
+use Rattle.script_events.specs.declared.event.AccessEvent.TheVariants as ae
 use Rattle.ide_types.specs.declared.verdict.InterfaceVerdict.TheVariants as iv
-use Rattle.run_verdicts.specs.declared.verdict.Verdict.{Verdict}
-use Rattle.run_verdicts.specs.declared.verdict.Verdict.TheVariants as v
-use Rattle.run_verdicts.specs.declared.verdict.SealedPacket.{SealedPacket}
-use Rattle.run_verdicts.specs.declared.verdict.UnitName.{UnitName}
+use Rattle.event_verdicts.specs.declared.verdict.Verdict.{Verdict}
+use Rattle.event_verdicts.specs.declared.verdict.Verdict.TheVariants as v
+use Rattle.event_verdicts.specs.declared.verdict.SealedPacket.{SealedPacket}
+use Rattle.event_verdicts.specs.declared.verdict.UnitName.{UnitName}
 use Rattle.tlp_layout.specs.declared.tlp.Tlp.{Tlp}
 use Rattle.tlp_layout.specs.Class.{class_of}
 use Rattle.tlp_layout.specs.Faults.{place_in}
@@ -29,9 +46,9 @@ use Rattle.ide_types.specs.declared.port.Side.{Side}
 use Rattle.ide_types.specs.declared.port.Side.TheVariants.{Host, Device}
 use Rattle.ide_types.specs.declared.sub.SubKind.{SubKind}
 use Rattle.ide_types.specs.declared.sub.SubKind.TheVariants.{Cpl}
-use Rattle.run_events.specs.declared.event.Loss.{Loss}
-use Rattle.run_verdicts.specs.declared.verdict.Operation.{Operation}
-use Rattle.run_verdicts.specs.declared.verdict.Operation.TheVariants as op
+use Rattle.script_events.specs.declared.event.Loss.{Loss}
+use Rattle.event_verdicts.specs.declared.verdict.Operation.{Operation}
+use Rattle.event_verdicts.specs.declared.verdict.Operation.TheVariants as op
 use Rattle.ide_types.specs.declared.status.StreamStatus.{StreamStatus}
 use Rattle.ide_types.specs.declared.status.StreamStatus.TheVariants as status
 use Rattle.spec_keys.specs.Places.{KeyPlace, is_between_devices, sent_direction}
@@ -49,8 +66,8 @@ use Rattle.spec_links.specs.Packets.{arrival_at}
 use Rattle.ide_types.specs.declared.plan.Plan.{Plan}
 use Rattle.ide_types.specs.declared.stream.StreamPlan.{StreamPlan}
 use Rattle.tlp_layout.specs.declared.head.HeadView.{HeadView}
-use Rattle.run_verdicts.specs.declared.verdict.Effect.{Effect}
-use Rattle.run_events.specs.declared.event.InterfaceEvent.{InterfaceEvent}
+use Rattle.event_verdicts.specs.declared.verdict.Effect.{Effect}
+use Rattle.script_events.specs.declared.event.InterfaceEvent.{InterfaceEvent}
 use Rattle.spec_links.specs.Due.{Sending, refusals, sealed_with_syncs, first_that_holds, through_due}
 use Rattle.spec_links.specs.History.{Arrival}
 use Rattle.ide_types.specs.declared.direction.Direction.{Direction}
@@ -60,7 +77,7 @@ use Rattle.machine_ports.specs.Stream.{LaneSlot, LaneSlots, slot_in_set, LiveKey
 use Rattle.machine_ports.specs.Stream.{is_live_slot, slots_at, stream_status, no_stream, sealing_draw, receiving_draw}
 use Rattle.machine_ports.specs.Stream.{Taken, Insecure, NotKeyed, Failed, Held, Accepted, lanes_of, sealed_all}
 use Rattle.machine_ports.specs.Stream.{stream_outcome, state_after}
-use Rattle.run_events.specs.declared.event.Event.{Event}
+use Rattle.script_events.specs.declared.event.Event.{Event}
 
 -- a sealed packet: the end that sealed it, and its bytes
 pub record LinkPacket : Type 0 where

@@ -5,9 +5,9 @@ use Rattle.ide_types.specs.declared.port.Side.TheVariants.{Host}
 use Rattle.ide_types.specs.declared.plan.Plan.{Plan}
 use Rattle.tlp_layout.specs.Outgoing.{outgoing_of, stream_taken}
 use Rattle.spec_links.specs.{Site, site_of_requester, WaitingRead}
-use Rattle.run_verdicts.specs.declared.access.AccessVerdict.TheVariants as av
-use Rattle.run_verdicts.specs.declared.verdict.Verdict.{Verdict}
-use Rattle.run_verdicts.specs.declared.verdict.Verdict.TheVariants as v
+use Rattle.event_verdicts.specs.declared.access.AccessVerdict.TheVariants as av
+use Rattle.event_verdicts.specs.declared.verdict.Verdict.{Verdict}
+use Rattle.event_verdicts.specs.declared.verdict.Verdict.TheVariants as v
 use Rattle.spec_links.specs.Admission.{Grants}
 use Rattle.spec_links.specs.Due.{judged_bound}
 use Rattle.spec_links.specs.Plan.{has_link, streams_of}

@@ -2,9 +2,9 @@
 use Rattle.std.specs.Prelude.{ℕ, ◌≡◌, Bool, true, false, List, [], ◌∷◌, length, map, Option, Some, None, is_some}
 use Rattle.std.specs.Prelude.{if◌then◌else◌}
 use Rattle.ide_types.specs.declared.port.PortName.{PortName}
-use Rattle.run_events.specs.declared.event.Event.{Event}
-use Rattle.run_events.specs.declared.event.Event.TheVariants as event
-use Rattle.run_verdicts.specs.declared.verdict.SealedPacket.{SealedPacket}
+use Rattle.script_events.specs.declared.event.Event.{Event}
+use Rattle.script_events.specs.declared.event.Event.TheVariants as event
+use Rattle.event_verdicts.specs.declared.verdict.SealedPacket.{SealedPacket}
 use Rattle.ide_prefix.specs.Packet.{Packet}
 use Rattle.ide_types.specs.declared.plan.Plan.{Plan}
 use Rattle.spec_links.specs.Plan.{SubStream, lane_out, lane_in, has_stream, stream_plan, key_of}
@@ -19,7 +19,7 @@ unfoldable use Rattle.spec_links.specs.Due.{t_sealed}
 use Rattle.spec_links.specs.Guarded.{mmio_due}
 use Rattle.spec_links.specs.Memory.{waiting_reads, hop_waiting}
 use Rattle.spec_links.specs.{grant_at}
-use Rattle.run_events.specs.declared.event.AccessEvent.TheVariants as ae
+use Rattle.script_events.specs.declared.event.AccessEvent.TheVariants as ae
 use Rattle.machine_ports.specs.Replies.{link_completion}
 use Rattle.machine_ports.specs.Forwards.{forward_of}
 use Rattle.spec_links.specs.Cause.{CauseLaw}

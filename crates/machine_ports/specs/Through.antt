@@ -2,8 +2,8 @@
 use Rattle.std.specs.Prelude.{◌≡◌, true}
 use Rattle.ide_types.specs.declared.port.PortName.{PortName}
 use Rattle.ide_types.specs.declared.plan.Plan.{Plan}
-use Rattle.run_events.specs.declared.event.Event.{Event}
-use Rattle.run_verdicts.specs.declared.verdict.Verdict.TheVariants as v
+use Rattle.script_events.specs.declared.event.Event.{Event}
+use Rattle.event_verdicts.specs.declared.verdict.Verdict.TheVariants as v
 use Rattle.spec_links.specs.HopLaws.{brings_bytes}
 use Rattle.machine_ports.specs.Machine.{BesidePorts, LinkState, step_of}
 

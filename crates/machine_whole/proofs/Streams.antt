@@ -25,11 +25,11 @@ use Rattle.machine_whole.specs.Interfaces.{Streams, Face, Faces, with_each, next
 use Rattle.machine_whole.specs.Interfaces.{asked_state_of_face, asked_due_of, answer_to, interface_answer, find_face}
 use Rattle.spec_interfaces.specs.Sites.{Site, sites}
 use Rattle.spec_interfaces.specs.Views.{Managed, managed_after, view_broken, stream_draw, is_bind_asked, number_in}
-use Rattle.run_events.specs.declared.event.Event.{Event}
-use Rattle.run_events.specs.declared.event.Event.TheVariants as event
-use Rattle.run_verdicts.specs.declared.verdict.Operation.TheVariants as op
-use Rattle.run_verdicts.specs.declared.verdict.Verdict.{Verdict}
-use Rattle.run_verdicts.specs.declared.verdict.Verdict.TheVariants as v
+use Rattle.script_events.specs.declared.event.Event.{Event}
+use Rattle.script_events.specs.declared.event.Event.TheVariants as event
+use Rattle.event_verdicts.specs.declared.verdict.Operation.TheVariants as op
+use Rattle.event_verdicts.specs.declared.verdict.Verdict.{Verdict}
+use Rattle.event_verdicts.specs.declared.verdict.Verdict.TheVariants as v
 use Rattle.machine_whole.specs.Machine.{draw_after, Whole, op_or_idle, machine_secure, live_if, live_draw_at_end}
 use Rattle.machine_whole.specs.Machine.{ends_in, whole_streams}
 use Rattle.machine_operations.proofs.Statuses.{status_is}
@@ -44,8 +44,8 @@ use Rattle.spec_interfaces.specs.Peers.{has_peer, live_at}
 unfoldable use Rattle.spec_interfaces.specs.Peers.{peer_end}
 use Rattle.spec_interfaces.specs.Due.{asked_due, bind_due}
 use Rattle.spec_links.proofs.Ends.{stream_is_there}
-use Rattle.run_events.specs.declared.event.InterfaceEvent.{InterfaceEvent}
-use Rattle.run_events.specs.declared.event.InterfaceEvent.TheVariants as ie
+use Rattle.script_events.specs.declared.event.InterfaceEvent.{InterfaceEvent}
+use Rattle.script_events.specs.declared.event.InterfaceEvent.TheVariants as ie
 use Rattle.std.specs.Option.{option_map_or}
 use Rattle.std.proofs.lemmas.Bool.Decides.{nat_tests}
 

@@ -7,11 +7,11 @@ use Rattle.ide_types.specs.declared.port.Side.{Side}
 use Rattle.ide_types.specs.declared.port.Side.TheVariants.{Host, Device}
 use Rattle.ide_types.specs.declared.plan.Plan.{Plan}
 use Rattle.tlp_layout.specs.declared.head.HeadView.{HeadView}
-use Rattle.run_events.specs.declared.event.Event.{Event}
-use Rattle.run_events.specs.declared.event.Event.TheVariants as event
-use Rattle.run_events.specs.declared.event.InterfaceEvent.{InterfaceEvent}
-use Rattle.run_verdicts.specs.declared.verdict.Verdict.{Verdict}
-use Rattle.run_verdicts.specs.declared.verdict.Verdict.TheVariants as v
+use Rattle.script_events.specs.declared.event.Event.{Event}
+use Rattle.script_events.specs.declared.event.Event.TheVariants as event
+use Rattle.script_events.specs.declared.event.InterfaceEvent.{InterfaceEvent}
+use Rattle.event_verdicts.specs.declared.verdict.Verdict.{Verdict}
+use Rattle.event_verdicts.specs.declared.verdict.Verdict.TheVariants as v
 use Rattle.spec_keys.specs.History.{History, op_of, draws}
 unfoldable use Rattle.spec_interfaces.specs.Views.{stream_draw}
 use Rattle.spec_interfaces.specs.Cause.{is_peer, owner_id, owner_site, t_due}
@@ -37,7 +37,7 @@ unfoldable use Rattle.spec_interfaces.specs.Floors.{device_floor}
 use Rattle.spec_interfaces.specs.Sites.{sites, site_of_requester}
 use Rattle.spec_links.specs.{WaitingRead}
 unfoldable use Rattle.spec_links.specs.{completion_bytes}
-use Rattle.run_events.specs.declared.event.AccessEvent.TheVariants as ae
+use Rattle.script_events.specs.declared.event.AccessEvent.TheVariants as ae
 use Rattle.machine_operations.specs.{site_completion, completion_first, link_completion}
 use Rattle.spec_links.proofs.HopFirst.{drop_first}
 use Rattle.law_reads.proofs.Oldest.{bytes_are}
@@ -46,7 +46,7 @@ use Rattle.trusted_memory.specs.Writes.{Write, newest_first}
 unfoldable use Rattle.trusted_memory.specs.Writes.{byte_last_written}
 use Rattle.trusted_memory.specs.Regions.{in_one_region}
 use Rattle.trusted_memory.specs.Memory.{bytes_from}
-use Rattle.run_events.specs.declared.event.InterfaceEvent.TheVariants as ie
+use Rattle.script_events.specs.declared.event.InterfaceEvent.TheVariants as ie
 use Rattle.machine_operations.specs.{BesidePorts, LinkState, step_of, beside_at, PortsStandFor, forward_of}
 use Rattle.machine_operations.proofs.AllSteps.{steps}
 use Rattle.machine_operations.proofs.Resets.{begins as first}

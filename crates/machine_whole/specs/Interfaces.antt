@@ -8,7 +8,7 @@ use Rattle.spec_interfaces.specs.Sites.{Site, sites, nonce_behind}
 use Rattle.spec_interfaces.specs.Views.{Managed, new_managed, managed_after, number_in, bound_if}
 use Rattle.spec_interfaces.specs.Devices.{Around, next_interface, accepts_lock, one_if, is_run}
 use Rattle.spec_interfaces.specs.Due.{AskedState, asked_due}
-use Rattle.run_verdicts.specs.declared.verdict.Verdict.TheVariants as v
+use Rattle.event_verdicts.specs.declared.verdict.Verdict.TheVariants as v
 
 -- ---- what is kept
 

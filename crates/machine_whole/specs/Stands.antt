@@ -1,7 +1,7 @@
 -- What is kept stands for the whole history.
 use Rattle.std.specs.Prelude.{ℕ, ◌≡◌, ◌∷◌, [], map}
 use Rattle.ide_types.specs.declared.plan.Plan.{Plan}
-use Rattle.run_events.specs.declared.event.Event.{Event}
+use Rattle.script_events.specs.declared.event.Event.{Event}
 use Rattle.spec_keys.specs.History.{History}
 use Rattle.spec_interfaces.specs.Views.{stream_draw}
 use Rattle.machine_whole.specs.InterfacesStand.{FacesStandFor}

@@ -1,229 +1,186 @@
-//! The event of a history that a script's event is.
+//! The events of a history.
 
-ghost use Rattle.std.specs.Prelude.{◌≡◌, ◌<◌, IfSome};
-ghost use Rattle.script_events.specs.Events.{event_of as event_in, establish_event, refresh_event, stop_event};
-ghost use Rattle.script_events.specs.Events.{status_event, send_event, bind_event, unbind_event, forward_event};
-ghost use Rattle.script_events.specs.Events.{arrive_event, reset as reset_of, peer_event_in, hop_event_in};
-ghost use Rattle.script_events.specs.Laws.{EventsAreAllowed};
+use crate::Ends;
+use ide_types::{Bytes, Direction, PortName, Register};
 
-use crate::resets::reset_ends;
-use crate::streams::{bound_stream, has_port, hop_stream, own_stream, peer_stream};
-use ide_types::{Bytes, Direction, Plan, PortName, Side, ValidPlan};
-use run_events::{Event, HopEvent, InterfaceEvent, Loss, PeerEvent, ScriptEvent};
-
-fn establish(stream: Option<(u64, u64)>, lose: Option<Loss>) -> Event
-    ensures { result ≡ establish_event lose stream }
-{
-    match stream {
-        None => Event::Absent,
-        Some((line, stream)) => Event::Establish { line, stream, lose },
-    }
+/// What is lost of an exchange: its request, or its reply (this profile).
+#[derive(Clone, Copy, PartialEq, Eq)]
+pub enum Lost {
+    Request,
+    Reply,
 }
 
-fn refresh(stream: Option<(u64, u64)>, lose: Option<Loss>) -> Event
-    ensures { result ≡ refresh_event lose stream }
-{
-    match stream {
-        None => Event::Absent,
-        Some((line, stream)) => Event::Refresh { line, stream, lose },
-    }
+/// The exchange that is lost if the event gets that far, by its number from 1, and which message of it (this profile).
+#[derive(Clone, Copy, PartialEq, Eq)]
+pub struct Loss {
+    pub exchange: u64,
+    pub lost: Lost,
 }
 
-fn stop(stream: Option<(u64, u64)>, lose: Option<Loss>) -> Event
-    ensures { result ≡ stop_event lose stream }
-{
-    match stream {
-        None => Event::Absent,
-        Some((line, stream)) => Event::Stop { line, stream, lose },
-    }
+/// What is asked of a device interface, by its number over all links, or of trusted memory (this profile).
+#[derive(Drop)]
+pub enum InterfaceEvent {
+    /// The manager locks the interface.
+    Lock {
+        interface: u64,
+        lose: Option<Loss>,
+    },
+    /// The manager reads the interface's report.
+    Report {
+        interface: u64,
+        lose: Option<Loss>,
+    },
+    /// The manager starts the interface.
+    Start {
+        interface: u64,
+        lose: Option<Loss>,
+    },
+    /// The manager halts the interface.
+    Halt {
+        interface: u64,
+        lose: Option<Loss>,
+    },
+    /// The manager asks for the interface's state.
+    State {
+        interface: u64,
+        lose: Option<Loss>,
+    },
+    /// The manager binds the interface to a stream between two devices, by the number of its line and its stream ID.
+    Bind {
+        interface: u64,
+        line: u64,
+        stream: u64,
+        lose: Option<Loss>,
+    },
+    /// The manager ends that binding.
+    Unbind {
+        interface: u64,
+        line: u64,
+        stream: u64,
+        lose: Option<Loss>,
+    },
+    /// Shows the manager's view of the interface.
+    View {
+        interface: u64,
+    },
+    /// A register of the interface is written.
+    Write {
+        interface: u64,
+        register: Register,
+        value: u64,
+    },
+    /// A function level reset of the interface.
+    Flr {
+        interface: u64,
+    },
+    /// A firmware update of the interface.
+    Firmware {
+        interface: u64,
+    },
+    /// Shows bytes of trusted memory from an address on.
+    Memory {
+        address: u64,
+        length: u64,
+    },
 }
 
-fn status(stream: Option<(u64, u64)>) -> Event
-    ensures { result ≡ status_event stream }
-{
-    match stream {
-        None => Event::Absent,
-        Some((line, stream)) => Event::Status { line, stream },
-    }
+/// A trusted read that a host answers, or bytes of a device's guarded memory that are shown (this profile).
+#[derive(Drop)]
+pub enum AccessEvent {
+    /// `answer LINK`: the host answers the oldest trusted read of the link that waits.
+    Answer {
+        link: u64,
+    },
+    /// `mmio INTERFACE BAR OFFSET LEN`: shows bytes of the range of a BAR of an interface, 1 to 256 of them from the
+    /// offset on.
+    Mmio {
+        interface: u64,
+        bar: u64,
+        offset: u64,
+        length: u64,
+    },
 }
 
-fn send(side: Side, bytes: Bytes, more: bool, stream: Option<(u64, u64)>) -> Event
-    requires { IfSome stream (λ s. s.0 < 32) }
-    ensures { result ≡ send_event side bytes more stream }
-{
-    match stream {
-        None => Event::Absent,
-        Some((line, _)) => {
-            let port = PortName {
-                side,
-                line: line as u8,
-            };
-            Event::Send {
-                port,
-                bytes,
-                more,
-                trusted: false,
-            }
-        }
-    }
+/// What happens, of what the topology has (this profile). A link is named by the number of its line, and so is a stream
+/// between two devices or of a hop; a port is the end of a line. Streams and packets need not exist: a packet is named
+/// by the number that it was sealed under, from 1.
+#[derive(Drop)]
+pub enum Event {
+    /// The manager gives the stream of a line its first keys.
+    Establish {
+        line: u64,
+        stream: u64,
+        lose: Option<Loss>,
+    },
+    /// The manager gives the stream the keys of the other set.
+    Refresh {
+        line: u64,
+        stream: u64,
+        lose: Option<Loss>,
+    },
+    /// The manager takes the stream's keys away.
+    Stop {
+        line: u64,
+        stream: u64,
+        lose: Option<Loss>,
+    },
+    /// The end sends the TLP of these bytes; `more` lets its unit go on if it has room, `trusted` asks a host's port to
+    /// set T.
+    Send {
+        port: PortName,
+        bytes: Bytes,
+        more: bool,
+        trusted: bool,
+    },
+    /// The packet arrives unchanged.
+    Pass {
+        packet: u64,
+    },
+    /// The packet arrives with its byte `at`, from 0, combined by exclusive or with `mask`.
+    Alter {
+        packet: u64,
+        at: u64,
+        mask: u8,
+    },
+    /// The first `length` bytes of the packet arrive.
+    Cut {
+        packet: u64,
+        length: u64,
+    },
+    /// Bytes of anyone's making arrive at the port: at a host's or a device's, or at one of a switch.
+    Arrive {
+        port: PortName,
+        bytes: Bytes,
+    },
+    /// Shows the packet's bytes.
+    Dump {
+        packet: u64,
+    },
+    /// These ends lose all keys, units, counts and failures: of the link, of its hop, and of streams between its device
+    /// and others. The manager's operations on streams of the link and its hop are dropped, those between devices are
+    /// to be stopped, and the interfaces of the link's device are unlocked.
+    Reset {
+        link: u64,
+        ends: Ends,
+    },
+    /// Shows the states of the stream at both ports.
+    Status {
+        line: u64,
+        stream: u64,
+    },
+    /// What concerns a device interface or trusted memory.
+    Interface {
+        event: InterfaceEvent,
+    },
+    /// What concerns a trusted read that waits, or a device's guarded memory.
+    Access {
+        event: AccessEvent,
+    },
+    /// The switch of the link seals the first TLP that waits there in this direction on the other segment.
+    Forward {
+        link: u64,
+        direction: Direction,
+    },
+    /// What the topology does not have was asked for.
+    Absent,
 }
-
-fn bind(interface: u64, stream: Option<(u64, u64)>, lose: Option<Loss>) -> Event
-    ensures { result ≡ bind_event interface lose stream }
-{
-    match stream {
-        None => Event::Absent,
-        Some((line, stream)) => Event::Interface {
-            event: InterfaceEvent::Bind {
-                interface,
-                line,
-                stream,
-                lose,
-            },
-        },
-    }
-}
-
-fn unbind(interface: u64, stream: Option<(u64, u64)>, lose: Option<Loss>) -> Event
-    ensures { result ≡ unbind_event interface lose stream }
-{
-    match stream {
-        None => Event::Absent,
-        Some((line, stream)) => Event::Interface {
-            event: InterfaceEvent::Unbind {
-                interface,
-                line,
-                stream,
-                lose,
-            },
-        },
-    }
-}
-
-fn forward(plan: &Plan, link: u64, direction: u64) -> Event
-    ensures { result ≡ forward_event plan.now link direction }
-{
-    if plan.hop(link).is_none() {
-        return Event::Absent;
-    }
-    match direction {
-        0 => Event::Forward {
-            link,
-            direction: Direction::Downstream,
-        },
-        1 => Event::Forward {
-            link,
-            direction: Direction::Upstream,
-        },
-        _ => Event::Absent,
-    }
-}
-
-fn arrive(plan: &Plan, port: PortName, bytes: Bytes) -> Event
-    ensures { result ≡ arrive_event plan.now port bytes }
-{
-    if has_port(plan, port) {
-        Event::Arrive { port, bytes }
-    } else {
-        Event::Absent
-    }
-}
-
-fn reset(plan: &ValidPlan, link: u64) -> Event
-    ensures { result ≡ reset_of plan.now link }
-{
-    if link as usize >= plan.plan().links.as_slice().len() {
-        return Event::Absent;
-    }
-    let ends = reset_ends(plan, link as u8);
-    Event::Reset { link, ends }
-}
-
-fn of_peer(plan: &ValidPlan, event: PeerEvent) -> Event
-    ensures { result ≡ peer_event_in plan.now event }
-{
-    match event {
-        PeerEvent::Establish { peer, lose } => establish(peer_stream(plan, peer), lose),
-        PeerEvent::Stop { peer, lose } => stop(peer_stream(plan, peer), lose),
-        PeerEvent::Bind {
-            interface,
-            peer,
-            lose,
-        } => bind(interface, bound_stream(plan, interface, peer), lose),
-        PeerEvent::Unbind {
-            interface,
-            peer,
-            lose,
-        } => unbind(interface, bound_stream(plan, interface, peer), lose),
-    }
-}
-
-fn of_hop(plan: &ValidPlan, event: HopEvent) -> Event
-    ensures { result ≡ hop_event_in plan.now event }
-{
-    match event {
-        HopEvent::Establish {
-            link,
-            segment,
-            lose,
-        } => establish(hop_stream(plan, link, segment), lose),
-        HopEvent::Stop {
-            link,
-            segment,
-            lose,
-        } => stop(hop_stream(plan, link, segment), lose),
-        HopEvent::Forward { link, direction } => forward(plan.plan(), link, direction),
-    }
-}
-
-/// The event of a history that an event of a script is in a topology: lines and ends in place of links, of hops and of
-/// streams between devices. What the topology does not have comes to `Absent`. It takes no memory (this profile).
-#[tactic(auto, unfolding(crate::specs::Events::event_of))]
-pub fn event_of(plan: &ValidPlan, event: ScriptEvent) -> Event
-    ensures { result ≡ event_in plan.now event }
-{
-    match event {
-        ScriptEvent::Establish { link, stream, lose } => {
-            establish(own_stream(plan.plan(), link, stream), lose)
-        }
-        ScriptEvent::Refresh { link, stream, lose } => {
-            refresh(own_stream(plan.plan(), link, stream), lose)
-        }
-        ScriptEvent::Stop { link, stream, lose } => {
-            stop(own_stream(plan.plan(), link, stream), lose)
-        }
-        ScriptEvent::Send {
-            port,
-            bytes,
-            more,
-            trusted,
-        } => Event::Send {
-            port,
-            bytes,
-            more,
-            trusted,
-        },
-        ScriptEvent::PeerSend {
-            peer,
-            side,
-            bytes,
-            more,
-        } => send(side, bytes, more, peer_stream(plan, peer)),
-        ScriptEvent::Pass { packet } => Event::Pass { packet },
-        ScriptEvent::Alter { packet, at, mask } => Event::Alter { packet, at, mask },
-        ScriptEvent::Cut { packet, length } => Event::Cut { packet, length },
-        ScriptEvent::Arrive { port, bytes } => arrive(plan.plan(), port, bytes),
-        ScriptEvent::Dump { packet } => Event::Dump { packet },
-        ScriptEvent::Reset { link } => reset(plan, link),
-        ScriptEvent::Status { link, stream } => status(own_stream(plan.plan(), link, stream)),
-        ScriptEvent::Interface { event } => Event::Interface { event },
-        ScriptEvent::Access { event } => Event::Access { event },
-        ScriptEvent::Peer { event } => of_peer(plan, event),
-        ScriptEvent::Hop { event } => of_hop(plan, event),
-    }
-}
-
-/// What a spelled event comes to is one that a history may have.
-pub fn events_are_allowed()
-    ensures { EventsAreAllowed }
-{}

@@ -18,9 +18,9 @@ use Rattle.spec_interfaces.specs.Views.{is_number, number_in}
 use Rattle.spec_interfaces.specs.Devices.{Around, around_at, interface_if_called, lock_call, reset_call}
 use Rattle.spec_interfaces.specs.Devices.{interface_asked, next_interface, accepts_lock, is_stream_left, devices}
 use Rattle.spec_interfaces.specs.Devices.{interface_at, registers_locked, is_lock_accepted}
-use Rattle.run_events.specs.declared.event.Event.TheVariants as event
-use Rattle.run_events.specs.declared.event.InterfaceEvent.TheVariants as ie
-use Rattle.run_verdicts.specs.declared.verdict.Verdict.TheVariants as v
+use Rattle.script_events.specs.declared.event.Event.TheVariants as event
+use Rattle.script_events.specs.declared.event.InterfaceEvent.TheVariants as ie
+use Rattle.event_verdicts.specs.declared.verdict.Verdict.TheVariants as v
 
 -- ---- what calls leave
 

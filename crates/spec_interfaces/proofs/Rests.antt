@@ -13,9 +13,9 @@ use Rattle.spec_interfaces.specs.Views.{is_number, number_in}
 use Rattle.spec_interfaces.specs.Devices.{Around, around_at, interface_if_called, lock_call, next_interface}
 use Rattle.spec_interfaces.specs.Devices.{accepts_lock, is_run}
 use Rattle.spec_interfaces.specs.Devices.{reset_call, runs_at, is_stream_left, devices, interface_at, locks_accepted}
-use Rattle.run_events.specs.declared.event.Event.TheVariants as event
-use Rattle.run_events.specs.declared.event.InterfaceEvent.TheVariants as ie
-use Rattle.run_verdicts.specs.declared.verdict.Verdict.TheVariants as v
+use Rattle.script_events.specs.declared.event.Event.TheVariants as event
+use Rattle.script_events.specs.declared.event.InterfaceEvent.TheVariants as ie
+use Rattle.event_verdicts.specs.declared.verdict.Verdict.TheVariants as v
 
 -- ---- RUN is entered by START_INTERFACE alone
 

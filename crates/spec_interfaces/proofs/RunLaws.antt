@@ -15,9 +15,9 @@ use Rattle.spec_interfaces.specs.Due.{code_after}
 use Rattle.spec_interfaces.specs.Cause.{PairFits}
 use Rattle.spec_interfaces.specs.Laws.{IsLocked, KeepsReported, ShowsReport, ShowsError, ShownAt, InterfaceRunLawHolds}
 use Rattle.spec_interfaces.proofs.Locks.{listed_at, lock_stands}
-use Rattle.run_events.specs.declared.event.Event.TheVariants as event
-use Rattle.run_events.specs.declared.event.InterfaceEvent.TheVariants as ie
-use Rattle.run_verdicts.specs.declared.verdict.Verdict.TheVariants as v
+use Rattle.script_events.specs.declared.event.Event.TheVariants as event
+use Rattle.script_events.specs.declared.event.InterfaceEvent.TheVariants as ie
+use Rattle.event_verdicts.specs.declared.verdict.Verdict.TheVariants as v
 use Rattle.ide_types.specs.declared.verdict.InterfaceVerdict.TheVariants as iv
 
 -- ---- registers

@@ -20,9 +20,9 @@ use Rattle.spec_keys.specs.History.{manager, moments, touches_after, is_sender, 
 use Rattle.spec_keys.specs.Terms.{Operation}
 use Rattle.spec_keys.proofs.Shapes.{draws_used}
 use Rattle.spec_keys.proofs.Whole.{fits, more_begun}
-use Rattle.run_events.specs.declared.event.Event.TheVariants as event
-use Rattle.run_verdicts.specs.declared.verdict.Operation.TheVariants as op
-use Rattle.run_verdicts.specs.declared.verdict.Verdict.TheVariants as v
+use Rattle.script_events.specs.declared.event.Event.TheVariants as event
+use Rattle.event_verdicts.specs.declared.verdict.Operation.TheVariants as op
+use Rattle.event_verdicts.specs.declared.verdict.Verdict.TheVariants as v
 
 -- ---- draws
 

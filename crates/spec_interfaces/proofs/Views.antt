@@ -19,14 +19,14 @@ use Rattle.spec_interfaces.specs.Cause.{InterfaceCause, PairFits}
 use Rattle.spec_interfaces.specs.Laws.{OfTrusted, IsAtRest, InRun, IsRunning, ViewHolds, ViewsHold}
 use Rattle.spec_interfaces.proofs.Rests.{starts, rests_on, locks_it, locks_stay}
 use Rattle.spec_interfaces.proofs.Trusted.{trusted_lead, trusted_on, all_made}
-use Rattle.run_events.specs.declared.event.Lost.{Lost}
-use Rattle.run_events.specs.declared.event.Lost.TheVariants.{Request, Reply}
+use Rattle.script_events.specs.declared.event.Lost.{Lost}
+use Rattle.script_events.specs.declared.event.Lost.TheVariants.{Request, Reply}
 use Rattle.spec_keys.specs.Laws.{KeyCauseLaw}
 use Rattle.spec_keys.specs.Places.{KeyPlan}
-use Rattle.run_events.specs.declared.event.Event.TheVariants as event
-use Rattle.run_events.specs.declared.event.InterfaceEvent.TheVariants as ie
+use Rattle.script_events.specs.declared.event.Event.TheVariants as event
+use Rattle.script_events.specs.declared.event.InterfaceEvent.TheVariants as ie
 use Rattle.ide_types.specs.declared.status.StreamStatus.TheVariants as status
-use Rattle.run_verdicts.specs.declared.verdict.Verdict.TheVariants as v
+use Rattle.event_verdicts.specs.declared.verdict.Verdict.TheVariants as v
 use Rattle.ide_types.specs.declared.verdict.InterfaceVerdict.TheVariants as iv
 
 -- all that is known at a pair

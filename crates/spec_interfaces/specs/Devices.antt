@@ -11,9 +11,9 @@ use Rattle.spec_interfaces.specs.Peers.{live_at, live_by_id, any_leaves}
 use Rattle.spec_interfaces.specs.Sites.{Site, sites, nonce_behind}
 use Rattle.spec_interfaces.specs.Exchanges.{carries, changes_device}
 use Rattle.spec_interfaces.specs.Views.{managed_view, is_number, number_in}
-use Rattle.run_events.specs.declared.event.Event.TheVariants as event
-use Rattle.run_events.specs.declared.event.InterfaceEvent.TheVariants as ie
-use Rattle.run_verdicts.specs.declared.verdict.Verdict.TheVariants as v
+use Rattle.script_events.specs.declared.event.Event.TheVariants as event
+use Rattle.script_events.specs.declared.event.InterfaceEvent.TheVariants as ie
+use Rattle.event_verdicts.specs.declared.verdict.Verdict.TheVariants as v
 
 -- ---- what stands around an interface before an event
 

@@ -11,8 +11,8 @@ use Rattle.spec_interfaces.specs.Peers.{has_peer}
 use Rattle.spec_interfaces.specs.Views.{Managed, managed_view, needs_then, stream_draw, number_in}
 use Rattle.spec_interfaces.specs.Devices.{Around, around_at, interface_at}
 use Rattle.ide_types.specs.declared.status.StreamStatus.TheVariants as status
-use Rattle.run_events.specs.declared.event.InterfaceEvent.TheVariants as ie
-use Rattle.run_verdicts.specs.declared.verdict.Verdict.TheVariants as v
+use Rattle.script_events.specs.declared.event.InterfaceEvent.TheVariants as ie
+use Rattle.event_verdicts.specs.declared.verdict.Verdict.TheVariants as v
 use Rattle.ide_types.specs.declared.verdict.InterfaceVerdict.TheVariants as iv
 
 -- the verdict of an operation whose last exchange has this number: this one, unless an exchange is lost

@@ -2,7 +2,7 @@
 -- from 1.
 use Rattle.std.specs.Prelude.{ℕ, ◌==◌, ◌||◌, Bool, true, false, nat_lt, nat_le}
 use Rattle.spec_interfaces.specs.Terms.{Verdict, InterfaceVerdict}
-use Rattle.run_verdicts.specs.declared.verdict.Verdict.TheVariants as v
+use Rattle.event_verdicts.specs.declared.verdict.Verdict.TheVariants as v
 use Rattle.ide_types.specs.declared.verdict.InterfaceVerdict.TheVariants as iv
 
 -- it ended

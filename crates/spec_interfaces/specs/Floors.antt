@@ -11,8 +11,8 @@ use Rattle.spec_interfaces.specs.Terms.{Device, Plan, LinkPlan, Event, History}
 use Rattle.spec_interfaces.specs.Sites.{Site, sites}
 pub use Rattle.spec_interfaces.specs.Peers.{greatest_on}
 use Rattle.spec_interfaces.specs.Devices.{interface_at, runs_at}
-use Rattle.run_events.specs.declared.event.Event.TheVariants as event
-use Rattle.run_events.specs.declared.event.InterfaceEvent.TheVariants as ie
+use Rattle.script_events.specs.declared.event.Event.TheVariants as event
+use Rattle.script_events.specs.declared.event.InterfaceEvent.TheVariants as ie
 
 -- ---- the draw at the device
 

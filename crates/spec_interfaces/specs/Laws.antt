@@ -10,9 +10,9 @@ use Rattle.spec_interfaces.specs.Cause.{InterfaceCause, owner_read}
 use Rattle.spec_keys.specs.Laws.{KeyCauseLaw}
 use Rattle.spec_keys.specs.Places.{KeyPlan}
 use Rattle.tlp_layout.specs.Reading.{read_of}
-use Rattle.run_events.specs.declared.event.Event.TheVariants as event
-use Rattle.run_events.specs.declared.event.InterfaceEvent.TheVariants as ie
-use Rattle.run_verdicts.specs.declared.verdict.Verdict.TheVariants as v
+use Rattle.script_events.specs.declared.event.Event.TheVariants as event
+use Rattle.script_events.specs.declared.event.InterfaceEvent.TheVariants as ie
+use Rattle.event_verdicts.specs.declared.verdict.Verdict.TheVariants as v
 use Rattle.ide_types.specs.declared.verdict.InterfaceVerdict.TheVariants as iv
 
 -- ---- registers

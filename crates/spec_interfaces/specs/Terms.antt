@@ -12,11 +12,11 @@ pub use Rattle.ide_types.specs.declared.register.Register.{Register}
 pub use Rattle.ide_types.specs.declared.view.View.{View}
 pub use Rattle.ide_types.specs.declared.view.View.TheVariants.{Unlocked, Locked, Running, Doubt, Broken}
 pub use Rattle.ide_types.specs.declared.verdict.InterfaceVerdict.{InterfaceVerdict}
-pub use Rattle.run_events.specs.declared.event.Event.{Event}
-pub use Rattle.run_events.specs.declared.event.InterfaceEvent.{InterfaceEvent}
-pub use Rattle.run_events.specs.declared.event.Loss.{Loss}
-pub use Rattle.run_verdicts.specs.declared.verdict.Verdict.{Verdict}
-pub use Rattle.run_verdicts.specs.declared.verdict.SealedPacket.{SealedPacket}
+pub use Rattle.script_events.specs.declared.event.Event.{Event}
+pub use Rattle.script_events.specs.declared.event.InterfaceEvent.{InterfaceEvent}
+pub use Rattle.script_events.specs.declared.event.Loss.{Loss}
+pub use Rattle.event_verdicts.specs.declared.verdict.Verdict.{Verdict}
+pub use Rattle.event_verdicts.specs.declared.verdict.SealedPacket.{SealedPacket}
 pub use Rattle.spec_keys.specs.History.{History, op_of, draws, history_status, begins_keyed}
 pub use Rattle.spec_keys.specs.Operations.{StreamStage, Idle, Up, work_of, reach_of}
 pub use Rattle.spec_keys.specs.Due.{lost_at, if_secure}

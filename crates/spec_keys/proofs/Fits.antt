@@ -9,7 +9,7 @@ use Rattle.spec_keys.proofs.Terms.{StreamStage, Idle, Establishing, Up, Refreshi
 use Rattle.spec_keys.proofs.Terms.{last_exchange_of, op_after_reach, op_ended, op_at_exchange, is_number_between}
 use Rattle.spec_keys.proofs.Terms.{touches_if, touches_after, program_exchange, go_exchange, from_at, below_at}
 use Rattle.spec_keys.proofs.Terms.{keying_touches, stopping_touches, uses, NeverFalls, not-not, nat_tests}
-use Rattle.run_verdicts.specs.declared.verdict.Operation.TheVariants as op
+use Rattle.event_verdicts.specs.declared.verdict.Operation.TheVariants as op
 use Rattle.spec_keys.proofs.Tests.{true-lt, false-lt}
 use Rattle.spec_keys.proofs.Shapes.{Marks, marks, draws_started, Shape, Bare, Alone, Both, keys_of, draws_used, IsAt}
 use Rattle.spec_keys.proofs.Shapes.{without, stops, clears}

@@ -8,9 +8,9 @@ use Rattle.spec_keys.proofs.Terms.{Stopping, Work, Reach, Manager, Begun, PortNa
 use Rattle.spec_keys.proofs.Terms.{reach_of, op_after_reach, op_cut, begun_after_work, manager_after_operation}
 use Rattle.spec_keys.proofs.Terms.{manager_after, History, manager, begun_of_draw, touches_if, work_touches, on_it}
 use Rattle.spec_keys.proofs.Terms.{seal_touches, came, touches, touches_after, moments, nat_tests}
-use Rattle.run_events.specs.declared.event.Event.TheVariants as event
-use Rattle.run_verdicts.specs.declared.verdict.Operation.TheVariants as op
-use Rattle.run_verdicts.specs.declared.verdict.Verdict.TheVariants as v
+use Rattle.script_events.specs.declared.event.Event.TheVariants as event
+use Rattle.event_verdicts.specs.declared.verdict.Operation.TheVariants as op
+use Rattle.event_verdicts.specs.declared.verdict.Verdict.TheVariants as v
 
 -- ---- keys of known owners
 

@@ -6,8 +6,8 @@ use Rattle.spec_keys.proofs.Terms.{◌++◌, nat_tests, Reach, reach, last_excha
 use Rattle.spec_keys.proofs.Terms.{option_or, unwrap_or, refl, List, [], ◌∷◌, ◌==◌, ◌∙◌, KeyPlace, key_place_at}
 use Rattle.spec_keys.proofs.Terms.{if◌then◌else◌, first_status, PortView, cut_at, finished_verdict, first_from}
 use Rattle.spec_keys.proofs.Terms.{lost_message, operation_verdict, refusal_at, stays}
-use Rattle.run_verdicts.specs.declared.verdict.Operation.TheVariants as op
-use Rattle.run_verdicts.specs.declared.verdict.Verdict.TheVariants as v
+use Rattle.event_verdicts.specs.declared.verdict.Operation.TheVariants as op
+use Rattle.event_verdicts.specs.declared.verdict.Verdict.TheVariants as v
 use Rattle.spec_keys.proofs.Fits.{Reached, place}
 
 -- the first exchange that gives a verdict, and those before it give none; or none does

@@ -5,7 +5,7 @@
 use Rattle.spec_keys.proofs.Terms.{◌≡◌, ℕ, ◌<◌, ◌≤◌, Bool, true, false, List, sym, ◌∙◌, arith, SubKind, Side, Host}
 use Rattle.spec_keys.proofs.Terms.{Device, Touch, Keys, refuses, keys, slot_of, is_live_draw, Reach, work, PortView}
 use Rattle.spec_keys.proofs.Terms.{None, refusal_if, refusal_at, is_live_sender, nat_tests}
-use Rattle.run_verdicts.specs.declared.verdict.Operation.TheVariants as op
+use Rattle.event_verdicts.specs.declared.verdict.Operation.TheVariants as op
 use Rattle.spec_keys.proofs.Shapes.{Marks, marks, Shape, keys_of, Sound}
 use Rattle.spec_keys.proofs.Stages.{Rising}
 use Rattle.spec_keys.proofs.Fits.{place, RisesFrom, TakesKey}

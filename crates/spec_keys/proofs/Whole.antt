@@ -16,10 +16,10 @@ use Rattle.spec_keys.proofs.Terms.{is_live_sender, unless_open, if_secure, estab
 use Rattle.spec_keys.proofs.Terms.{UsesFit, KeyCauseLaw, Side, Stopping, PortName, is_hosted, is_local}
 use Rattle.spec_keys.proofs.Terms.{is_between_devices, is_cut, is_cleared, op_cut, stop_exchange, list_any, ◌+◌}
 use Rattle.spec_keys.proofs.Terms.{nat_tests}
-use Rattle.run_events.specs.declared.event.Event.TheVariants as event
-use Rattle.run_verdicts.specs.declared.verdict.Operation.TheVariants as op
+use Rattle.script_events.specs.declared.event.Event.TheVariants as event
+use Rattle.event_verdicts.specs.declared.verdict.Operation.TheVariants as op
 use Rattle.ide_types.specs.declared.status.StreamStatus.{StreamStatus}
-use Rattle.run_verdicts.specs.declared.verdict.Verdict.TheVariants as v
+use Rattle.event_verdicts.specs.declared.verdict.Verdict.TheVariants as v
 use Rattle.spec_keys.proofs.Shapes.{Marks, marks, Shape, Bare, at_start, draws_used, draws_started}
 use Rattle.spec_keys.proofs.Fits.{Fits, FindsStopped, FitsAt, Turned, Reached, below_more, establishes, refreshes}
 use Rattle.spec_keys.proofs.Fits.{last_at, stops_fit, resets_fit, cuts_fit, establish_begins, establish_goes_on}

@@ -3,10 +3,10 @@ use Rattle.std.specs.Prelude.{◌+◌, ◌-◌, ◌==◌, ◌∷◌, ◌&&◌, i
 use Rattle.std.specs.Prelude.{Some, None, List, []}
 use Rattle.spec_keys.specs.Terms.{option_or, unwrap_or, SubKind, Pr, Npr, Cpl, Host, Event, Loss, Lost, Request, Reply}
 use Rattle.spec_keys.specs.Terms.{Operation, StreamStatus, Verdict}
-use Rattle.run_events.specs.declared.event.Event.TheVariants as event
-use Rattle.run_verdicts.specs.declared.verdict.Operation.TheVariants as op
+use Rattle.script_events.specs.declared.event.Event.TheVariants as event
+use Rattle.event_verdicts.specs.declared.verdict.Operation.TheVariants as op
 use Rattle.ide_types.specs.declared.status.StreamStatus.TheVariants as status
-use Rattle.run_verdicts.specs.declared.verdict.Verdict.TheVariants as v
+use Rattle.event_verdicts.specs.declared.verdict.Verdict.TheVariants as v
 use Rattle.ide_types.specs.Lines.{is_hosted, is_link_line, line_kind}
 use Rattle.spec_keys.specs.Places.{KeyPlan, KeyPlace, key_place_at, told_places}
 use Rattle.spec_keys.specs.Keys.{refuses, refusal_if, is_live_draw}

@@ -3,9 +3,9 @@ use Rattle.std.specs.Prelude.{◌+◌, ◌==◌, ◌&&◌, ◌||◌, if◌then�
 use Rattle.std.specs.Prelude.{not, Option, Some, None, List, [], length, is_some}
 use Rattle.ide_types.specs.Ports.{keyed_status}
 use Rattle.spec_keys.specs.Terms.{list_any, list_all, Side, Event, Operation, SealedPacket, StreamStatus, Verdict}
-use Rattle.run_events.specs.declared.event.Event.TheVariants as event
-use Rattle.run_verdicts.specs.declared.verdict.Operation.TheVariants as op
-use Rattle.run_verdicts.specs.declared.verdict.Verdict.TheVariants as v
+use Rattle.script_events.specs.declared.event.Event.TheVariants as event
+use Rattle.event_verdicts.specs.declared.verdict.Operation.TheVariants as op
+use Rattle.event_verdicts.specs.declared.verdict.Verdict.TheVariants as v
 use Rattle.ide_types.specs.Lines.{is_hosted}
 use Rattle.spec_keys.specs.Places.{KeyPlace, is_host, is_same_side, is_same_sub, is_on_stream, lane, is_local}
 use Rattle.spec_keys.specs.Places.{places_of, is_cleared}

@@ -2,10 +2,10 @@
 use Rattle.std.specs.Prelude.{◌≡◌, ◌≢◌, ◌≤◌, ◌<◌, ◌∷◌, ◌==◌, ◌&&◌, ◌||◌, if◌then◌else◌, ℕ, Bool, true, false, not}
 use Rattle.std.specs.Prelude.{Option, Some, None, List, []}
 use Rattle.spec_keys.specs.Terms.{Side, Event, Verdict}
-use Rattle.run_events.specs.declared.event.Event.TheVariants as event
-use Rattle.run_verdicts.specs.declared.verdict.Operation.TheVariants as op
+use Rattle.script_events.specs.declared.event.Event.TheVariants as event
+use Rattle.event_verdicts.specs.declared.verdict.Operation.TheVariants as op
 use Rattle.ide_types.specs.declared.status.StreamStatus.TheVariants as status
-use Rattle.run_verdicts.specs.declared.verdict.Verdict.TheVariants as v
+use Rattle.event_verdicts.specs.declared.verdict.Verdict.TheVariants as v
 use Rattle.spec_keys.specs.Places.{KeyPlan, KeyPlace}
 use Rattle.spec_keys.specs.Keys.{Touch, Go, Seal, Accept, Keys, keys, key_in, draw_of_keyed, on_in, sender_draw}
 use Rattle.spec_keys.specs.Operations.{Idle, Establishing, Up, Refreshing, work_of}

@@ -4,9 +4,9 @@ use Rattle.std.specs.Prelude.{None, List, length}
 use Rattle.spec_keys.specs.Terms.{Event, Operation, Verdict, PortName}
 use Rattle.ide_types.specs.Lines.{is_hosted}
 use Rattle.spec_keys.specs.Places.{is_cut, is_between_devices}
-use Rattle.run_events.specs.declared.event.Event.TheVariants as event
-use Rattle.run_verdicts.specs.declared.verdict.Operation.TheVariants as op
-use Rattle.run_verdicts.specs.declared.verdict.Verdict.TheVariants as v
+use Rattle.script_events.specs.declared.event.Event.TheVariants as event
+use Rattle.event_verdicts.specs.declared.verdict.Operation.TheVariants as op
+use Rattle.event_verdicts.specs.declared.verdict.Verdict.TheVariants as v
 
 -- What the manager knows of a stream: it has no keys; it is being keyed with a draw in set 0, and which exchange
 -- is next; it is keyed; it is being given the key of a draw in the other set; its keys are being taken away.

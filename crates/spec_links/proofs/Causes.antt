@@ -20,7 +20,7 @@ use Rattle.spec_links.specs.Due.{bytes_due, through_due, forward_out, forward_fi
 use Rattle.spec_links.specs.Hops.{HopTlp, has_hop}
 use Rattle.spec_links.specs.Memory.{hop_waiting, unit_ended}
 use Rattle.ide_types.specs.declared.direction.Direction.{Direction}
-use Rattle.run_events.specs.declared.event.Event.TheVariants.{Forward, Absent}
+use Rattle.script_events.specs.declared.event.Event.TheVariants.{Forward, Absent}
 unfoldable use Rattle.spec_links.specs.Due.{t_sealed}
 use Rattle.spec_links.specs.Ports.{may_send, outgoing_at}
 unfoldable use Rattle.spec_links.specs.Ports.{goes_through, sealing_end}
@@ -30,8 +30,8 @@ use Rattle.spec_links.proofs.KeyVerdicts.{establish_due_quiet, refresh_due_quiet
 use Rattle.spec_links.proofs.KeyVerdicts.{if_quiet, mmio_quiet}
 unfoldable use Rattle.spec_links.proofs.Terms.{bytes_by}
 use Rattle.ide_types.specs.declared.binding.Binding.{Binding}
-use Rattle.run_verdicts.specs.declared.verdict.BlockCause.{BlockCause}
-use Rattle.run_events.specs.declared.event.AccessEvent.TheVariants as ae
+use Rattle.event_verdicts.specs.declared.verdict.BlockCause.{BlockCause}
+use Rattle.script_events.specs.declared.event.AccessEvent.TheVariants as ae
 use Rattle.tlp_layout.specs.declared.tlp.Tlp.{Tlp}
 use Rattle.tlp_layout.specs.Class.{class_of}
 use Rattle.tlp_layout.specs.Tlp.{header}
@@ -40,7 +40,7 @@ use Rattle.tlp_layout.specs.Outgoing.{Outgoing, NoTlp, OnNone, OnStream, outgoin
 use Rattle.tlp_layout.proofs.Outgoing.{on_stream_reads}
 use Rattle.ide_prefix.specs.declared.fault.PacketFault.{PacketFault}
 use Rattle.ide_prefix.specs.Reading.{CutValue, PlainTlp, IdePacket, cut_of}
-use Rattle.run_verdicts.specs.declared.verdict.Verdict.TheVariants as v
+use Rattle.event_verdicts.specs.declared.verdict.Verdict.TheVariants as v
 
 -- ---- what the verdicts tell
 

@@ -4,7 +4,7 @@ use Rattle.spec_links.proofs.Terms.{sent_bytes}
 unfoldable use Rattle.spec_links.proofs.Terms.{bytes_by}
 use Rattle.std.specs.Option.{option_map_or}
 use Rattle.ide_types.specs.declared.direction.Direction.{Direction}
-use Rattle.run_events.specs.declared.event.Event.TheVariants.{Forward}
+use Rattle.script_events.specs.declared.event.Event.TheVariants.{Forward}
 use Rattle.spec_links.specs.Hops.{HopTlp, entering_end, forwarded_count}
 use Rattle.spec_links.specs.Memory.{accepted_tlps, hop_waiting}
 

@@ -8,7 +8,7 @@ use Rattle.spec_links.proofs.Terms.{length, Interface, InterfaceEvent, memory_du
 use Rattle.spec_keys.proofs.Performs.{is_cut, performed_is}
 use Rattle.std.specs.Option.{option_map}
 use Rattle.std.specs.Prelude.{nat_le, ◌&&◌}
-use Rattle.run_events.specs.declared.event.Lost.{Lost}
+use Rattle.script_events.specs.declared.event.Lost.{Lost}
 use Rattle.spec_keys.specs.Due.{lost_at, has_refresh, if_secure}
 use Rattle.spec_links.specs.Memory.{shown_if}
 use Rattle.spec_links.specs.Guarded.{mmio_if, mmio_shown, mmio_due, link_happenings}
@@ -25,10 +25,10 @@ use Rattle.spec_interfaces.specs.Due.{asked_state, if_locked_or_running, portion
 use Rattle.spec_interfaces.specs.Due.{if_fresh, started_as, interface_due, on_site, with_number}
 use Rattle.spec_interfaces.specs.Due.{verdict_of_bind, unbound_as, op_status}
 unfoldable use Rattle.spec_interfaces.specs.Due.{interface_verdict_due as due_of}
-use Rattle.run_events.specs.declared.event.InterfaceEvent.TheVariants as ie
+use Rattle.script_events.specs.declared.event.InterfaceEvent.TheVariants as ie
 use Rattle.ide_types.specs.declared.verdict.InterfaceVerdict.TheVariants as iv
-use Rattle.run_verdicts.specs.declared.verdict.Operation.TheVariants as op
-use Rattle.run_verdicts.specs.declared.verdict.Verdict.TheVariants as v
+use Rattle.event_verdicts.specs.declared.verdict.Operation.TheVariants as op
+use Rattle.event_verdicts.specs.declared.verdict.Verdict.TheVariants as v
 
 pub if_quiet : (b : Bool) (x y : Verdict) → is_quiet x ≡ true → is_quiet y ≡ true → is_quiet (if b then x else y) ≡ true
 if_quiet true x y one two = one

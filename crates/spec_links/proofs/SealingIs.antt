@@ -7,8 +7,8 @@ use Rattle.spec_links.proofs.Terms.{SubKind, Verdict, Access, KeyPlace, StreamSt
 use Rattle.spec_links.proofs.Senders.{has_key, listed_seals, sealed_by_is, and_false, AreOther, needs_posted}
 pub use Rattle.spec_links.proofs.Causes.{IsSealing, is_sealing, sealed_by_sealing, sealing_is}
 pub use Rattle.spec_links.specs.History.{sending_port}
-use Rattle.run_events.specs.declared.event.Event.TheVariants.{Forward}
-use Rattle.run_events.specs.declared.event.AccessEvent.TheVariants as ae
+use Rattle.script_events.specs.declared.event.Event.TheVariants.{Forward}
+use Rattle.script_events.specs.declared.event.AccessEvent.TheVariants as ae
 unfoldable use Rattle.spec_links.proofs.Terms.{base, manager}
 
 -- ---- each packet under the live key of its sub-stream

@@ -12,8 +12,8 @@ pub use Rattle.std.specs.List.{flat_map, suffix_len}
 pub use Rattle.ide_types.specs.declared.port.Side.{Side}
 pub use Rattle.ide_types.specs.declared.status.StreamStatus.{StreamStatus}
 pub use Rattle.ide_types.specs.declared.sub.SubKind.TheVariants.{Cpl, Npr, Pr}
-pub use Rattle.run_events.specs.declared.event.Loss.{Loss}
-pub use Rattle.run_verdicts.specs.declared.verdict.Operation.{Operation}
+pub use Rattle.script_events.specs.declared.event.Loss.{Loss}
+pub use Rattle.event_verdicts.specs.declared.verdict.Operation.{Operation}
 pub use Rattle.spec_keys.specs.Due.{PortView, finished_verdict, establish_on, may_establish, may_refresh}
 pub use Rattle.spec_keys.specs.Due.{operation_verdict, ports_at, refresh_on, unless_open}
 unfoldable pub use Rattle.spec_keys.specs.Due.{key_due}
@@ -62,4 +62,4 @@ pub use Rattle.spec_links.specs.Units.{rest_after, units_finished}
 unfoldable pub use Rattle.spec_links.specs.Units.{open_unit, units}
 pub use Rattle.spec_links.specs.Memory.{memory_due, waiting_reads}
 unfoldable pub use Rattle.spec_links.specs.Sent.{bytes_by}
-pub use Rattle.run_verdicts.specs.Causes.{binding_cause, is_stream}
+pub use Rattle.event_verdicts.specs.Causes.{binding_cause, is_stream}

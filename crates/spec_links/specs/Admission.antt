@@ -10,7 +10,7 @@ use Rattle.tlp_layout.specs.declared.head.HeadView.{HeadView}
 use Rattle.spec_links.specs.Plan.{key_of}
 use Rattle.spec_links.specs.Ports.{port_of, at_switch, is_host_port}
 use Rattle.spec_links.specs.Packets.{received_in}
-use Rattle.run_verdicts.specs.declared.verdict.Effect.TheVariants as effect
+use Rattle.event_verdicts.specs.declared.verdict.Effect.TheVariants as effect
 
 -- ---- what effects depend on
 

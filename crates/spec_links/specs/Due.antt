@@ -25,17 +25,17 @@ use Rattle.spec_links.specs.History.{pending_packets, units_got, on_draw, live_k
 use Rattle.spec_links.specs.History.{meets_counts, received_in, ahead_due, sent_bytes, sending_port}
 use Rattle.ide_types.specs.declared.sub.SubKind.TheVariants.{Cpl}
 use Rattle.ide_types.specs.declared.verdict.InterfaceVerdict.TheVariants as iv
-use Rattle.run_events.specs.declared.event.AccessEvent.TheVariants as ae
-use Rattle.run_verdicts.specs.declared.access.AccessVerdict.TheVariants as av
-use Rattle.run_verdicts.specs.declared.verdict.BlockCause.{BlockCause}
-use Rattle.run_verdicts.specs.declared.verdict.BlockCause.TheVariants as cause
-use Rattle.run_verdicts.specs.declared.verdict.Verdict.TheVariants as v
-use Rattle.run_verdicts.specs.Causes.{binding_cause}
+use Rattle.script_events.specs.declared.event.AccessEvent.TheVariants as ae
+use Rattle.event_verdicts.specs.declared.access.AccessVerdict.TheVariants as av
+use Rattle.event_verdicts.specs.declared.verdict.BlockCause.{BlockCause}
+use Rattle.event_verdicts.specs.declared.verdict.BlockCause.TheVariants as cause
+use Rattle.event_verdicts.specs.declared.verdict.Verdict.TheVariants as v
+use Rattle.event_verdicts.specs.Causes.{binding_cause}
 pub use Rattle.spec_links.specs.Memory.{effects_of, memory_due}
 use Rattle.spec_links.specs.Hops.{HopTlp, has_hop, leaving_end}
 use Rattle.spec_links.specs.Memory.{waiting_reads, hop_waiting}
 use Rattle.ide_types.specs.declared.direction.Direction.{Direction}
-use Rattle.run_events.specs.declared.event.Event.TheVariants.{Forward, Absent}
+use Rattle.script_events.specs.declared.event.Event.TheVariants.{Forward, Absent}
 use Rattle.spec_links.specs.Guarded.{mmio_due}
 use Rattle.tlp_layout.specs.declared.head.HeadView.{HeadView}
 pub use Rattle.spec_stream.specs.Sending.{first_that_holds, Sending, Lane, Lanes, is_posted, begins_unit, needs_sync}

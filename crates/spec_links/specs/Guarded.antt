@@ -11,10 +11,10 @@ use Rattle.spec_interfaces.specs.Floors.{place_of, history_statuses}
 use Rattle.spec_interfaces.specs.{InterfaceStatus, Happened, InterfaceReset, AllReset, InterfaceStopped, byte_shown}
 use Rattle.spec_interfaces.specs.{newest_happened, write_happened, page_counts, fits_range}
 use Rattle.spec_links.specs.Memory.{unit_ended, plain_of}
-use Rattle.run_events.specs.declared.event.Event.TheVariants as event
-use Rattle.run_events.specs.declared.event.InterfaceEvent.TheVariants as ie
-use Rattle.run_verdicts.specs.declared.verdict.Verdict.TheVariants as v
-use Rattle.run_verdicts.specs.declared.access.AccessVerdict.TheVariants as access
+use Rattle.script_events.specs.declared.event.Event.TheVariants as event
+use Rattle.script_events.specs.declared.event.InterfaceEvent.TheVariants as ie
+use Rattle.event_verdicts.specs.declared.verdict.Verdict.TheVariants as v
+use Rattle.event_verdicts.specs.declared.access.AccessVerdict.TheVariants as access
 
 -- ---- the writes that are stored
 

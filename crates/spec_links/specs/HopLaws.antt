@@ -17,7 +17,7 @@ use Rattle.ide_types.specs.declared.port.Side.{Side}
 use Rattle.spec_interfaces.specs.Views.{managed_view}
 use Rattle.spec_interfaces.specs.Devices.{interface_at}
 use Rattle.spec_links.specs.Laws.{IsPrefixOf, NoForgery}
-use Rattle.run_verdicts.specs.declared.verdict.Verdict.TheVariants as v
+use Rattle.event_verdicts.specs.declared.verdict.Verdict.TheVariants as v
 
 -- ---- what was sealed
 

@@ -15,8 +15,8 @@ use Rattle.spec_links.specs.Plan.{is_same_port}
 use Rattle.spec_links.specs.Packets.{SealedList}
 use Rattle.spec_links.specs.Ended.{unit_accepted}
 use Rattle.spec_links.specs.Admission.{plain_of}
-use Rattle.run_events.specs.declared.event.Event.TheVariants.{Forward}
-use Rattle.run_verdicts.specs.declared.verdict.Verdict.TheVariants as v
+use Rattle.script_events.specs.declared.event.Event.TheVariants.{Forward}
+use Rattle.event_verdicts.specs.declared.verdict.Verdict.TheVariants as v
 
 -- ---- the ends of a hop
 

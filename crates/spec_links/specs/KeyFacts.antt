@@ -4,7 +4,7 @@ use Rattle.std.specs.Prelude.{nat_le, not, slice_get, true, ℕ}
 use Rattle.spec_links.specs.Terms.{AllByRecursion, PortName, SubKind, Plan, Event, Effect, SealedPacket}
 use Rattle.spec_links.specs.Terms.{UnitName, Verdict, Accepted, Fail, Held, Sealed, Packet, History, base, On, key_in}
 use Rattle.spec_keys.specs.Places.{is_cut}
-use Rattle.run_events.specs.declared.event.Event.TheVariants as event
+use Rattle.script_events.specs.declared.event.Event.TheVariants as event
 use Rattle.spec_links.specs.Plan.{SubStream, is_same, is_same_port, lane_out, lane_in, stream_plan}
 use Rattle.spec_links.specs.History.{is_sealed_under, KeyName, live_key, sealed_packets, sub_stream_of, draws_got}
 use Rattle.spec_links.specs.History.{port_keys, sent_packets, received_in, is_keyed, after_ends, accepted_keys, waits}

@@ -13,8 +13,8 @@ pub use Rattle.spec_links.specs.Admission.{write_if_admitted, admitted_each, pla
 use Rattle.spec_links.specs.Sent.{queued_in, reads_taken}
 use Rattle.spec_links.specs.Hops.{HopTlp, entering_end, accepted_tlps_in, forwarded_count}
 use Rattle.ide_types.specs.declared.direction.Direction.{Direction}
-use Rattle.run_verdicts.specs.declared.verdict.Verdict.TheVariants as v
-use Rattle.run_events.specs.declared.event.InterfaceEvent.TheVariants as ie
+use Rattle.event_verdicts.specs.declared.verdict.Verdict.TheVariants as v
+use Rattle.script_events.specs.declared.event.InterfaceEvent.TheVariants as ie
 use Rattle.ide_types.specs.declared.verdict.InterfaceVerdict.TheVariants as iv
 
 -- ---- reads

@@ -12,11 +12,11 @@ pub use Rattle.spec_links.specs.Ended.{unit_accepted}
 unfoldable pub use Rattle.spec_links.specs.Ended.{packets_held}
 use Rattle.spec_links.specs.Hops.{HopTlp, first_in, leaving_end}
 use Rattle.spec_links.specs.Admission.{admitted_writes}
-use Rattle.run_events.specs.declared.event.Event.TheVariants.{Forward}
-use Rattle.run_events.specs.declared.event.AccessEvent.TheVariants as ae
-use Rattle.run_verdicts.specs.declared.access.AccessVerdict.TheVariants as av
-use Rattle.run_verdicts.specs.declared.verdict.Effect.TheVariants as effect
-use Rattle.run_verdicts.specs.declared.verdict.Verdict.TheVariants as v
+use Rattle.script_events.specs.declared.event.Event.TheVariants.{Forward}
+use Rattle.script_events.specs.declared.event.AccessEvent.TheVariants as ae
+use Rattle.event_verdicts.specs.declared.access.AccessVerdict.TheVariants as av
+use Rattle.event_verdicts.specs.declared.verdict.Effect.TheVariants as effect
+use Rattle.event_verdicts.specs.declared.verdict.Verdict.TheVariants as v
 use Rattle.spec_links.specs.Plan.{SubStream}
 
 -- ---- writes

@@ -6,16 +6,24 @@ pub use Rattle.ide_types.specs.declared.port.PortName.{PortName}
 pub use Rattle.ide_types.specs.declared.port.Side.TheVariants.{Device, Host}
 pub use Rattle.ide_types.specs.declared.sub.SubKind.{SubKind}
 pub use Rattle.ide_types.specs.declared.plan.Plan.{Plan}
-pub use Rattle.run_events.specs.declared.event.Event.{Event}
-pub use Rattle.run_events.specs.declared.event.Event.TheVariants.{Access, Alter, Arrive, Cut, Dump, Establish}
-pub use Rattle.run_events.specs.declared.event.Event.TheVariants.{Interface, Pass, Refresh, Reset, Send, Status, Stop}
-pub use Rattle.run_events.specs.declared.event.AccessEvent.{AccessEvent}
-pub use Rattle.run_events.specs.declared.event.InterfaceEvent.{InterfaceEvent}
-pub use Rattle.run_verdicts.specs.declared.verdict.Effect.{Effect}
-pub use Rattle.run_verdicts.specs.declared.verdict.SealedPacket.{SealedPacket}
-pub use Rattle.run_verdicts.specs.declared.verdict.UnitName.{UnitName}
-pub use Rattle.run_verdicts.specs.declared.verdict.Verdict.{Verdict}
-pub use Rattle.run_verdicts.specs.declared.verdict.Verdict.TheVariants.{Accepted, Fail, Held, Sealed}
+pub use Rattle.script_events.specs.declared.event.Event.{Event}
+pub use Rattle.script_events.specs.declared.event.Event.TheVariants.{Access, Alter, Arrive, Cut, Dump, Establish}
+pub use Rattle.script_events.specs.declared.event.Event.TheVariants.{
+  Interface,
+  Pass,
+  Refresh,
+  Reset,
+  Send,
+  Status,
+  Stop,
+}
+pub use Rattle.script_events.specs.declared.event.AccessEvent.{AccessEvent}
+pub use Rattle.script_events.specs.declared.event.InterfaceEvent.{InterfaceEvent}
+pub use Rattle.event_verdicts.specs.declared.verdict.Effect.{Effect}
+pub use Rattle.event_verdicts.specs.declared.verdict.SealedPacket.{SealedPacket}
+pub use Rattle.event_verdicts.specs.declared.verdict.UnitName.{UnitName}
+pub use Rattle.event_verdicts.specs.declared.verdict.Verdict.{Verdict}
+pub use Rattle.event_verdicts.specs.declared.verdict.Verdict.TheVariants.{Accepted, Fail, Held, Sealed}
 pub use Rattle.tlp_layout.specs.Reading.{read_head_of, read_of}
 pub use Rattle.tlp_layout.specs.Tlp.{body, header}
 pub use Rattle.tlp_layout.specs.declared.fault.TlpFault.{TlpFault}

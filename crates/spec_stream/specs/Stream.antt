@@ -6,8 +6,8 @@ use Rattle.ide_types.specs.declared.sub.SubKind.{SubKind}
 use Rattle.ide_types.specs.declared.sub.SubKind.TheVariants.{Pr, Npr, Cpl}
 use Rattle.ide_types.specs.declared.sub.FailCause.{FailCause}
 use Rattle.ide_types.specs.declared.sub.FailCause.TheVariants as fail
-use Rattle.run_verdicts.specs.declared.verdict.SealedPacket.{SealedPacket}
-use Rattle.run_verdicts.specs.declared.verdict.UnitName.{UnitName}
+use Rattle.event_verdicts.specs.declared.verdict.SealedPacket.{SealedPacket}
+use Rattle.event_verdicts.specs.declared.verdict.UnitName.{UnitName}
 use Rattle.gcm_seal.specs.Gcm.{masked_bytes, tag_of, verifies}
 use Rattle.ide_prefix.specs.Packet.{Packet, sync_head}
 use Rattle.ide_prefix.specs.Iv.{iv_of}

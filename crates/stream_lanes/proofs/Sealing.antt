@@ -8,7 +8,7 @@ use Rattle.std.proofs.Common.{arith, inl, inr, ◌⊎◌, length-append}
 use Rattle.std.specs.Int.{w64, to_be_bytes}
 use Rattle.std.proofs.lemmas.Grind.{common_steps}
 use Rattle.ide_types.specs.declared.port.Side.TheVariants.{Host}
-use Rattle.run_verdicts.specs.declared.verdict.SealedPacket.{SealedPacket as Described}
+use Rattle.event_verdicts.specs.declared.verdict.SealedPacket.{SealedPacket as Described}
 use Rattle.gcm_seal.specs.Gcm.{masked_bytes, tag_of}
 use Rattle.gcm_seal.proofs.Strings.{length-masked_bytes}
 use Rattle.gcm_seal.proofs.Sealing.{length-tag_of}

@@ -7,7 +7,7 @@ use Rattle.std.proofs.Common.{Some, None, refl, sym, ap, ◌∙◌, subst, arith
 use Rattle.ide_types.specs.declared.sub.SubKind.{SubKind}
 use Rattle.ide_types.specs.declared.sub.SubKind.TheVariants.{Pr, Npr, Cpl}
 use Rattle.ide_types.specs.declared.port.PortName.{PortName}
-use Rattle.run_verdicts.specs.declared.verdict.SealedPacket.{SealedPacket as Described}
+use Rattle.event_verdicts.specs.declared.verdict.SealedPacket.{SealedPacket as Described}
 use Rattle.ide_prefix.specs.Packet.{Packet, packet_bytes}
 use Rattle.spec_stream.specs.Sending.{Sending, Lanes, total_ahead, needs_sync}
 use Rattle.spec_stream.specs.Sending.{described_seal, ends_unit, sets_trusted, sealed_with_syncs}

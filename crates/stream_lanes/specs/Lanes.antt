@@ -4,7 +4,7 @@ use Rattle.std.specs.Prelude.{◌∷◌, length, Option, Result, Ok, is_some, If
 use Rattle.ide_types.specs.declared.sub.SubKind.{SubKind}
 use Rattle.ide_types.specs.declared.sub.SubKind.TheVariants.{Pr, Npr, Cpl}
 use Rattle.ide_types.specs.declared.port.Side.TheVariants.{Host}
-use Rattle.run_verdicts.specs.declared.verdict.SealedPacket.{SealedPacket as Described}
+use Rattle.event_verdicts.specs.declared.verdict.SealedPacket.{SealedPacket as Described}
 use Rattle.ide_prefix.specs.Packet.{Packet, packet_bytes}
 use Rattle.spec_stream.specs.Sending.{Lane, Lanes, is_posted, needs_sync, no_key, total_ahead}
 use Rattle.spec_stream.specs.Stream.{LaneSlots, TxSub, Three, at_sub, set_sub, each_sub, live_sender, lane_of}

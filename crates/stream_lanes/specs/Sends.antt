@@ -3,9 +3,9 @@ use Rattle.std.specs.Prelude.{ℕ, ◌≡◌, ◌+◌, Bool, true, false, List, 
 use Rattle.std.specs.Prelude.{Err}
 use Rattle.ide_types.specs.declared.sub.SubKind.{SubKind}
 use Rattle.ide_types.specs.declared.port.PortName.{PortName}
-use Rattle.run_verdicts.specs.declared.verdict.Verdict.{Verdict}
-use Rattle.run_verdicts.specs.declared.verdict.Verdict.TheVariants as v
-use Rattle.run_verdicts.specs.declared.verdict.SealedPacket.{SealedPacket as Described}
+use Rattle.event_verdicts.specs.declared.verdict.Verdict.{Verdict}
+use Rattle.event_verdicts.specs.declared.verdict.Verdict.TheVariants as v
+use Rattle.event_verdicts.specs.declared.verdict.SealedPacket.{SealedPacket as Described}
 use Rattle.ide_prefix.specs.Packet.{Packet, packet_bytes}
 use Rattle.spec_stream.specs.Sending.{Sending, sealed_with_syncs, refusals, first_that_holds}
 use Rattle.spec_stream.specs.Stream.{sealed_all}
@@ -24,12 +24,12 @@ refusal_verdict Unfinished = v.RefusedUnfinished
 refusal_verdict Insecure = v.RefusedInsecure
 
 -- a key that a send asks for: a missing one is refused at once, and a worn one after all that are missing
-abbrev pub IsAsked : {K : Type 0} → SubKind → ℕ → Bool → Bool → (K → Type 0)
+abbrev pub IsKeyOrRefused : {K : Type 0} → SubKind → ℕ → Bool → Bool → (K → Type 0)
     → Result (Result K SendRefusal) SendRefusal → Type 0
-IsAsked u limit keyless worn IsKey (Err refusal) = (refusal ≡ NoKey u) × (keyless ≡ true)
-IsAsked u limit keyless worn IsKey (Ok (Err refusal)) =
+IsKeyOrRefused u limit keyless worn IsKey (Err refusal) = (refusal ≡ NoKey u) × (keyless ≡ true)
+IsKeyOrRefused u limit keyless worn IsKey (Ok (Err refusal)) =
     (refusal ≡ Worn u limit) × (keyless ≡ false) × (worn ≡ true)
-IsAsked u limit keyless worn IsKey (Ok (Ok key)) = (keyless ≡ false) × (worn ≡ false) × IsKey key
+IsKeyOrRefused u limit keyless worn IsKey (Ok (Ok key)) = (keyless ≡ false) × (worn ≡ false) × IsKey key
 
 -- the keys of a send, or why a TLP of this sub-stream is refused
 abbrev pub AreSendKeysOrRefused : SendEnds → SubKind → Result SendKeys SendRefusal → Type 0

@@ -14,7 +14,7 @@ ghost use Rattle.spec_stream.specs.Stream.{at_sub};
 ghost use Rattle.spec_stream.specs.Slots.{any_live, sealing_draw};
 ghost use Rattle.sub_stream.specs.{slot_pair};
 ghost use Rattle.sub_stream.specs.Facts.{sender_facts};
-ghost use Rattle.stream_lanes.specs.Sends.{IsSealed, IsSealedOrRefused, IsAsked, AreSendKeysOrRefused};
+ghost use Rattle.stream_lanes.specs.Sends.{IsSealed, IsSealedOrRefused, IsKeyOrRefused, AreSendKeysOrRefused};
 ghost use Rattle.stream_lanes.specs.Lanes.{new_send_ends, send_end_at, sealing_lanes, sealing_lane, ready_end};
 ghost use Rattle.stream_lanes.specs.Lanes.{tlp_said, packet_said_at, sealed_ends, measured_packet, open_in, any_out};
 ghost use Rattle.stream_lanes.specs.Lanes.{all_out, settled_senders, called_ends, ends_after_sync, sync_packets};
@@ -380,7 +380,7 @@ impl SendLanes {
 
     // The key of a sub-stream.
     fn key(&self, sub: SubKind) -> Asked<ReadyKey>
-        ensures { IsAsked sub self.now.fixed.limit (is_keyless (sealing_lanes self.now) sub)
+        ensures { IsKeyOrRefused sub self.now.fixed.limit (is_keyless (sealing_lanes self.now) sub)
             (is_worn (sealing_lanes self.now) sub) (λ key. ready_end (send_end_at self.now sub) ≡ Ok key) result }
     {
         match self.lane(sub).ready() {
@@ -395,7 +395,7 @@ impl SendLanes {
     fn sync_key(&self, class: SubKind, sub: SubKind) -> Asked<Option<ReadyKey>>
         requires { is_posted sub ≡ false }
         ensures { let needed = needs_sync (sealing_lanes self.now) class sub in
-            IsAsked sub self.now.fixed.limit (needed && is_keyless (sealing_lanes self.now) sub)
+            IsKeyOrRefused sub self.now.fixed.limit (needed && is_keyless (sealing_lanes self.now) sub)
             (needed && is_worn (sealing_lanes self.now) sub) (λ key. IsSyncKey self.now class sub key) result }
     {
         if !self.needs_sync(class, sub) {

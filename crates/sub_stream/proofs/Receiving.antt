@@ -15,7 +15,7 @@ use Rattle.sub_stream.specs.declared.receiver.Holds.{Holds}
 use Rattle.sub_stream.specs.declared.receiver.Holds.TheVariants.{Nothing, HeldZero, HeldOne, Delivered}
 use Rattle.sub_stream.specs.Seen.{slot_as_seen, live_key_seen}
 use Rattle.sub_stream.specs.Receivers.{held_zero, held_one, receiver_slots_seen, HoldsFew, holds_some, holds_apart}
-use Rattle.sub_stream.specs.Receivers.{Receiver, fits_held, fits_unit, key_for, keyed_by}
+use Rattle.sub_stream.specs.Receivers.{Receiver, fits_held, fits_unit, key_for, key_or_answer}
 
 -- the units and the packets of a key set
 abbrev pub units_of : Bool → ℕ → ℕ → ℕ
@@ -142,7 +142,7 @@ early_seen k pair u0 u1 h aggregation ps p few =
 -- an answer in place of a key is the early one
 pub early_is : (k : Bool) (pair : SlotPair) (u0 u1 : ℕ) (h : Holds) (aggregation : ℕ) (ps : List Packet) (p : Packet)
     (a : Answer)
-    → HoldsFew pair aggregation h ps → keyed_by (live_held (slot_in pair k)) (live_held (slot_in pair (not k)))
+    → HoldsFew pair aggregation h ps → key_or_answer (live_held (slot_in pair k)) (live_held (slot_in pair (not k)))
     (fits_held h (length ps) aggregation k p.prefix.m) ≡ Err a
     → early_answer aggregation p (live_in (seen_slot (receiver_slots_seen pair u0 u1 h ps) k))
     (live_in (seen_slot (receiver_slots_seen pair u0 u1 h ps) (not k))) ≡ Some a
@@ -151,14 +151,14 @@ early_is k pair u0 u1 h aggregation ps p a few is =
     ∙ by_keys (live_held (slot_in pair k)) (live_held (slot_in pair (not k)))
     (fits_held h (length ps) aggregation k p.prefix.m) is
   where
-    by_keys : (x y : Option DrawnKey) (fits : Bool) → keyed_by x y fits ≡ Err a → early_by x y fits ≡ Some a
+    by_keys : (x y : Option DrawnKey) (fits : Bool) → key_or_answer x y fits ≡ Err a → early_by x y fits ≡ Some a
     by_keys None None fits e = let same : answers.NotKeyed ≡ a = cc in ap (λ b. Some b) same
     by_keys None (Some y) fits e = let same : answers.Fail fail.Key ≡ a = cc in ap (λ b. Some b) same
     by_keys (Some x) y true e = absurd (cc)
     by_keys (Some x) y false e = let same : answers.Fail fail.Unit ≡ a = cc in ap (λ b. Some b) same
 
 -- a key that is given is that of the set, and the packet fits
-pub key_and_fit : (x y : Option DrawnKey) (fits : Bool) (held : DrawnKey) → keyed_by x y fits ≡ Ok held
+pub key_and_fit : (x y : Option DrawnKey) (fits : Bool) (held : DrawnKey) → key_or_answer x y fits ≡ Ok held
     → (x ≡ Some held) × (fits ≡ true)
 key_and_fit None None fits held e = absurd (cc)
 key_and_fit None (Some y) fits held e = absurd (cc)

@@ -1,7 +1,7 @@
 -- What senders and receivers answer, beside the verdicts of a port.
 use Rattle.std.specs.Prelude.{ℕ, length, Option, Some, None}
 use Rattle.ide_types.specs.declared.port.PortName.{PortName}
-use Rattle.run_verdicts.specs.declared.verdict.SealedPacket.{SealedPacket as Described}
+use Rattle.event_verdicts.specs.declared.verdict.SealedPacket.{SealedPacket as Described}
 use Rattle.spec_stream.specs.Stream.{Taken as Answer, Insecure, NotKeyed as Keyless, Failed, Held as HeldBack}
 use Rattle.spec_stream.specs.Stream.{Accepted as Whole}
 use Rattle.sub_stream.specs.declared.answer.MeasuredPacket.{MeasuredPacket}

@@ -188,10 +188,10 @@ receiver_outcome_by_keys rx allowed total p (Some x) other =
 
 -- the key of a packet's set, by the Live keys of this set and of the other, and whether the packet fits what is held;
 -- else the answer that comes before a look at the tag
-abbrev pub keyed_by : Option DrawnKey → Option DrawnKey → Bool → Result DrawnKey Answer
-keyed_by None None fits = Err answers.NotKeyed
-keyed_by None (Some y) fits = Err (answers.Fail fail.Key)
-keyed_by (Some x) other fits = if fits then Ok x else Err (answers.Fail fail.Unit)
+abbrev pub key_or_answer : Option DrawnKey → Option DrawnKey → Bool → Result DrawnKey Answer
+key_or_answer None None fits = Err answers.NotKeyed
+key_or_answer None (Some y) fits = Err (answers.Fail fail.Key)
+key_or_answer (Some x) other fits = if fits then Ok x else Err (answers.Fail fail.Unit)
 
 -- with a lent key as a value
 abbrev pub shown_keyed : Result (Bor (List ℕ) × ℕ) Answer → Result DrawnKey Answer

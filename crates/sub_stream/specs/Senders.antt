@@ -4,7 +4,7 @@ use Rattle.std.specs.Prelude.{◌≡◌, ℕ, ◌+◌, ◌≤◌, ◌<◌, Bool,
 use Rattle.std.specs.Prelude.{Some, None, Result, Ok, Err, if◌then◌else◌}
 use Rattle.ide_types.specs.declared.sub.SubKind.{SubKind}
 use Rattle.ide_types.specs.declared.port.Side.TheVariants.{Host}
-use Rattle.run_verdicts.specs.declared.verdict.SealedPacket.{SealedPacket as Described}
+use Rattle.event_verdicts.specs.declared.verdict.SealedPacket.{SealedPacket as Described}
 use Rattle.ide_prefix.specs.Packet.{Packet, packet_bytes, sync_head}
 use Rattle.spec_stream.specs.Stream.{Empty, Programmed, LaneSlots, LiveKey, live_sender, untagged_under, tagged_under}
 use Rattle.spec_stream.specs.Stream.{sealed_slots, slot_in_set, with_slot}

@@ -14,7 +14,7 @@ ghost use Rattle.sub_stream.specs.Gathered.{lent_totals, clear_of, no_packets};
 ghost use Rattle.sub_stream.specs.Seen.{slot_pair, key_slot, is_programmed, live_key_seen};
 ghost use Rattle.sub_stream.specs.Senders.{begun_where_empty};
 ghost use Rattle.sub_stream.specs.Receivers.{fits_held, judged_packet, BufferAfter, holds_some, holds_apart};
-ghost use Rattle.sub_stream.specs.Receivers.{keyed_by, shown_keyed};
+ghost use Rattle.sub_stream.specs.Receivers.{key_or_answer, shown_keyed};
 ghost use Rattle.sub_stream.specs.Receivers.{holds_after_answer, held_alone, held_unless_failed, holds_without};
 ghost use Rattle.sub_stream.specs.Receivers.{is_accepted, without_older, slots_after, held_zero, held_one};
 
@@ -181,7 +181,7 @@ fn fits(holds: Holds, unit: &ReceivedPackets, aggregation: u8, packet: &PacketVi
 
 // The Live key of a packet's key set, if the packet fits what is held; else the answer that needs no look at the tag.
 fn key_if_fits(slots: &Slots, k: bool, fits: bool) -> Result<(&Gcm, u32), Taken>
-    ensures { shown_keyed result ≡ keyed_by (live_held (key_slot_in slots.now k))
+    ensures { shown_keyed result ≡ key_or_answer (live_held (key_slot_in slots.now k))
         (live_held (key_slot_in slots.now (not k))) fits }
 {
     let set = KeySet::of_bit(k);

@@ -4,11 +4,11 @@ use Rattle.std.specs.Prelude.{ℕ, not, Bool, true, false, if◌then◌else◌, 
 use Rattle.std.specs.Option.{option_or}
 use Rattle.ide_types.specs.declared.binding.Binding.{Binding}
 use Rattle.ide_types.specs.declared.plan.Region.{Region}
-use Rattle.run_verdicts.specs.declared.verdict.BlockCause.{BlockCause}
-use Rattle.run_verdicts.specs.declared.verdict.BlockCause.TheVariants.{NotTrusted, NotRunning, Outside, Crosses}
-use Rattle.run_verdicts.specs.declared.verdict.Effect.{Effect}
-use Rattle.run_verdicts.specs.declared.verdict.Effect.TheVariants.{Applied, Blocked, Delivered}
-use Rattle.run_verdicts.specs.Causes.{binding_cause}
+use Rattle.event_verdicts.specs.declared.verdict.BlockCause.{BlockCause}
+use Rattle.event_verdicts.specs.declared.verdict.BlockCause.TheVariants.{NotTrusted, NotRunning, Outside, Crosses}
+use Rattle.event_verdicts.specs.declared.verdict.Effect.{Effect}
+use Rattle.event_verdicts.specs.declared.verdict.Effect.TheVariants.{Applied, Blocked, Delivered}
+use Rattle.event_verdicts.specs.Causes.{binding_cause}
 use Rattle.trusted_memory.specs.declared.grant.Grant.{Grant}
 use Rattle.trusted_memory.specs.declared.span.Span.{Span}
 use Rattle.trusted_memory.specs.Spans.{span_byte_count, crosses}

@@ -3,9 +3,9 @@ use Rattle.std.specs.Prelude.{ℕ, zero, suc, ◌≡◌, ◌+◌, ◌-◌, ◌/�
 use Rattle.std.specs.Prelude.{map, replicate, slice_index, Option, Some, None}
 use Rattle.std.specs.List.{list_any}
 use Rattle.ide_types.specs.declared.plan.Region.{Region}
-use Rattle.run_verdicts.specs.declared.verdict.BlockCause.{BlockCause}
-use Rattle.run_verdicts.specs.declared.verdict.Effect.{Effect}
-use Rattle.run_verdicts.specs.declared.verdict.Effect.TheVariants.{Applied}
+use Rattle.event_verdicts.specs.declared.verdict.BlockCause.{BlockCause}
+use Rattle.event_verdicts.specs.declared.verdict.Effect.{Effect}
+use Rattle.event_verdicts.specs.declared.verdict.Effect.TheVariants.{Applied}
 use Rattle.trusted_memory.specs.declared.span.Span.{Span}
 use Rattle.trusted_memory.specs.Writes.{Write, byte_written, byte_last_written, newest_first}
 use Rattle.trusted_memory.specs.Regions.{is_inside}

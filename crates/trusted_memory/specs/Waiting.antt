@@ -3,10 +3,10 @@ use Rattle.std.specs.Prelude.{ℕ, ◌≤◌, nat_le, Bool, true, if◌then◌el
 use Rattle.std.specs.Prelude.{None}
 use Rattle.std.specs.Option.{option_or}
 use Rattle.ide_types.specs.declared.plan.Region.{Region}
-use Rattle.run_verdicts.specs.declared.verdict.BlockCause.{BlockCause}
-use Rattle.run_verdicts.specs.declared.verdict.BlockCause.TheVariants.{Full}
-use Rattle.run_verdicts.specs.declared.verdict.Effect.{Effect}
-use Rattle.run_verdicts.specs.declared.verdict.Effect.TheVariants.{Queued, Blocked, Delivered}
+use Rattle.event_verdicts.specs.declared.verdict.BlockCause.{BlockCause}
+use Rattle.event_verdicts.specs.declared.verdict.BlockCause.TheVariants.{Full}
+use Rattle.event_verdicts.specs.declared.verdict.Effect.{Effect}
+use Rattle.event_verdicts.specs.declared.verdict.Effect.TheVariants.{Queued, Blocked, Delivered}
 use Rattle.tlp_layout.specs.declared.head.HeadView.{HeadView}
 use Rattle.trusted_memory.specs.declared.grant.Grant.{Grant}
 use Rattle.trusted_memory.specs.declared.span.Span.{Span}

@@ -5,8 +5,8 @@ ghost use Rattle.trusted_memory.specs.Causes.{grant_cause, place_cause, block_ca
 
 use crate::regions::in_one_region;
 use crate::{Grant, Span};
+use event_verdicts::{BlockCause, binding_cause};
 use ide_types::Region;
-use run_verdicts::{BlockCause, binding_cause};
 
 /// Why the grant does not admit a trusted request: its requester is no running interface; it came on another stream
 /// than the bound one; its draw is less than the floor (this profile).

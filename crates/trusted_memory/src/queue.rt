@@ -5,8 +5,8 @@ ghost use Rattle.std.specs.List.{slice_get};
 ghost use Rattle.trusted_memory.specs.Requests.{FitsRead};
 
 use crate::{Grant, MemReadView, Trusted};
+use event_verdicts::{BlockCause, Effect};
 use ide_types::OutOfMemory;
-use run_verdicts::{BlockCause, Effect};
 use std::alloc::Global;
 use std::collections::VecDeque;
 use std::marker::Model;

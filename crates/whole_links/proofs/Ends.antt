@@ -4,11 +4,11 @@ use Rattle.std.proofs.lemmas.Bool.{true≢false}
 use Rattle.std.specs.Prelude.{Option, Some, None, Result, Ok, Err, IsErr}
 use Rattle.ide_types.specs.declared.memory.OutOfMemory.{OutOfMemory}
 use Rattle.ide_types.specs.declared.plan.Plan.{Plan}
-use Rattle.run_events.specs.declared.event.Event.{Event}
-use Rattle.run_events.specs.declared.event.InterfaceEvent.{InterfaceEvent}
-use Rattle.run_verdicts.specs.declared.verdict.Verdict.{Verdict}
-use Rattle.run_events.specs.declared.event.Event.TheVariants.{Absent, Interface}
-use Rattle.run_verdicts.specs.declared.verdict.Verdict.TheVariants as v
+use Rattle.script_events.specs.declared.event.Event.{Event}
+use Rattle.script_events.specs.declared.event.InterfaceEvent.{InterfaceEvent}
+use Rattle.event_verdicts.specs.declared.verdict.Verdict.{Verdict}
+use Rattle.script_events.specs.declared.event.Event.TheVariants.{Absent, Interface}
+use Rattle.event_verdicts.specs.declared.verdict.Verdict.TheVariants as v
 use Rattle.machine_ports.specs.Machine.{BesidePorts, LinkState}
 unfoldable use Rattle.machine_ports.specs.Machine.{step_of}
 use Rattle.all_links.specs.Besides.{beside_in}

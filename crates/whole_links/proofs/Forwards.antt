@@ -16,10 +16,10 @@ use Rattle.ide_types.specs.declared.plan.Plan.{Plan}
 use Rattle.ide_types.specs.declared.stream.StreamPlan.{StreamPlan}
 use Rattle.ide_types.specs.Ends.{link_hop}
 use Rattle.hop_queues.specs.declared.queue.HopTlp.{HopTlp}
-use Rattle.run_events.specs.declared.event.Event.TheVariants.{Forward}
-use Rattle.run_verdicts.specs.declared.verdict.Verdict.{Verdict}
-use Rattle.run_verdicts.specs.declared.verdict.Verdict.TheVariants as v
-use Rattle.run_verdicts.specs.declared.access.AccessVerdict.TheVariants as av
+use Rattle.script_events.specs.declared.event.Event.TheVariants.{Forward}
+use Rattle.event_verdicts.specs.declared.verdict.Verdict.{Verdict}
+use Rattle.event_verdicts.specs.declared.verdict.Verdict.TheVariants as v
+use Rattle.event_verdicts.specs.declared.access.AccessVerdict.TheVariants as av
 use Rattle.spec_links.specs.Hops.{has_hop, leaving_end}
 use Rattle.spec_links.specs.Plan.{has_link, has_port, streams_of}
 use Rattle.spec_links.proofs.HopRows.{near_row, far_row}

@@ -4,10 +4,10 @@ use Rattle.std.specs.Prelude.{ℕ, nat_le, Bool, false, if◌then◌else◌, Lis
 use Rattle.std.specs.Prelude.{Result, Err, slice_get}
 use Rattle.ide_types.specs.declared.direction.Direction.{Direction}
 use Rattle.ide_types.specs.declared.plan.Plan.{Plan}
-use Rattle.run_events.specs.declared.event.InterfaceEvent.{InterfaceEvent}
-use Rattle.run_verdicts.specs.declared.verdict.Verdict.{Verdict}
-use Rattle.run_verdicts.specs.declared.verdict.Verdict.TheVariants as v
-use Rattle.run_verdicts.specs.declared.access.AccessVerdict.TheVariants as av
+use Rattle.script_events.specs.declared.event.InterfaceEvent.{InterfaceEvent}
+use Rattle.event_verdicts.specs.declared.verdict.Verdict.{Verdict}
+use Rattle.event_verdicts.specs.declared.verdict.Verdict.TheVariants as v
+use Rattle.event_verdicts.specs.declared.access.AccessVerdict.TheVariants as av
 use Rattle.tlp_layout.specs.Outgoing.{outgoing_of, stream_taken}
 use Rattle.trusted_memory.specs.{MemoryContents, byte_at, bytes_from}
 use Rattle.trusted_memory.specs.declared.queue.WaitingRead.{WaitingRead}

@@ -3,8 +3,8 @@ use Rattle.std.specs.Prelude.{ℕ, nat_lt, nat_le, bit_xor, List, length, take, 
 use Rattle.std.specs.Prelude.{None, if◌then◌else◌, option_map}
 use Rattle.std.specs.Option.{option_and_then}
 use Rattle.ide_types.specs.declared.plan.Plan.{Plan}
-use Rattle.run_events.specs.declared.event.Event.{Event}
-use Rattle.run_events.specs.declared.event.Event.TheVariants as event
+use Rattle.script_events.specs.declared.event.Event.{Event}
+use Rattle.script_events.specs.declared.event.Event.TheVariants as event
 use Rattle.spec_links.specs.Plan.{has_port, partner}
 use Rattle.machine_ports.specs.Machine.{LinkPacket, packet_numbered}
 use Rattle.whole_links.specs.declared.packets.Incoming.{Incoming}

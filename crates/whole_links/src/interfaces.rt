@@ -1,7 +1,7 @@
 //! Events on interfaces.
 
 ghost use Rattle.std.specs.Prelude.{◌≡◌, ◌<◌, ◌^◌, ◌&&◌, not, IfOk, IfSome, length};
-ghost use Rattle.run_events.specs.Interfaces.{IsAllowedInterface};
+ghost use Rattle.script_events.specs.Interfaces.{IsAllowedInterface};
 ghost use Rattle.spec_interfaces.specs.Exchanges.{changes_device};
 ghost use Rattle.guarded_memory.specs.Happenings.{InterfaceReset};
 ghost use Rattle.all_links.specs.Accesses.{runs_in, same_reads, same_floors, nothing_happens};
@@ -11,10 +11,10 @@ ghost use Rattle.all_links.specs.Interfaces.{interface_named};
 
 use crate::verdicts::{changes_device, reaches};
 use crate::whole::WholeLinks;
+use event_verdicts::Verdict;
 use ide_types::OutOfMemory;
 use interface_host::InterfaceOperation;
-use run_events::{Event, InterfaceEvent, Loss};
-use run_verdicts::Verdict;
+use script_events::{Event, InterfaceEvent, Loss};
 use std::alloc::Global;
 
 impl WholeLinks {

@@ -7,10 +7,10 @@ ghost use Rattle.whole_links.specs.Packets.{bytes_left, brought_in, incoming_eve
 
 use crate::whole::WholeLinks;
 use all_links::{Arriving, Packets, land};
+use event_verdicts::Verdict;
 use ide_types::{OutOfMemory, PortName, ValidPlan};
 use line_routes::{has_port, partner};
-use run_events::Event;
-use run_verdicts::Verdict;
+use script_events::Event;
 use std::alloc::Global;
 use std::borrow::CowSlice;
 

@@ -13,11 +13,11 @@ ghost use Rattle.all_links.specs.BesideAfter.{BesideStays};
 use crate::reply::{draw_below, judged, small_number};
 use crate::verdicts::{dropped, empty, takes_read};
 use crate::whole::WholeLinks;
+use event_verdicts::{AccessVerdict, BlockCause, Verdict};
 use ide_types::{
     Binding, Bytes, InterfaceVerdict, OutOfMemory, PortName, Side, SubKind, ValidPlan,
 };
-use run_events::{AccessEvent, Event};
-use run_verdicts::{AccessVerdict, BlockCause, Verdict};
+use script_events::{AccessEvent, Event};
 use std::alloc::Global;
 use trusted_memory::{COMPLETION_BYTES, WaitingRead, complete};
 

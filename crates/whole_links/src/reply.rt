@@ -4,8 +4,8 @@ ghost use Rattle.std.specs.Prelude.{◌≡◌, Some};
 ghost use Rattle.whole_links.specs.Besides.{draw_below, judged_bound, small_number};
 
 use crate::verdicts::dropped;
+use event_verdicts::{Verdict, binding_cause};
 use ide_types::Binding;
-use run_verdicts::{Verdict, binding_cause};
 
 /// The binding of an interface, if a completion for it takes that stream, and if its read came under a draw from the
 /// floor on; else the verdict that drops the read. `taken` is the stream that the completion takes.

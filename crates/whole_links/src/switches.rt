@@ -7,10 +7,10 @@ ghost use Rattle.spec_links.specs.Hops.{has_hop as has_hop_in};
 
 use crate::verdicts::{empty, is_sealed};
 use crate::whole::WholeLinks;
+use event_verdicts::Verdict;
 use ide_types::{Direction, OutOfMemory, ValidPlan};
 use line_routes::{has_hop, leaving_end};
-use run_events::Event;
-use run_verdicts::Verdict;
+use script_events::Event;
 
 impl WholeLinks {
     ghost use Rattle.whole_links.specs.Whole.{IsBoundedWhole, WholeEndsOr};

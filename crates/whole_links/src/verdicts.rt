@@ -4,8 +4,8 @@ ghost use Rattle.std.specs.Prelude.{◌≡◌};
 ghost use Rattle.spec_interfaces.specs.Exchanges.{carries, changes_device, is_interface_done};
 ghost use Rattle.whole_links.specs.Accesses.{is_sealed, takes_read};
 
+use event_verdicts::{AccessVerdict, BlockCause, Verdict};
 use ide_types::InterfaceVerdict;
-use run_verdicts::{AccessVerdict, BlockCause, Verdict};
 
 /// Whether an answer to a read with this verdict takes the read: its completion was sealed, or it was dropped.
 pub fn takes_read(verdict: &Verdict) -> bool

@@ -1,18 +1,18 @@
 //! All links with the accesses that stand at each: the first state, resets, and events as a whole.
 
 ghost use Rattle.std.specs.Prelude.{◌≡◌, ◌<◌, ◌^◌, IfOk, IfSome};
-ghost use Rattle.run_events.specs.Spells.{IsAllowed};
-ghost use Rattle.run_events.specs.Accesses.{IsAllowedAccess};
+ghost use Rattle.script_events.specs.Spells.{IsAllowed};
+ghost use Rattle.script_events.specs.Accesses.{IsAllowedAccess};
 ghost use Rattle.all_links.specs.Events.{operation_event};
 ghost use Rattle.all_links.specs.BesideAfter.{BesideStays, BesideOperation, BesideReset, BesideAfter};
 
 use crate::packets::Passage;
 use all_links::Links;
+use event_verdicts::{Operation, Verdict};
 use ide_types::{OutOfMemory, PortName, ValidPlan};
 use join_ends::clear_hops;
 use link_stores::Accesses;
-use run_events::{AccessEvent, Event, Loss};
-use run_verdicts::{Operation, Verdict};
+use script_events::{AccessEvent, Event, Loss};
 use std::alloc::Global;
 
 /// All links of a topology, the trusted reads of each that wait for their answer, the memory of each device's

@@ -8,9 +8,9 @@ use Rattle.ide_types.specs.declared.plan.Plan.{Plan}
 use Rattle.ide_prefix.specs.Packet.{Packet, packet_bytes}
 use Rattle.ide_prefix.specs.Reading.{CutValue, PlainTlp, IdePacket, cut_of}
 use Rattle.ide_prefix.specs.declared.fault.PacketFault.{PacketFault}
-use Rattle.run_events.specs.declared.event.Event.{Event}
-use Rattle.run_events.specs.declared.event.Event.TheVariants as event
-use Rattle.run_verdicts.specs.declared.verdict.SealedPacket.{SealedPacket}
+use Rattle.script_events.specs.declared.event.Event.{Event}
+use Rattle.script_events.specs.declared.event.Event.TheVariants as event
+use Rattle.event_verdicts.specs.declared.verdict.SealedPacket.{SealedPacket}
 use Rattle.spec_keys.specs.Keys.{Keyed, Off, Loaded, On, on_in}
 use Rattle.spec_keys.specs.History.{History, history_status}
 use Rattle.spec_stream.specs.Stream.{RxSub, at_sub, live_in, slot_in_set}

@@ -1,7 +1,7 @@
 -- The facts of a state are those of each history that it stands for.
 use Rattle.std.proofs.Common.{[], refl}
-use Rattle.run_events.specs.declared.event.Event.TheVariants as event
-use Rattle.run_events.specs.declared.event.AccessEvent.TheVariants as ae
+use Rattle.script_events.specs.declared.event.Event.TheVariants as event
+use Rattle.script_events.specs.declared.event.AccessEvent.TheVariants as ae
 use Rattle.spec_interfaces.specs.Views.{number_in}
 use Rattle.spec_links.specs.Plan.{has_link}
 use Rattle.spec_links.specs.Ports.{may_send, outgoing_at, sealing_end}

@@ -1,7 +1,7 @@
 -- The facts of a state are those of each history that it stands for.
 use Rattle.std.specs.Prelude.{◌≡◌}
 use Rattle.ide_types.specs.declared.plan.Plan.{Plan}
-use Rattle.run_events.specs.declared.event.Event.{Event}
+use Rattle.script_events.specs.declared.event.Event.{Event}
 use Rattle.spec_keys.specs.History.{History}
 use Rattle.machine_whole.specs.Machine.{Whole}
 use Rattle.machine_whole.specs.Stands.{WholeStandsFor}

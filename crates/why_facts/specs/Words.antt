@@ -3,7 +3,7 @@ use Rattle.std.specs.Prelude.{◌+◌, Bool, true, false, ◌++◌, codes}
 use Rattle.std.specs.Fmt.{decimal}
 use Rattle.ide_types.specs.{Text, port_word, substream_word, status_word}
 use Rattle.ide_types.specs.ViewNames.{view_word}
-use Rattle.run_verdicts.specs.Words.{bit_of}
+use Rattle.event_verdicts.specs.Words.{bit_of}
 use Rattle.why_facts.specs.Terms.{SetState, ManagerState, StreamFact, OperationFact, InterfaceFact, Fact}
 use Rattle.why_facts.specs.Terms.set
 use Rattle.why_facts.specs.Terms.manager

@@ -6,9 +6,9 @@ ghost use Rattle.why_facts.specs.Lines.{effect_lines, facts_text, rule_line, rul
 
 use crate::fact::Fact;
 use crate::rules::{effect_rule, rule};
+use event_verdicts::{Effect, Verdict};
 use ide_types::{OutOfMemory, PortName, SubKind};
-use run_events::Event;
-use run_verdicts::{Effect, Verdict};
+use script_events::Event;
 use std::alloc::{AllocError, Global};
 
 // Room for most texts.

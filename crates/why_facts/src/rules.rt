@@ -8,9 +8,9 @@ ghost use Rattle.why_facts.specs.Rules.{mmio_cause_rule, operation_rule, read_ca
 ghost use Rattle.why_facts.specs.Rules.{sending_rule, unless_none, unnamed_rule, write_cause_rule};
 
 use crate::fact::{Fact, StreamFact};
+use event_verdicts::{AccessVerdict, BlockCause, Effect, Verdict};
 use ide_types::{FailCause, InterfaceVerdict, PortName, Side, SubKind};
-use run_events::{AccessEvent, Event, InterfaceEvent};
-use run_verdicts::{AccessVerdict, BlockCause, Effect, Verdict};
+use script_events::{AccessEvent, Event, InterfaceEvent};
 
 fn key_rule(class: Option<SubKind>, sub: SubKind) -> &'static str
     ensures { result.now ≡ key_rule class sub }

@@ -7,12 +7,12 @@ use Rattle.std.specs.Prelude.{slice_get, slice_set, if◌then◌else◌, ◌<◌
 use Rattle.std.proofs.lemmas.Bool.{cases_Bool, cases_lt}
 use Rattle.ide_types.specs.declared.plan.Plan.{Plan}
 use Rattle.ide_types.specs.declared.plan.PeerPlan.{PeerPlan}
-use Rattle.run_events.specs.declared.event.Event.TheVariants as event
-use Rattle.run_events.specs.declared.event.InterfaceEvent.{InterfaceEvent}
-use Rattle.run_events.specs.declared.event.InterfaceEvent.TheVariants as ie
-use Rattle.run_events.specs.declared.event.Loss.{Loss}
-use Rattle.run_verdicts.specs.declared.verdict.Verdict.{Verdict}
-use Rattle.run_verdicts.specs.declared.verdict.Verdict.TheVariants as v
+use Rattle.script_events.specs.declared.event.Event.TheVariants as event
+use Rattle.script_events.specs.declared.event.InterfaceEvent.{InterfaceEvent}
+use Rattle.script_events.specs.declared.event.InterfaceEvent.TheVariants as ie
+use Rattle.script_events.specs.declared.event.Loss.{Loss}
+use Rattle.event_verdicts.specs.declared.verdict.Verdict.{Verdict}
+use Rattle.event_verdicts.specs.declared.verdict.Verdict.TheVariants as v
 use Rattle.spec_interfaces.specs.Peers.{has_peer}
 use Rattle.spec_interfaces.specs.Sites.{Site, sites}
 use Rattle.spec_interfaces.specs.Views.{number_in}

@@ -15,10 +15,10 @@ use Rattle.ide_types.specs.Fits.{IsKey}
 use Rattle.ide_types.specs.declared.plan.Plan.{Plan}
 use Rattle.ide_types.specs.declared.plan.PeerPlan.{PeerPlan}
 use Rattle.ide_types.specs.declared.stream.StreamPlan.{StreamPlan}
-use Rattle.run_events.specs.declared.event.Event.TheVariants as event
-use Rattle.run_events.specs.declared.event.Loss.{Loss}
-use Rattle.run_verdicts.specs.declared.verdict.Operation.TheVariants as op
-use Rattle.run_verdicts.specs.declared.verdict.Verdict.{Verdict}
+use Rattle.script_events.specs.declared.event.Event.TheVariants as event
+use Rattle.script_events.specs.declared.event.Loss.{Loss}
+use Rattle.event_verdicts.specs.declared.verdict.Operation.TheVariants as op
+use Rattle.event_verdicts.specs.declared.verdict.Verdict.{Verdict}
 use Rattle.spec_keys.specs.Operations.{StreamStage, reach_of, work_of}
 use Rattle.spec_interfaces.specs.Sites.{Site}
 use Rattle.spec_interfaces.specs.Views.{Managed, managed_after, stop_begins, view_broken, peer_of, is_bind_asked}

@@ -3,12 +3,12 @@
 use Rattle.std.proofs.Common.{◌≡◌, ℕ, List, refl, sym, subst, ⊎_elim}
 use Rattle.std.proofs.lemmas.Bool.{cases_Bool, cases_lt}
 use Rattle.ide_types.specs.declared.plan.Plan.{Plan}
-use Rattle.run_events.specs.declared.event.Event.{Event}
-use Rattle.run_events.specs.declared.event.Event.TheVariants as event
-use Rattle.run_events.specs.declared.event.InterfaceEvent.{InterfaceEvent}
-use Rattle.run_events.specs.declared.event.InterfaceEvent.TheVariants as ie
-use Rattle.run_events.specs.declared.event.AccessEvent.TheVariants as ae
-use Rattle.run_verdicts.specs.declared.verdict.Verdict.{Verdict}
+use Rattle.script_events.specs.declared.event.Event.{Event}
+use Rattle.script_events.specs.declared.event.Event.TheVariants as event
+use Rattle.script_events.specs.declared.event.InterfaceEvent.{InterfaceEvent}
+use Rattle.script_events.specs.declared.event.InterfaceEvent.TheVariants as ie
+use Rattle.script_events.specs.declared.event.AccessEvent.TheVariants as ae
+use Rattle.event_verdicts.specs.declared.verdict.Verdict.{Verdict}
 use Rattle.spec_keys.specs.History.{History}
 use Rattle.machine_ports.specs.Machine.{Stepped, step_of}
 use Rattle.machine_ports.specs.Stands.{PortsStandFor}
@@ -18,7 +18,7 @@ use Rattle.interface_host.specs.declared.operation.InterfaceOperation.TheVariant
 use Rattle.join_accesses.specs.{grants_in, has_peer_in, Links, links_state, managed_peer_stream, BesideAfter}
 use Rattle.join_accesses.specs.{BesideInterface, BesideBinding, AreDrawn, IsBeside}
 use Rattle.interface_host.specs.declared.operation.InterfaceOperation.{InterfaceOperation}
-use Rattle.run_events.specs.declared.event.Loss.{Loss}
+use Rattle.script_events.specs.declared.event.Loss.{Loss}
 use Rattle.std.specs.Prelude.{Option}
 use Rattle.machine_whole.specs.Interfaces.{grant_of}
 use Rattle.join_accesses.proofs.{grant_is, AreBoth, answer_beside, mmio_beside, send_beside, dump_beside, status_beside}

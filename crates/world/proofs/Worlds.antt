@@ -5,9 +5,9 @@ use Rattle.std.proofs.Common.{◌≡◌, ◌∷◌, ℕ, List, length, refl, ap,
 use Rattle.std.proofs.lemmas.Option.{none-some, same_Some}
 use Rattle.std.specs.Prelude.{Err, IfSome, IsSome, Ok, OnErr, Result}
 use Rattle.ide_types.specs.declared.plan.Plan.{Plan}
-use Rattle.run_events.specs.declared.event.Event.{Event}
-use Rattle.run_events.specs.declared.event.InterfaceEvent.{InterfaceEvent}
-use Rattle.run_verdicts.specs.declared.verdict.Verdict.{Verdict}
+use Rattle.script_events.specs.declared.event.Event.{Event}
+use Rattle.script_events.specs.declared.event.InterfaceEvent.{InterfaceEvent}
+use Rattle.event_verdicts.specs.declared.verdict.Verdict.{Verdict}
 use Rattle.spec_keys.specs.History.{History}
 use Rattle.machine_ports.specs.Machine.{LinkPacket, LinkState, Stepped, step_of}
 use Rattle.machine_ports.specs.Stands.{PortsStandFor}

@@ -2,15 +2,15 @@
 
 ghost use Rattle.std.specs.Prelude.{◌≡◌, ◌<◌, ◌+◌, ◌^◌, IfOk, OnErr};
 ghost use Rattle.ide_types.specs.Fits.{FitsPlan};
-ghost use Rattle.run_events.specs.Spells.{IsAllowed};
+ghost use Rattle.script_events.specs.Spells.{IsAllowed};
 
+use event_verdicts::Verdict;
 use ide_types::{OutOfMemory, Plan, ValidPlan};
 use join_accesses::WholeLinks;
 use join_interfaces::interface_operations_join;
 use machine_operations::points_stand;
 use machine_whole::{whole_begins, whole_steps};
-use run_events::Event;
-use run_verdicts::Verdict;
+use script_events::Event;
 use std::alloc::Global;
 use std::marker::Model;
 

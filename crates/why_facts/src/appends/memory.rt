@@ -10,7 +10,7 @@ use crate::appends::faces::push_of_interface;
 use crate::{Fact, InterfaceFact};
 use ide_types::{BarPlan, OutOfMemory, Region, ValidPlan};
 use interface_state::Binding;
-use run_events::InterfaceEvent;
+use script_events::InterfaceEvent;
 use trusted_memory::Span;
 
 // Whether a region has all n bytes from an address on.

@@ -9,9 +9,9 @@ ghost use Rattle.why_facts.specs.Streams.{open_seen};
 
 use crate::appends::streams::{is_live, push};
 use crate::{Fact, ManagerState, OperationFact};
+use event_verdicts::Operation;
 use ide_types::{OutOfMemory, SubKind};
 use key_host::StageFacts;
-use run_verdicts::Operation;
 use sub_stream::StreamFacts;
 
 /// What the manager knows of a stream.

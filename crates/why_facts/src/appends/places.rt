@@ -4,8 +4,8 @@ ghost use Rattle.std.specs.Prelude.{◌≡◌};
 ghost use Rattle.spec_keys.specs.History.{program_exchange};
 ghost use Rattle.why_facts.specs.Places.{is_last_seen, key_place, seen_place_at};
 
+use event_verdicts::Operation;
 use ide_types::{Side, SubKind};
-use run_verdicts::Operation;
 use sub_stream::SlotFacts;
 
 /// A place of a stream's keys (this profile).

@@ -1,6 +1,6 @@
 use Rattle.std.proofs.Common.{◌∙◌, ap, List}
-use Rattle.run_verdicts.specs.declared.verdict.Effect.{Effect}
-use Rattle.run_verdicts.specs.declared.verdict.UnitName.{UnitName}
+use Rattle.event_verdicts.specs.declared.verdict.Effect.{Effect}
+use Rattle.event_verdicts.specs.declared.verdict.UnitName.{UnitName}
 use Rattle.arrival_verdicts.specs.Verdicts.{arrival_verdict}
 use Rattle.arrival_verdicts.specs.Switches.{switched_each}
 use Rattle.arrival_verdicts.proofs.Units.{with_unit}

@@ -1,6 +1,6 @@
 use Rattle.std.proofs.Common.{◌∙◌, ap, List, length}
-use Rattle.run_verdicts.specs.declared.verdict.Effect.{Effect}
-use Rattle.run_verdicts.specs.declared.verdict.UnitName.{UnitName}
+use Rattle.event_verdicts.specs.declared.verdict.Effect.{Effect}
+use Rattle.event_verdicts.specs.declared.verdict.UnitName.{UnitName}
 use Rattle.link_stores.specs.{device_statuses}
 use Rattle.arrival_verdicts.specs.Verdicts.{arrival_verdict, effects_from, grants_in}
 use Rattle.arrival_verdicts.proofs.Units.{with_unit}

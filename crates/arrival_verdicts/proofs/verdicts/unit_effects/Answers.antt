@@ -1,7 +1,7 @@
 use Rattle.std.proofs.Common.{◌∙◌, ap, sym, subst, ◌++◌, List}
 use Rattle.std.proofs.lemmas.List.{append-nil}
 use Rattle.std.specs.Prelude.{Option}
-use Rattle.run_verdicts.specs.declared.verdict.Effect.{Effect}
+use Rattle.event_verdicts.specs.declared.verdict.Effect.{Effect}
 use Rattle.trusted_memory.specs.declared.queue.WaitingRead.{WaitingRead}
 use Rattle.trusted_memory.specs.{Leads, Write}
 use Rattle.guarded_memory.specs.{Happened, MmioLeads}

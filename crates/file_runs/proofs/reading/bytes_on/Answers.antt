@@ -1,4 +1,4 @@
-use Rattle.run_events.specs.Words.{words_in}
+use Rattle.script_events.specs.Words.{words_in}
 use Rattle.file_runs.proofs.Words.{seven_words}
 use Rattle.file_runs.proofs.reading.bytes_on.Goals as goal
 

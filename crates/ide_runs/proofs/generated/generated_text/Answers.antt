@@ -1,7 +1,7 @@
 use Rattle.std.proofs.Common.{◌≡◌, ◌++◌, ℕ, IfOk, codes, length, subst}
 use Rattle.std.specs.Fmt.{decimal}
-use Rattle.run_verdicts.specs.declared.verdict.Totals.{Totals}
-use Rattle.run_verdicts.specs.Lines.{totals_line_of}
+use Rattle.event_verdicts.specs.declared.verdict.Totals.{Totals}
+use Rattle.event_verdicts.specs.Lines.{totals_line_of}
 use Rattle.ide_runs.specs.Generated.{generated_history}
 use Rattle.ide_runs.proofs.generated.generated_text.Goals as goal
 

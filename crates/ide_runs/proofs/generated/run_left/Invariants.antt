@@ -1,6 +1,6 @@
 use Rattle.std.proofs.Common.{◌≤◌, ◌+◌, length}
 use Rattle.std.specs.List.{AllByRecursion}
-use Rattle.run_events.specs.Spells.{IsAllowed}
+use Rattle.script_events.specs.Spells.{IsAllowed}
 use Rattle.ide_runs.specs.Works.{IsEarly}
 use Rattle.ide_runs.proofs.Generating.{RunsOn}
 use Rattle.ide_runs.proofs.generated.run_left.Given as goal

@@ -1,5 +1,5 @@
 use Rattle.all_links.proofs.Terms.{refl, subst, Verdict}
-use Rattle.run_events.specs.declared.event.InterfaceEvent.TheVariants as ie
+use Rattle.script_events.specs.declared.event.InterfaceEvent.TheVariants as ie
 use Rattle.interface_host.specs.declared.operation.InterfaceOperation.TheVariants as op
 use Rattle.interface_host.specs.declared.operation.PeerStream.{PeerStream}
 use Rattle.all_links.specs.Interfaces.{managed_peer_stream}

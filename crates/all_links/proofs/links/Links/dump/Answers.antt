@@ -1,5 +1,5 @@
 use Rattle.all_links.proofs.Terms.{Dump, ap, sym, ◌∙◌, List, ℕ, links_state, beside_in}
-use Rattle.run_verdicts.specs.declared.verdict.Verdict.TheVariants as v
+use Rattle.event_verdicts.specs.declared.verdict.Verdict.TheVariants as v
 use Rattle.all_links.proofs.Finds.{nothing_changes}
 use Rattle.line_arrivals.proofs.{dumps}
 use Rattle.all_links.proofs.BesideAfter.{keeps_all}

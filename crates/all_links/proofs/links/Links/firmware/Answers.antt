@@ -1,7 +1,7 @@
 use Rattle.all_links.proofs.Terms.{ℕ, true, Option, Some, refl, ap, sym, option_and_then}
 use Rattle.interface_state.specs.Machine.{Tdi, FirmwareUpdate}
-use Rattle.run_events.specs.declared.event.InterfaceEvent.TheVariants as ie
-use Rattle.run_verdicts.specs.declared.verdict.Verdict.TheVariants as v
+use Rattle.script_events.specs.declared.event.InterfaceEvent.TheVariants as ie
+use Rattle.event_verdicts.specs.declared.verdict.Verdict.TheVariants as v
 use Rattle.ide_types.specs.declared.verdict.InterfaceVerdict.TheVariants as iv
 use Rattle.all_links.specs.Interfaces.{firmware_as, interface_of_ends}
 use Rattle.all_links.proofs.Finds.{only_says}

@@ -1,5 +1,5 @@
 use Rattle.all_links.proofs.Terms.{refl}
-use Rattle.run_events.specs.declared.event.InterfaceEvent.TheVariants as ie
+use Rattle.script_events.specs.declared.event.InterfaceEvent.TheVariants as ie
 use Rattle.all_links.proofs.links.Links.lock.Goals as goal
 
 pub returns-clause-ends : goal.returns-clause-ends

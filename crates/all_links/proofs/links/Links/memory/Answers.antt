@@ -1,7 +1,7 @@
 use Rattle.all_links.proofs.Terms.{ℕ, zero, suc, refl, ◌+◌, ◌++◌, take, drop, take-append_seam, vec_len, List, Bool}
 use Rattle.all_links.proofs.Terms.{true, false, length, ap, sym, ◌∙◌, ◌≡◌, arith, MemoryContents, Some}
-use Rattle.run_events.specs.declared.event.InterfaceEvent.TheVariants as ie
-use Rattle.run_verdicts.specs.declared.verdict.Verdict.TheVariants as v
+use Rattle.script_events.specs.declared.event.InterfaceEvent.TheVariants as ie
+use Rattle.event_verdicts.specs.declared.verdict.Verdict.TheVariants as v
 use Rattle.ide_types.specs.declared.verdict.InterfaceVerdict.TheVariants as iv
 use Rattle.trusted_memory.specs.{byte_at, bytes_from, in_one_region}
 use Rattle.all_links.specs.Interfaces.{memory_verdict}

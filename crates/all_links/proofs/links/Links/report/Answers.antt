@@ -1,5 +1,5 @@
 use Rattle.all_links.proofs.Terms.{ap, refl, sym, ◌∙◌, ◌++◌, ◌+◌, InterfacesView, Links, Interface}
-use Rattle.run_events.specs.declared.event.InterfaceEvent.TheVariants as ie
+use Rattle.script_events.specs.declared.event.InterfaceEvent.TheVariants as ie
 use Rattle.interface_host.specs.declared.operation.InterfaceOperation.TheVariants as op
 use Rattle.all_links.proofs.Asked.{asked_nowhere, operated_as}
 use Rattle.all_links.proofs.Finds.{ends_as, if_some, some_none}

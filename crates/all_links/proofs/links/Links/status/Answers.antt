@@ -1,5 +1,5 @@
 use Rattle.all_links.proofs.Terms.{Status, ap, sym, ◌∙◌, none-some, same_Some, StreamStatus, Links, links_state}
-use Rattle.run_verdicts.specs.declared.verdict.Verdict.TheVariants as v
+use Rattle.event_verdicts.specs.declared.verdict.Verdict.TheVariants as v
 use Rattle.all_links.proofs.Finds.{nothing_changes}
 use Rattle.all_links.proofs.Resets.{status_read, status_nowhere, status_here}
 use Rattle.line_arrivals.proofs.{name_is}

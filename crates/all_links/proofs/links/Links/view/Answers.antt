@@ -2,8 +2,8 @@ use Rattle.all_links.proofs.Terms.{ℕ, Option, Some, subst, slice_get, Interfac
 use Rattle.std.specs.Prelude.{IfSome}
 use Rattle.ide_types.specs.declared.view.View.{View}
 use Rattle.interface_host.specs.Views.{HostTdi, view_of}
-use Rattle.run_events.specs.declared.event.InterfaceEvent.TheVariants as ie
-use Rattle.run_verdicts.specs.declared.verdict.Verdict.TheVariants as v
+use Rattle.script_events.specs.declared.event.InterfaceEvent.TheVariants as ie
+use Rattle.event_verdicts.specs.declared.verdict.Verdict.TheVariants as v
 use Rattle.ide_types.specs.declared.verdict.InterfaceVerdict.TheVariants as iv
 use Rattle.all_links.specs.Interfaces.{viewed_as, interface_seen_at, interface_named}
 use Rattle.all_links.proofs.Finds.{only_says}

@@ -4,9 +4,9 @@ use Rattle.std.specs.Prelude.{IfSome}
 use Rattle.ide_types.specs.declared.register.Register.{Register}
 use Rattle.ide_types.specs.RegisterNames.{has_register}
 use Rattle.interface_state.specs.Machine.{Tdi, WriteRegister}
-use Rattle.run_verdicts.specs.declared.verdict.Verdict.TheVariants as v
+use Rattle.event_verdicts.specs.declared.verdict.Verdict.TheVariants as v
 use Rattle.ide_types.specs.declared.verdict.InterfaceVerdict.TheVariants as iv
-use Rattle.run_events.specs.declared.event.InterfaceEvent.TheVariants as ie
+use Rattle.script_events.specs.declared.event.InterfaceEvent.TheVariants as ie
 use Rattle.all_links.specs.Interfaces.{written_as, interface_of_ends}
 use Rattle.line_arrivals.specs.{code_behind}
 use Rattle.all_links.proofs.Finds.{only_says}

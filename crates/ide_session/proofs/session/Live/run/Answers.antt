@@ -1,5 +1,5 @@
 use Rattle.std.proofs.Common.{Option, Ok, sym, ap, subst}
-use Rattle.run_events.specs.declared.script.ScriptEvent.{ScriptEvent}
+use Rattle.script_events.specs.declared.script.ScriptEvent.{ScriptEvent}
 use Rattle.file_runs.specs.Gain.{Text}
 use Rattle.ide_runs.specs.Works.{ScriptPast, by_meaning, ran_script_event}
 use Rattle.ide_session.specs.Sessions.{GaveText}

@@ -1,7 +1,7 @@
 use Rattle.std.proofs.Common.{◌≡◌, ◌∙◌, arith, length, sym, take, true, Some}
 use Rattle.std.proofs.lemmas.Bool.Decides.{nat_tests}
 use Rattle.std.specs.Prelude.{nat_le}
-use Rattle.run_events.specs.declared.event.Event.TheVariants as event
+use Rattle.script_events.specs.declared.event.Event.TheVariants as event
 use Rattle.spec_links.specs.Packets.{arrival_at}
 use Rattle.ide_why.proofs.Brought.{brought_from, cut_arrives}
 use Rattle.ide_why.proofs.reader.Reader.push_cut.Goals as goal

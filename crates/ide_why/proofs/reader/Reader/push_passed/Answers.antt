@@ -1,6 +1,6 @@
 use Rattle.std.proofs.Common.{◌∙◌, ap, sym, Some}
 use Rattle.ide_types.specs.declared.port.PortName.{PortName}
-use Rattle.run_events.specs.declared.event.Event.TheVariants as event
+use Rattle.script_events.specs.declared.event.Event.TheVariants as event
 use Rattle.spec_links.specs.Packets.{arrival_at}
 use Rattle.ide_why.proofs.Brought.{brought_from, whole_arrives}
 use Rattle.ide_why.proofs.reader.Reader.push_passed.Goals as goal

@@ -4,7 +4,7 @@ use Rattle.link_ends.proofs.Terms.{calls_taken, Exchanged, judged_bytes, lost_me
 use Rattle.std.proofs.Common.{ap, subst}
 use Rattle.key_host.specs.Streams.{has_host}
 use Rattle.key_host.specs.declared.operation.ExchangeReply.TheVariants as carried
-use Rattle.run_events.specs.declared.event.Lost.TheVariants.{Request, Reply}
+use Rattle.script_events.specs.declared.event.Lost.TheVariants.{Request, Reply}
 use Rattle.key_host.specs.declared.judge.Judged.TheVariants.{Lost as NotCarried}
 use Rattle.link_ends.proofs.Carried.{IsAsking, is_asking, not_lost, is_lost, IsDelivered, is_delivered, exchange_ends}
 use Rattle.link_ends.proofs.Ports.{PortMoves}

@@ -1,7 +1,7 @@
 use Rattle.link_ends.proofs.Terms.{false, ◌≡◌, ◌∙◌, sym, refl, Some, None, slice_set, request_asked, outcome_of}
 use Rattle.link_ends.proofs.Terms.{taken_stream, taken_calls, asking_after, judged_bytes, lost_message, HasStream}
 use Rattle.link_ends.proofs.Terms.{PortEnd, ap, subst, IsSome, Current, current, calls_taken, object_spelling}
-use Rattle.run_events.specs.declared.event.Lost.TheVariants.{Request, Reply}
+use Rattle.script_events.specs.declared.event.Lost.TheVariants.{Request, Reply}
 use Rattle.key_host.specs.Streams.{end_asked, has_host}
 use Rattle.key_host.specs.declared.judge.Judged.TheVariants.{Lost as NotCarried}
 use Rattle.join_keys.specs.Paired.{PairExchanged}

@@ -9,7 +9,14 @@ use Rattle.sub_stream.specs.Answers.{answer_taken}
 use Rattle.sub_stream.specs.Gathered.{Gathered, lent_totals}
 use Rattle.sub_stream.specs.Seen.{live_key_seen}
 use Rattle.sub_stream.specs.Senders.{begun_where_empty}
-use Rattle.sub_stream.specs.Receivers.{Receiver, fits_held, judged_packet, receiver_outcome, after_answer, keyed_by}
+use Rattle.sub_stream.specs.Receivers.{
+  Receiver,
+  fits_held,
+  judged_packet,
+  receiver_outcome,
+  after_answer,
+  key_or_answer,
+}
 use Rattle.sub_stream.specs.Receivers.{BufferAfter, IsReceiver, shown_keyed}
 use Rattle.sub_stream.proofs.Receiving.{units_of, early_of, early_is, key_and_fit}
 use Rattle.sub_stream.proofs.Answering.{unit_kept, view, judged-is, not_apart, taken-keyed, view-answered}
@@ -23,7 +30,7 @@ early c =
     ap (λ (rx : Receiver). early_of rx p) (sym c.self.view_is)
     ∙ early_is p.prefix.k c.self.inside.slots c.self.inside.zero c.self.inside.one c.self.inside.holds
     c.self.inside.aggregation c.self.inside.unit.packets p c.in-Err.taken c.self.invariant.few
-    (ap (keyed_by (live_held (slot_in c.self.inside.slots p.prefix.k))
+    (ap (key_or_answer (live_held (slot_in c.self.inside.slots p.prefix.k))
     (live_held (slot_in c.self.inside.slots (not p.prefix.k)))) (sym c.fits-fits.ensures)
     ∙ sym c.key_if_fits.ensures ∙ ap shown_keyed c.in-Err.is)
 

@@ -1,7 +1,7 @@
 use Rattle.std.proofs.Common.{refl, subst, sym, List, ℕ}
 use Rattle.ide_types.specs.declared.port.PortName.{PortName}
-use Rattle.run_events.specs.declared.event.Event.{Event}
-use Rattle.run_events.specs.declared.event.Event.TheVariants.{Send, Reset, Absent}
+use Rattle.script_events.specs.declared.event.Event.{Event}
+use Rattle.script_events.specs.declared.event.Event.TheVariants.{Send, Reset, Absent}
 use Rattle.all_links.specs.Links.{EndsWith}
 use Rattle.all_links.specs.States.{links_state}
 use Rattle.whole_links.specs.Accesses.{AccessesAfter}

@@ -1,8 +1,8 @@
 use Rattle.std.proofs.Common.{◌≡◌, ℕ, ◌∙◌, List, [], refl, ap, sym, subst}
 use Rattle.std.proofs.lemmas.List.{length-set}
 use Rattle.std.specs.Prelude.{length}
-use Rattle.run_events.specs.declared.event.Event.TheVariants.{Access}
-use Rattle.run_events.specs.declared.event.AccessEvent.TheVariants as ae
+use Rattle.script_events.specs.declared.event.Event.TheVariants.{Access}
+use Rattle.script_events.specs.declared.event.AccessEvent.TheVariants as ae
 use Rattle.trusted_memory.specs.declared.queue.WaitingRead.{WaitingRead}
 use Rattle.link_stores.specs.declared.link.LinkAccesses.{LinkAccesses}
 use Rattle.all_links.specs.{waiting_reads_after}

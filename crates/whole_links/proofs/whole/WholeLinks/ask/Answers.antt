@@ -1,7 +1,7 @@
 use Rattle.std.proofs.Common.{refl, subst, sym}
 use Rattle.std.specs.Prelude.{Ok, Some}
-use Rattle.run_events.specs.declared.event.Event.TheVariants.{Interface}
-use Rattle.run_events.specs.declared.event.InterfaceEvent.{InterfaceEvent}
+use Rattle.script_events.specs.declared.event.Event.TheVariants.{Interface}
+use Rattle.script_events.specs.declared.event.InterfaceEvent.{InterfaceEvent}
 use Rattle.whole_links.specs.Whole.{WholeEnds}
 use Rattle.whole_links.proofs.Ends.{ends_as_or, err_stays}
 use Rattle.whole_links.proofs.Accesses.{quiet_or}

@@ -1,6 +1,6 @@
 use Rattle.std.proofs.Common.{◌≡◌, ℕ, List, refl, ap, sym, subst, ◌∙◌}
 use Rattle.std.specs.Prelude.{Some}
-use Rattle.run_events.specs.declared.event.Event.{Event}
+use Rattle.script_events.specs.declared.event.Event.{Event}
 use Rattle.machine_ports.specs.Machine.{LinkPacket}
 use Rattle.all_links.specs.BesideAfter.{BesideBytes}
 use Rattle.all_links.specs.States.{links_state}

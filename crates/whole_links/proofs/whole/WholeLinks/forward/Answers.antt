@@ -4,7 +4,7 @@ use Rattle.std.specs.Prelude.{length}
 use Rattle.ide_types.specs.declared.direction.Direction.{Direction}
 use Rattle.hop_queues.specs.declared.queue.HopTlp.{HopTlp}
 use Rattle.hop_queues.specs.declared.queues.HopQueues.{HopQueues}
-use Rattle.run_events.specs.declared.event.Event.TheVariants.{Forward}
+use Rattle.script_events.specs.declared.event.Event.TheVariants.{Forward}
 use Rattle.link_stores.specs.declared.link.LinkAccesses.{LinkAccesses}
 use Rattle.all_links.specs.Accesses.{same_reads, same_floors, nothing_happens, AccessesTurn}
 use Rattle.whole_links.specs.declared.whole.WholeLinks.{WholeLinks}

@@ -2,7 +2,7 @@ use Rattle.std.proofs.Common.{ℕ, ◌≡◌, ◌++◌, List, ap, sym, ◌∙◌
 use Rattle.std.proofs.lemmas.Option.{same_Some}
 use Rattle.std.specs.Prelude.{Option, Some, Err}
 use Rattle.ide_types.specs.declared.binding.Binding.{Binding}
-use Rattle.run_verdicts.specs.declared.verdict.Verdict.{Verdict}
+use Rattle.event_verdicts.specs.declared.verdict.Verdict.{Verdict}
 use Rattle.interface_host.specs.Managers.{InterfaceManagerView, running_grant}
 use Rattle.tlp_layout.specs.{chosen_stream}
 use Rattle.tlp_layout.specs.Choice.{choice_of}

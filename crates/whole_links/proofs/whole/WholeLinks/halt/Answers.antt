@@ -1,8 +1,8 @@
 use Rattle.std.proofs.Common.{refl, subst, sym}
 use Rattle.std.specs.Prelude.{Option}
-use Rattle.run_events.specs.declared.event.Event.TheVariants.{Interface}
-use Rattle.run_events.specs.declared.event.InterfaceEvent.TheVariants.{Halt}
-use Rattle.run_verdicts.specs.declared.verdict.Verdict.{Verdict}
+use Rattle.script_events.specs.declared.event.Event.TheVariants.{Interface}
+use Rattle.script_events.specs.declared.event.InterfaceEvent.TheVariants.{Halt}
+use Rattle.event_verdicts.specs.declared.verdict.Verdict.{Verdict}
 use Rattle.whole_links.specs.Whole.{WholeEndsAs}
 use Rattle.whole_links.proofs.Ends.{any_plan, bounded_with, ends_noted}
 use Rattle.whole_links.proofs.whole.WholeLinks.halt.Goals as goal

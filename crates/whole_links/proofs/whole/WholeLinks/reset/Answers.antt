@@ -2,7 +2,7 @@ use Rattle.std.proofs.Common.{◌≡◌, true, false, length, refl, ap, sym, ◌
 use Rattle.std.proofs.lemmas.Bool.{ltb-true}
 use Rattle.std.proofs.lemmas.List.{length-set}
 use Rattle.std.specs.Prelude.{Bool, nat_lt, if◌then◌else◌}
-use Rattle.run_verdicts.specs.declared.verdict.Verdict.TheVariants as v
+use Rattle.event_verdicts.specs.declared.verdict.Verdict.TheVariants as v
 use Rattle.whole_links.proofs.Accesses.{reset_keeps, reset_turns}
 use Rattle.whole_links.proofs.Ends.{any_plan, ends_noted}
 use Rattle.whole_links.proofs.whole.WholeLinks.reset.Goals as goal

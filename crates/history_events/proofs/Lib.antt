@@ -1,0 +1,17 @@
+pub mod Allowed
+pub mod Rounds
+pub mod NumberedKeys
+pub mod PlanFits
+pub mod GeneratedAllowed
+pub mod Forms
+pub mod Words
+pub mod Parts
+pub mod TextForms
+pub mod TextEvents
+pub mod TextKeys
+pub mod Strings
+pub mod Table
+pub mod Printed
+pub mod Read
+pub mod Whole
+pub mod Joined

@@ -1,5 +1,0 @@
-use Rattle.script_events.proofs.Allowed.{events_are_allowed}
-use Rattle.script_events.proofs.event.events_are_allowed.Goals as goal
-
-pub returns : goal.returns
-returns c = events_are_allowed

@@ -1,6 +1,0 @@
-use Rattle.std.proofs.Common.{◌≡◌}
-use Rattle.script_events.specs.GeneratedTopology.{keys_below}
-use Rattle.script_events.proofs.keys.numbered_keys.Given as goal
-
-abbrev pub invariant-loop-n : goal.invariant-loop-n
-invariant-loop-n l = l.all.items ≡ keys_below l.n
