@@ -6,6 +6,9 @@ use Rattle.all_ends.proofs.Terms.{PairEnds, port_in, with_port, pair_port, with_
 use Rattle.all_ends.proofs.Terms.{Near, Pair, port_at_place, port_on, with_port_at_place, with_port_on, changed_at}
 use Rattle.all_ends.proofs.Terms.{peer_live, KeeperView, NoMoreUnits, Operates}
 use Rattle.all_ends.specs.Ends.{trust_at_place, link_trust, asked_trust, pair_trust, settled_place}
+use Rattle.tlp_layout.specs.declared.choice.ChosenStream.{ChosenStream}
+use Rattle.ide_port.specs.Sends.{IsStreamTaken}
+use Rattle.all_ends.specs.AllEnds.{IsTakenAtHost}
 use Rattle.all_ends.specs.AllEnds.{TakesAt, SendsAt, OperatesIn, OperatesAt, Settles, Calls, CallsAt}
 use Rattle.all_ends.specs.AllEnds.{Asks, AsksAt, IsEnded}
 use Rattle.all_ends.specs.Places.{code_behind}
@@ -29,9 +32,12 @@ use Rattle.key_host.specs.declared.operation.StreamOutcome.{StreamOutcome}
 use Rattle.link_ends.specs.declared.device.Device.{Device as DeviceEnd}
 use Rattle.interface_ends.specs.Replies.{called_at}
 use Rattle.interface_state.specs.Machine.{Tdi, Call, state_code, tdi_after}
-use Rattle.std.specs.Prelude.{IfSome, IsSome}
+use Rattle.std.specs.Prelude.{IfSome, IsSome, is_some, true, false, nat_lt, ◌-◌, if◌then◌else◌}
+use Rattle.std.proofs.Common.{arith}
+use Rattle.std.proofs.lemmas.Bool.Decides.{nat_tests}
 use Rattle.std.proofs.lemmas.Option.{get_or_from_slice_get, slice_get_past}
-use Rattle.all_ends.proofs.ByPlace.{changed_is, changed_none, seen_same, set_there}
+use Rattle.ide_types.specs.Ports.{host_port}
+use Rattle.all_ends.proofs.ByPlace.{changed_is, changed_none, seen_same, set_there, there}
 use Rattle.all_ends.proofs.Finds.{mapped}
 
 -- ---- an item that is read and written
@@ -418,3 +424,30 @@ asks_there v link k k' interface o loss outcome x y read operated keys draws end
         };
       },
     )
+
+-- ---- the host's port of a link
+
+pub host_place : (link : ℕ) → link < 8 → Link link ≡ line_place link
+host_place link lt = by_test (nat_lt link 8) refl
+  where
+    by_test : (b : Bool) → nat_lt link 8 ≡ b
+        → Link link ≡ (if b then Link link else if nat_lt link 16 then Near (link - 8) else Pair (link - 16))
+    by_test true is = refl
+    by_test false is = absurd (grind (arith, nat_tests, lt, is))
+
+pub host_there : (v : EndsView) (link : ℕ) → link < length v.links → length v.links ≤ 8
+    → IsSome (port_on v (host_port link))
+host_there v link lt few =
+    let x = there v.links link lt in
+    let low : link < 8 = omega (arith, lt, few) in
+    subst (λ (p : LinePlace). IsSome (port_at_place v Host p)) (host_place link low)
+    (ap (λ (o : Option LinkEnds). is_some (option_map (λ l. port_in Host l) o)) x.1)
+
+-- the port that is lent takes the stream that the port there takes
+pub taken_there : {v old : EndsView} (link : ℕ) (tlp : List ℕ) (stream : Option ChosenStream) (x : LinkEnds) → old ≡ v
+    → link < length v.links → IsTakenAtHost v link tlp stream → x ≡ slice_index_or old.links link x
+    → IsStreamTaken x.host tlp stream
+taken_there {v} {old} link tlp stream x is lt taken read =
+    let l = there old.links link (subst (λ (u : EndsView). link < length u.links) (sym is) lt) in
+    subst (λ (y : LinkEnds). IsStreamTaken y.host tlp stream) (sym (read_there old.links link x l.0 read l.1))
+    (taken l.0 (ap (λ (u : EndsView). slice_get u.links link) (sym is) ∙ l.1))

@@ -17,6 +17,8 @@ use Rattle.key_host.specs.declared.operation.StreamOutcome.{StreamOutcome}
 use Rattle.ide_port.specs.declared.answer.Arrival.{Arrival}
 use Rattle.ide_port.specs.declared.answer.Sent.{Sent}
 use Rattle.ide_prefix.specs.Reading.{cut_of}
+use Rattle.tlp_layout.specs.declared.choice.ChosenStream.{ChosenStream}
+use Rattle.ide_port.specs.Sends.{IsStreamTaken}
 use Rattle.ide_port.specs.{PortEnd, IsSentAtPort, take_step}
 use Rattle.link_ends.specs.declared.ends.LinkEnds.{LinkEnds}
 use Rattle.link_ends.specs.declared.pair.PairEnds.{PairEnds}
@@ -66,6 +68,10 @@ SendsIn old side place tlp more trusted answer new sealed =
 abbrev pub SendsAt : EndsView → PortName → List ℕ → Bool → Bool → Sent → EndsView → List ℕ → Type 0
 SendsAt old end tlp more trusted answer new sealed =
     SendsIn old end.side (line_place end.line) tlp more trusted answer new sealed
+
+-- the stream that bytes take at the host's port of a link, if they take one
+abbrev pub IsTakenAtHost : EndsView → ℕ → List ℕ → Option ChosenStream → Type 0
+IsTakenAtHost v link tlp stream = (l : LinkEnds) → slice_get v.links link ≡ Some l → IsStreamTaken l.host tlp stream
 
 -- ---- arrivals
 

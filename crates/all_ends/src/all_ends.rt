@@ -24,7 +24,7 @@ use crate::sending::{bound_on, send_between, send_far, send_near};
 use arrival_verdicts::{ReceivingPort, switch_verdict, taken_verdict};
 use event_verdicts::Verdict;
 use hop_queues::HopQueues;
-use ide_port::{Arrival, Port, SendBuffer, Sent};
+use ide_port::{Arrival, FixedTrust, Port, SendBuffer, Sent};
 use ide_types::{
     BarPlan, Direction, OutOfMemory, PeerPlan, PortName, Register, Side, StreamStatus, SubKind,
     ValidPlan,
@@ -37,6 +37,7 @@ use link_stores::{Accesses, LinkAccesses};
 use script_events::Loss;
 use std::alloc::Global;
 use std::marker::Model;
+use tlp_layout::{ChosenStream, OutgoingTlp};
 use trusted_memory::Trusted;
 
 /// How many lines of hops come before those of streams between devices, among those that are keyed by messages at both
@@ -69,7 +70,7 @@ impl Model for AllEnds {
 impl AllEnds {
     ghost use Rattle.all_ends.specs.Ends.{new_all_ends, port_on, settled_link, settled_first_links, cleared_on};
     ghost use Rattle.all_ends.specs.Ends.{all_cleared, unlocked_link, settled_place};
-    ghost use Rattle.all_ends.specs.AllEnds.{SendsAt, TakesAt, ComesAt, ArrivesAt, Leaves, WaitsAt, OperatesAt};
+    ghost use Rattle.all_ends.specs.AllEnds.{IsTakenAtHost, SendsAt, TakesAt, ComesAt, ArrivesAt, Leaves, WaitsAt, OperatesAt};
     ghost use Rattle.all_ends.specs.AllEnds.{told_by_line, drawn_on_line, AsksAt, CallsAt, IsThere, ResetsAt};
     ghost use Rattle.all_ends.specs.AllEnds.{settled_by_side, statuses_of};
     ghost use Rattle.all_ends.specs.States.{EndsUnitsAtMost};
@@ -154,7 +155,7 @@ impl AllEnds {
         &mut self,
         end: PortName,
         i: usize,
-        tlp: &[u8],
+        tlp: &OutgoingTlp,
         more: bool,
         trusted: bool,
         out: &mut SendBuffer,
@@ -179,7 +180,7 @@ impl AllEnds {
     pub fn send(
         &mut self,
         end: PortName,
-        tlp: &[u8],
+        tlp: &OutgoingTlp,
         more: bool,
         trusted: bool,
         out: &mut SendBuffer,
@@ -195,6 +196,25 @@ impl AllEnds {
             }
             LinePlace::Pair(i) => self.send_pair(end, i, tlp, more, trusted, out),
         }
+    }
+
+    /// Sends a completion at the host's port of a link, with T, on the stream that it takes there. `out` is left with
+    /// what was sealed.
+    pub fn complete(
+        &mut self,
+        link: u8,
+        stream: Option<ChosenStream>,
+        tlp: &OutgoingTlp,
+        out: &mut SendBuffer,
+    ) -> Sent
+        requires here { link < length self.old.links }
+        requires links { length self.old.links ≤ 8 }
+        requires few { EndsUnitsAtMost (2 ^ 40) self.old }
+        requires taken { IsTakenAtHost self.old link tlp.now stream }
+        ensures { SendsAt self.old (host_port link) tlp.now false true result self.new out.new }
+    {
+        let host = &mut self.links[link as usize].host;
+        host.send_chosen(stream, tlp, false, &FixedTrust(true), out)
     }
 
     // Takes bytes that arrive at an end.

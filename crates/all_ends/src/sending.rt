@@ -10,13 +10,14 @@ use ide_port::{FixedTrust, SendBuffer, Sent, Trusting};
 use ide_types::{PeerPlan, Side};
 use interface_ends::DeviceInterfaces;
 use link_ends::{BoundOwners, LinkEnds, PairEnds};
+use tlp_layout::OutgoingTlp;
 
 /// Sends a TLP's bytes at the end of a side of a hop's segment towards the host, with T as it is asked. `out` is left
 /// with what was sealed.
 pub fn send_near(
     ends: &mut LinkEnds,
     side: Side,
-    tlp: &[u8],
+    tlp: &OutgoingTlp,
     more: bool,
     trusted: bool,
     out: &mut SendBuffer,
@@ -36,7 +37,7 @@ pub fn send_near(
 fn send_pair<T: Trusting>(
     ends: &mut PairEnds,
     side: Side,
-    tlp: &[u8],
+    tlp: &OutgoingTlp,
     more: bool,
     trusting: &T,
     out: &mut SendBuffer,
@@ -57,7 +58,7 @@ fn send_pair<T: Trusting>(
 pub fn send_far(
     ends: &mut PairEnds,
     side: Side,
-    tlp: &[u8],
+    tlp: &OutgoingTlp,
     more: bool,
     trusted: bool,
     out: &mut SendBuffer,
@@ -77,7 +78,7 @@ pub fn send_far(
 pub fn send_between(
     ends: &mut PairEnds,
     side: Side,
-    tlp: &[u8],
+    tlp: &OutgoingTlp,
     more: bool,
     interfaces: Option<&DeviceInterfaces>,
     out: &mut SendBuffer,

@@ -66,11 +66,11 @@ pub operates_due : OperationsJoin → PairOperationsJoin → (plan : Plan) (old 
     → IsSome (named_stream old.keeper.keys.manager (op_name call).line (op_name call).stream)
     → OperatesAt old.ends (op_name call).line old.keeper.keys call loss result ends k' → (verdict : Verdict)
     × (verdict_of (op_name call).operation (op_name call).line (op_name call).stream loss result ≡ Some verdict)
-operates_due joins pairs plan old ends k' call loss result standing works_is here there_is operates =
+operates_due joins pairs plan old ends k' call loss result for_some works_is here there_is operates =
     let a : OpName = op_name call in
     let n = some_named (named_stream old.keeper.keys.manager a.line a.stream) there_is in
-    let c = comes_to plan old standing.history ends k' call a.operation a.line a.stream loss result standing.links
-    standing.stands n.0 n.1 refl works_is here operates joins pairs in
+    let c = comes_to plan old for_some.history ends k' call a.operation a.line a.stream loss result for_some.links
+    for_some.stands n.0 n.1 refl works_is here operates joins pairs in
     (_, c.verdict_is)
 
 pub operates_on : OperationsJoin → PairOperationsJoin → (plan : Plan) (old : Links) (ends : EndsView) (k : HostKeeper)

@@ -11,5 +11,5 @@ pub use Rattle.line_arrivals.specs.{place_on_links, stream_named, AreLinks, IsBo
 pub use Rattle.line_arrivals.specs.{names_of, ops_by_line, line_ops, state_of, views_after, grants_in, writes_by}
 pub use Rattle.line_arrivals.specs.{new_ends, port_in, PairEnds, InterfacesView, keyed_if, live_for, operated_on}
 pub use Rattle.line_arrivals.specs.{status_for, stopped_if, KeeperView, LinkEnds, HostKeeper, unit_tlps, arrival_of}
-pub use Rattle.line_arrivals.specs.{unit_in, waiting_reads_after, carried_next, IsThere}
+pub use Rattle.line_arrivals.specs.{unit_in, waiting_reads_after, carried_next, IsThere, IsTakenAtHost}
 pub use Rattle.line_arrivals.specs.Landing.{IsQuiet, Lands, arrival_on}

@@ -1,16 +1,22 @@
 //! What is sent on all lines, and the packets that this sealed.
 
-ghost use Rattle.std.specs.Prelude.{◌≡◌, ◌+◌, ◌<◌, ◌≤◌, ◌^◌, true, IfOk, OnOk, IsSome};
-ghost use Rattle.line_arrivals.specs.{port_on};
+ghost use Rattle.std.specs.Prelude.{◌≡◌, ◌+◌, ◌<◌, ◌≤◌, ◌^◌, ◌++◌, true, IfOk, OnOk, IsSome, List, length, sum_by};
+ghost use Rattle.ide_types.specs.Ports.{host_port};
+ghost use Rattle.ide_port.specs.Sends.{lengths_sent};
+ghost use Rattle.ide_port.specs.declared.answer.Sent.TheVariants.{Sealed};
+ghost use Rattle.sub_stream.specs.declared.answer.MeasuredPacket.{MeasuredPacket};
+ghost use Rattle.spec_links.specs.Ports.{port_of};
+ghost use Rattle.line_arrivals.specs.{cut_packets, end_sent_verdict, port_on, IsTakenAtHost};
 
 use crate::links::Links;
 use event_verdicts::Verdict;
 use ide_port::Sent;
-use ide_types::{Bytes, OutOfMemory, PortName, ValidPlan};
+use ide_types::{Bytes, OutOfMemory, PortName, Side, ValidPlan};
 use line_arrivals::send_verdict;
 use line_routes::{may_send, port_of, sealing_end};
 use script_events::Event;
 use std::alloc::Global;
+use tlp_layout::{ChosenStream, OutgoingTlp};
 
 impl Links {
     ghost use Rattle.ide_types.specs.declared.plan.Plan.{Plan as PlanView};
@@ -48,8 +54,9 @@ impl Links {
         if !may_send(plan, port) {
             return Ok(self.only(Verdict::Nothing));
         }
-        let end = sealing_end(plan, port, bytes);
-        self.send_at(plan, end, bytes, more, trusted)
+        let tlp = OutgoingTlp::of(bytes);
+        let end = sealing_end(plan, port, &tlp);
+        self.send_at(plan, end, &tlp, more, trusted)
     }
 
     /// Sends a TLP's bytes at an end of a line of the topology, on that line. For want of memory nothing changes.
@@ -57,13 +64,13 @@ impl Links {
         &mut self,
         plan: &ValidPlan,
         end: PortName,
-        bytes: &[u8],
+        tlp: &OutgoingTlp,
         more: bool,
         trusted: bool,
     ) -> Result<Verdict, OutOfMemory>
         requires steps { self.old.steps < 2 ^ 28 }
         requires bounded { IsBounded self.old.ends self.old.packets.packets self.old.steps }
-        ensures ends { EndsSendingOr plan.now result self.old self.new end bytes.now more trusted }
+        ensures ends { EndsSendingOr plan.now result self.old self.new end tlp.now more trusted }
         ensures sides { IfOk result (λ v. BesideStays self.old self.new) }
         ensures sending { IfOk result (λ v. is_sending v ≡ true) }
     {
@@ -71,7 +78,28 @@ impl Links {
             return Ok(self.only(Verdict::Nothing));
         }
         self.reserve_packets()?;
-        Ok(self.seal(plan, end, bytes, more, trusted))
+        Ok(self.seal(plan, end, tlp, more, trusted))
+    }
+
+    /// Sends a completion at the host's port of a link, with T, on the stream that it takes there. For want of memory
+    /// nothing changes.
+    pub fn complete(
+        &mut self,
+        plan: &ValidPlan,
+        link: u8,
+        stream: Option<ChosenStream>,
+        tlp: &OutgoingTlp,
+    ) -> Result<Verdict, OutOfMemory>
+        requires steps { self.old.steps < 2 ^ 28 }
+        requires bounded { IsBounded self.old.ends self.old.packets.packets self.old.steps }
+        requires here { link < length self.old.ends.links }
+        requires taken { IsTakenAtHost self.old.ends link tlp.now stream }
+        ensures ends { EndsSendingOr plan.now result self.old self.new (host_port link) tlp.now false true }
+        ensures sides { IfOk result (λ v. BesideStays self.old self.new) }
+        ensures sending { IfOk result (λ v. is_sending v ≡ true) }
+    {
+        self.reserve_packets()?;
+        Ok(self.seal_completion(plan, link, stream, tlp))
     }
 
     // A send at an end that exists; there is room for what it seals.
@@ -79,7 +107,7 @@ impl Links {
         &mut self,
         plan: &ValidPlan,
         end: PortName,
-        bytes: &[u8],
+        tlp: &OutgoingTlp,
         more: bool,
         trusted: bool,
     ) -> Verdict
@@ -88,18 +116,58 @@ impl Links {
         requires here { IsSome (port_on self.old.ends end) }
         requires marks { 3 ≤ self.old.packets.mark_room }
         requires bytes_room { 4184 ≤ self.old.packets.byte_room }
-        ensures ends { EndsSending plan.now result self.old self.new end bytes.now more trusted }
+        ensures ends { EndsSending plan.now result self.old self.new end tlp.now more trusted }
         ensures sides { BesideStays self.old self.new }
         ensures sending { is_sending result ≡ true }
     {
+        let sent = self.ends.send(end, tlp, more, trusted, &mut self.sealed);
+        self.keep_sent(plan, end, &sent)
+    }
+
+    // A completion's send on a link that exists; there is room for what it seals.
+    fn seal_completion(
+        &mut self,
+        plan: &ValidPlan,
+        link: u8,
+        stream: Option<ChosenStream>,
+        tlp: &OutgoingTlp,
+    ) -> Verdict
+        requires steps { self.old.steps < 2 ^ 28 }
+        requires bounded { IsBounded self.old.ends self.old.packets.packets self.old.steps }
+        requires here { link < length self.old.ends.links }
+        requires taken { IsTakenAtHost self.old.ends link tlp.now stream }
+        requires marks { 3 ≤ self.old.packets.mark_room }
+        requires bytes_room { 4184 ≤ self.old.packets.byte_room }
+        ensures ends { EndsSending plan.now result self.old self.new (host_port link) tlp.now false true }
+        ensures sides { BesideStays self.old self.new }
+        ensures sending { is_sending result ≡ true }
+    {
+        let side = Side::Host;
+        let sent = self.ends.complete(link, stream, tlp, &mut self.sealed);
+        self.keep_sent(plan, PortName { side, line: link }, &sent)
+    }
+
+    // What a send at an end came to: the packets that it sealed are kept, and its verdict counts as a step.
+    fn keep_sent(&mut self, plan: &ValidPlan, end: PortName, sent: &Sent) -> Verdict
+        requires steps { self.old.steps < 2 ^ 28 }
+        requires lengths { (ps : List MeasuredPacket) → sent.now ≡ Sealed ps
+            → sum_by (λ (p : MeasuredPacket). p.length) ps ≡ length self.old.sealed }
+        requires marks { 3 ≤ self.old.packets.mark_room }
+        requires bytes_room { 4184 ≤ self.old.packets.byte_room }
+        ensures verdict { result ≡ end_sent_verdict end (port_of plan.now end) (length self.old.packets.packets + 1)
+            sent.now }
+        ensures links { self.new ≡ record self.old { packets = self.new.packets; steps = self.old.steps + 1 } }
+        ensures packets { self.new.packets.packets ≡ self.old.packets.packets
+            ++ cut_packets end (lengths_sent sent.now) self.old.sealed }
+        ensures sending { is_sending result ≡ true }
+    {
         let number = self.packets.count() as u64 + 1;
-        let sent = self.ends.send(end, bytes, more, trusted, &mut self.sealed);
-        if let Sent::Sealed(sealed) = &sent {
+        if let Sent::Sealed(sealed) = sent {
             self.packets
                 .keep(end, sealed.as_slice(), self.sealed.as_slice());
         }
         self.steps += 1;
-        send_verdict(end, port_of(plan, end), number, &sent)
+        send_verdict(end, port_of(plan, end), number, sent)
     }
 
     /// The bytes of a packet by its number.

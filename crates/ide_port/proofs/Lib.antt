@@ -9,3 +9,4 @@ pub mod Lengths
 pub mod Keeping
 pub mod Steps
 pub mod Settling
+pub mod Chosen

@@ -1,18 +1,20 @@
 -- What becomes of a send at a port.
-use Rattle.std.specs.Prelude.{ℕ, ◌≡◌, Bool, List, [], map, Option, Some, None, Result, Ok, Err}
+use Rattle.std.specs.Prelude.{ℕ, ◌≡◌, Bool, List, [], map, Option, Some, None, Result, Ok, Err, IfSome}
 use Rattle.ide_types.specs.declared.port.PortName.{PortName}
 use Rattle.event_verdicts.specs.declared.verdict.Verdict.{Verdict}
 use Rattle.event_verdicts.specs.declared.verdict.Verdict.TheVariants as v
 use Rattle.event_verdicts.specs.declared.verdict.SealedPacket.{SealedPacket as Described}
 use Rattle.tlp_layout.specs.declared.head.HeadView.{HeadView}
 use Rattle.tlp_layout.specs.declared.tlp.Tlp.{Tlp}
+use Rattle.tlp_layout.specs.declared.choice.ChosenStream.{ChosenStream}
+use Rattle.tlp_layout.specs.Choice.{choice_of_stream, chosen_stream, plan_place}
 use Rattle.tlp_layout.specs.Class.{class_of}
 use Rattle.tlp_layout.specs.Faults.{place_in}
 use Rattle.tlp_layout.specs.Head.{head_bytes}
 use Rattle.tlp_layout.specs.Tlp.{header, body}
 use Rattle.ide_prefix.specs.Packet.{Packet}
 use Rattle.ide_prefix.specs.FaultWords.{tlp_word}
-use Rattle.tlp_layout.specs.Outgoing.{Outgoing, NoTlp, OnNone, OnStream, outgoing_of}
+use Rattle.tlp_layout.specs.Outgoing.{Outgoing, NoTlp, OnNone, OnStream, outgoing_of, stream_taken}
 use Rattle.sub_stream.specs.declared.answer.MeasuredPacket.{MeasuredPacket}
 use Rattle.stream_lanes.specs.{refusal_verdict, numbered_from, joined_packets, packet_lengths}
 use Rattle.ide_port.specs.StreamSends.{new_sending, sent_descriptions, packets_sent, end_sent}
@@ -60,6 +62,11 @@ send_step e (NoTlp fault) more sets number = unsealed_step e (v.Malformed e.name
 send_step e OnNone more sets number = unsealed_step e (v.Plain e.name)
 send_step e (OnStream t id) more sets number = stream_step e t more (sets (header t) id) number
     (found_stream e.plans e.states id)
+
+-- the stream that bytes take at a port, if they take one, with its place
+pub record IsStreamTaken (e : PortEnd) (bytes : List ℕ) (stream : Option ChosenStream) : Type 0 where
+  pub id : chosen_stream (choice_of_stream stream) ≡ stream_taken (outgoing_of e.plans e.name.side bytes)
+  pub place : IfSome stream (λ s. plan_place e.plans s.id ≡ Some s.place)
 
 -- ---- the answer
 

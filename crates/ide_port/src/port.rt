@@ -1,10 +1,10 @@
 //! A port.
 
-ghost use Rattle.std.specs.Prelude.{◌≡◌, ◌+◌, ◌<◌, ◌≤◌, ◌^◌, ℕ, [], Ok, Some, IfOk, IfSome, All, length, map};
+ghost use Rattle.std.specs.Prelude.{◌≡◌, ◌<◌, ◌≤◌, ◌^◌, ℕ, [], Ok, Some, IfOk, All, length, map};
 ghost use Rattle.tlp_layout.specs.Head.{head_bytes};
 ghost use Rattle.tlp_layout.specs.Tlp.{header, body, viewed_tlp};
 ghost use Rattle.tlp_layout.specs.Reading.{read_of};
-ghost use Rattle.tlp_layout.specs.Choice.{choice_of_stream, choice_of, chosen_stream, plan_place};
+ghost use Rattle.tlp_layout.specs.Choice.{plan_place};
 ghost use Rattle.ide_types.specs.Fits.{FitsStream};
 ghost use Rattle.ide_prefix.specs.Cut.{packet_of_view, IsView};
 ghost use Rattle.ide_port.specs.StreamEnds.{reset_end};
@@ -16,14 +16,14 @@ use crate::trusting::Trusting;
 use crate::{SendBuffer, Stream};
 use event_verdicts::UnitName;
 use ide_prefix::{Cut, PacketView, cut};
-use ide_types::{Items, KeySet, OutOfMemory, PortName, Side, StreamPlan, StreamStatus, SubKind};
+use ide_types::{Items, KeySet, OutOfMemory, PortName, StreamPlan, StreamStatus, SubKind};
 use key_host::HostPort;
 use key_messages::{Place, ProgramFault, SlotPort};
 use key_slots::{Key, OnlyLive};
 use std::alloc::Global;
 use std::marker::Model;
 use sub_stream::{Delivered, StreamFacts, Taken};
-use tlp_layout::{ChosenStream, HeadView, TlpView, choose, read};
+use tlp_layout::{ChosenStream, OutgoingTlp, TlpView, choose};
 
 /// A port at an end of a line with the line's streams (PCI Express Base 6.0 section 6.33, in this profile).
 #[derive(Drop)]
@@ -105,8 +105,7 @@ fn reset_streams(streams: &mut Vec<Stream>)
 impl Port {
     ghost use Rattle.ide_port.specs.Ends.{new_port, found_stream, reset_port};
     ghost use Rattle.ide_prefix.specs.Reading.{cut_of};
-    ghost use Rattle.tlp_layout.specs.Outgoing.{outgoing_if_chosen, outgoing_of, stream_taken};
-    ghost use Rattle.ide_port.specs.Sends.{IsSendStep, IsSentAtPort, send_step, stream_step, sent_verdict};
+    ghost use Rattle.ide_port.specs.Sends.{IsSendStep, IsSentAtPort, IsStreamTaken, stream_step};
     ghost use Rattle.ide_port.specs.Arrivals.{take_step, packet_step};
     ghost use Rattle.ide_port.specs.Units.{PortUnitsAtMost};
     ghost use Rattle.ide_port.specs.Calls.{port_stream_status, live_in_port, sealing_draw_in, receiving_draw_in};
@@ -132,13 +131,23 @@ impl Port {
         })
     }
 
+    /// The stream that a TLP takes here, if the bytes are one and it takes one (PCI Express Base 6.0 section 6.33).
+    #[tactic(auto, unfolding(tlp_layout::specs::Outgoing::outgoing_of))]
+    pub fn choose(&self, tlp: &OutgoingTlp) -> Option<ChosenStream>
+        ensures { IsStreamTaken self.now tlp.now result }
+    {
+        match tlp.tlp() {
+            Err(_) => None,
+            Ok(view) => choose(&self.plans, self.name.side, &view.head()),
+        }
+    }
+
     /// Sends a TLP's bytes: the TLP takes a stream, which seals it after the sync packets that must go first, or it
     /// goes plain. `more` says that the unit goes on if it has room, `trusting` whether T is set. `out` is left with
     /// what was sealed, in place of what it had.
-    #[tactic(auto, unfolding(tlp_layout::specs::Outgoing::outgoing_of))]
     pub fn send<T: Trusting>(
         &mut self,
-        tlp: &[u8],
+        tlp: &OutgoingTlp,
         more: bool,
         trusting: &T,
         out: &mut SendBuffer,
@@ -148,43 +157,37 @@ impl Port {
         ensures { (number : ℕ)
             → IsSentAtPort self.old tlp.now more (T.trusting trusting.now) number result self.new out.new }
     {
-        match read(tlp) {
-            Err(fault) => {
-                out.clear();
-                Sent::Malformed(fault)
-            }
-            Ok(view) => {
-                let stream = choose(&self.plans, self.name.side, &view.head());
-                self.send_chosen(stream, tlp, &view, more, trusting, out)
-            }
-        }
+        let stream = self.choose(tlp);
+        self.send_chosen(stream, tlp, more, trusting, out)
     }
 
-    // Sends a TLP on the stream that it takes.
-    fn send_chosen<T: Trusting>(
+    /// Sends them, as `send` does, on the stream that `choose` gave.
+    #[tactic(auto, unfolding(tlp_layout::specs::Outgoing::outgoing_of))]
+    pub fn send_chosen<T: Trusting>(
         &mut self,
-        chosen: Option<ChosenStream>,
-        bytes: &[u8],
-        tlp: &TlpView,
+        stream: Option<ChosenStream>,
+        tlp: &OutgoingTlp,
         more: bool,
         trusting: &T,
         out: &mut SendBuffer,
     ) -> Sent
         requires few { PortUnitsAtMost (2 ^ 40) self.old }
-        requires read { read_of bytes.now ≡ Ok (viewed_tlp tlp.now) }
-        requires place { IfSome chosen (λ c. plan_place self.old.plans c.id ≡ Some c.place) }
-        ensures { (number : ℕ) → let outgoing = outgoing_if_chosen (viewed_tlp tlp.now)
-            (chosen_stream (choice_of_stream chosen)) in IsSendStep self.old.name number result self.new out.new
-            (send_step self.old outgoing more (T.trusting trusting.now) number) }
+        requires taken { IsStreamTaken self.old tlp.now stream }
+        ensures { (number : ℕ)
+            → IsSentAtPort self.old tlp.now more (T.trusting trusting.now) number result self.new out.new }
     {
-        match chosen {
-            None => {
+        match (tlp.tlp(), stream) {
+            (Err(fault), _) => {
+                out.clear();
+                Sent::Malformed(fault)
+            }
+            (Ok(_), None) => {
                 out.clear();
                 Sent::Plain
             }
-            Some(chosen) => {
-                let t = trusting.is_trusted(&tlp.head(), chosen.id);
-                self.send_on(chosen, bytes, tlp, more, t, out)
+            (Ok(view), Some(stream)) => {
+                let trusted = trusting.is_trusted(&view.head(), stream.id);
+                self.send_on(stream, tlp.bytes(), &view, more, trusted, out)
             }
         }
     }
@@ -308,27 +311,6 @@ impl Port {
         match place(self.plans.as_slice(), stream) {
             None => None,
             Some(place) => self.streams[place].receiving_draw(sub),
-        }
-    }
-
-    /// The stream that a TLP with this header takes, if it takes one (PCI Express Base 6.0 section 6.33).
-    pub fn stream_by_head(&self, head: &HeadView) -> Option<u8>
-        ensures { result ≡ chosen_stream (choice_of self.now.plans self.now.name.side head.now) }
-    {
-        match choose(&self.plans, self.name.side, head) {
-            None => None,
-            Some(stream) => Some(stream.id),
-        }
-    }
-
-    /// The stream that a TLP with these bytes takes, if it is one and takes one (PCI Express Base 6.0 section 6.33).
-    #[tactic(auto, unfolding(tlp_layout::specs::Outgoing::outgoing_of))]
-    pub fn outgoing_stream(&self, tlp: &[u8]) -> Option<u8>
-        ensures { result ≡ stream_taken (outgoing_of self.now.plans self.now.name.side tlp.now) }
-    {
-        match read(tlp) {
-            Err(_) => None,
-            Ok(view) => self.stream_by_head(&view.head()),
         }
     }
 

@@ -11,6 +11,7 @@ use ide_types::{OutOfMemory, PortName};
 use line_routes::{has_port, may_send, sealing_end};
 use script_events::{AccessEvent, Event};
 use std::alloc::Global;
+use tlp_layout::OutgoingTlp;
 use why_facts::{Fact, facts_stand};
 use world::World;
 
@@ -29,8 +30,9 @@ impl Reader<'_> {
         if !may_send(self.plan, port) {
             return Ok(());
         }
-        let end = sealing_end(self.plan, port, bytes);
-        self.push_sending(facts, end, bytes)
+        let tlp = OutgoingTlp::of(bytes);
+        let end = sealing_end(self.plan, port, &tlp);
+        self.push_sending(facts, end, &tlp)
     }
 
     // Appends the facts of bytes that arrive at a port.

@@ -14,6 +14,7 @@ use hop_queues::HopQueues;
 use ide_types::{Direction, OutOfMemory, PortName, Side, SubKind};
 use line_routes::{has_hop, leaving_end};
 use script_events::InterfaceEvent;
+use tlp_layout::OutgoingTlp;
 use trusted_memory::WaitingRead;
 use why_facts::{
     FaceSeen, Fact, InterfaceFact, push_draw, push_face, push_memory, push_of_interface,
@@ -207,7 +208,7 @@ impl Reader<'_> {
             None => Ok(()),
             Some(tlp) => {
                 let end = leaving_end(link, direction);
-                self.push_sending(facts, end, tlp.bytes.as_slice())
+                self.push_sending(facts, end, &OutgoingTlp::of(tlp.bytes.as_slice()))
             }
         }
     }

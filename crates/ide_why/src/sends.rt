@@ -10,7 +10,7 @@ ghost use Rattle.ide_why.specs.Reading.{stream_read};
 
 use crate::reader::Reader;
 use ide_types::{OutOfMemory, PortName};
-use tlp_layout::{HeadView, TlpView, read};
+use tlp_layout::{HeadView, OutgoingTlp};
 use why_facts::{
     Fact, owners_link, push, push_face, push_port, push_senders, sends_fact, sets_own_t,
 };
@@ -60,36 +60,39 @@ impl Reader<'_> {
         }
     }
 
-    // The stream that bytes take which are sent at an end.
-    fn taken(&self, end: PortName, bytes: &[u8]) -> Option<u8>
+    // The stream that a TLP takes which is sent at an end.
+    fn taken(&self, end: PortName, tlp: &OutgoingTlp) -> Option<u8>
         requires world { IsWorld self.now.plan.now self.now.links.now }
         requires has { has_port self.now.plan.now end ≡ true }
-        ensures { result ≡ stream_taken (outgoing_at self.now.plan.now end bytes.now) }
+        ensures { result ≡ stream_taken (outgoing_at self.now.plan.now end tlp.now) }
     {
         match self.links.links.ends.port(end) {
             None => None,
-            Some(port) => port.outgoing_stream(bytes),
+            Some(port) => match port.choose(tlp) {
+                None => None,
+                Some(stream) => Some(stream.id),
+            },
         }
     }
 
-    /// Appends the facts of bytes that are sent at an end, on its line.
+    /// Appends the facts of a TLP that is sent at an end, on its line.
     pub fn push_sending(
         &self,
         facts: &mut Vec<Fact>,
         end: PortName,
-        bytes: &[u8],
+        tlp: &OutgoingTlp,
     ) -> Result<(), OutOfMemory>
         requires world { IsWorld self.now.plan.now self.now.links.now }
         requires has { has_port self.now.plan.now end ≡ true }
         ensures { IfOk result (λ _. facts.new.items ≡ facts.old.items ++ sending_facts self.now.plan.now
             self.now.links.now end
-            (outgoing_at self.now.plan.now end bytes.now)) }
+            (outgoing_at self.now.plan.now end tlp.now)) }
     {
-        match self.taken(end, bytes) {
+        match self.taken(end, tlp) {
             None => push_port(facts, self.plan, end),
-            Some(stream) => match read(bytes) {
+            Some(stream) => match tlp.tlp() {
                 Err(_) => push_port(facts, self.plan, end),
-                Ok(tlp) => self.push_on_stream(facts, end, stream, &tlp.head()),
+                Ok(view) => self.push_on_stream(facts, end, stream, &view.head()),
             },
         }
     }

@@ -15,7 +15,7 @@ pub use Rattle.all_ends.specs.{KeeperView, Operates, ends_found, arrival_verdict
 pub use Rattle.all_ends.specs.{packet_effect, packet_write, unit_writes, writes_by, LinkEnds, HostKeeper}
 pub use Rattle.all_ends.specs.AllEnds.{ArrivesAt, AsksAt, CallsAt, IsThere, OperatesAt, OperatesIn, OperatesOnLink}
 pub use Rattle.all_ends.specs.AllEnds.{OperatesOnPair, ResetsAt, SendsAt, both_of, drawn_on_line, drawn_at_place}
-pub use Rattle.all_ends.specs.AllEnds.{statuses_of, told_by_line, told_by_place}
+pub use Rattle.all_ends.specs.AllEnds.{statuses_of, told_by_line, told_by_place, IsTakenAtHost}
 pub use Rattle.all_ends.specs.Ends.{EndsView, all_cleared, bound_on, bound_trust, changed_at, cleared_ends, cleared_on}
 pub use Rattle.all_ends.specs.Ends.{cleared_place, far_hop_trust, line_place, link_trust, live_at_port, live_of}
 pub use Rattle.all_ends.specs.Ends.{peer_live, new_all_ends, pair_port, port_at_place, port_on, reset_all}

@@ -17,6 +17,7 @@ use interface_ends::DeviceInterfaces;
 use interface_state::Register;
 use key_messages::Responder;
 use std::alloc::Global;
+use tlp_layout::OutgoingTlp;
 
 /// The device of a link: its port with the link's streams, whose keys its responder moves, and its interfaces (PCI
 /// Express Base 6.0 section 6.33 and chapter 11, in this profile).
@@ -96,7 +97,7 @@ impl Device {
 
     /// Sends a TLP's bytes, as its port does; T is set if the TLP's owner is an interface in RUN and the TLP takes the
     /// stream that the interface is bound to. `out` is left with what was sealed.
-    pub fn send(&mut self, tlp: &[u8], more: bool, out: &mut SendBuffer) -> Sent
+    pub fn send(&mut self, tlp: &OutgoingTlp, more: bool, out: &mut SendBuffer) -> Sent
         requires { PortUnitsAtMost (2 ^ 40) self.old.port }
         ensures sent { (number : ℕ) → IsSentAtPort self.old.port tlp.now more (device_trusting self.old.interfaces)
             number result self.new.port out.new }

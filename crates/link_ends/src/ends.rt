@@ -10,6 +10,7 @@ use crate::Device;
 use ide_port::{Arrival, FixedTrust, Port, SendBuffer, Sent};
 use ide_types::{InterfacePlan, Items, OutOfMemory, PortName, Side, StreamPlan};
 use std::alloc::Global;
+use tlp_layout::OutgoingTlp;
 
 /// A link: its host's port, and its device (PCI Express Base 6.0 section 6.33 and chapter 11, in this profile).
 #[derive(Drop)]
@@ -52,7 +53,7 @@ impl LinkEnds {
     pub fn send(
         &mut self,
         side: Side,
-        tlp: &[u8],
+        tlp: &OutgoingTlp,
         more: bool,
         trusted: bool,
         out: &mut SendBuffer,

@@ -4,5 +4,6 @@ pub mod Walk
 pub mod Grammar
 pub mod Found
 pub mod Readings
+pub mod Written
 pub mod Least
 pub mod Outgoing

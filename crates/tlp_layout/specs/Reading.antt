@@ -1,5 +1,6 @@
 -- Reading from left to right: the header or the TLP that bytes spell, or their first fault, as functions.
 use Rattle.std.specs.Prelude.{ℕ, zero, suc, ◌+◌, ◌*◌, ◌/◌, ◌%◌, Bool, true, false, List, [], ◌∷◌, length, drop, Result}
+use Rattle.std.specs.Prelude.{◌≡◌, MatchResult}
 use Rattle.std.specs.Prelude.{slice_index, Option, Some, None, is_some, unwrap_or, nat_lt, ◌==◌, ◌&&◌, if◌then◌else◌}
 use Rattle.byteorder.specs.Endian.{big_number}
 use Rattle.ide_types.specs.Walks.{whole_reading}
@@ -7,7 +8,7 @@ use Rattle.tlp_layout.specs.Terms.{Layout, Lead, HeadView, Fields, Memory, Confi
 use Rattle.tlp_layout.specs.Terms.layouts
 use Rattle.tlp_layout.specs.Causes.{is_wide, has_data, head_size, layout_of_byte, is_allowed_byte, fault_at}
 use Rattle.tlp_layout.specs.Numbers.{routing_from, completion_status}
-use Rattle.tlp_layout.specs.Tlp.{body_size, with_payload}
+use Rattle.tlp_layout.specs.Tlp.{header, body_size, with_payload}
 
 -- ---- the fields of bytes
 
@@ -121,3 +122,7 @@ read_head_of bytes = whole_reading wants_head may_follow head_read fault_at byte
 -- the TLP that the bytes spell, all of the bytes, or their first fault
 unfoldable pub read_of : List ℕ → Result Tlp TlpFault
 read_of bytes = whole_reading wants_tlp may_follow tlp_read fault_at bytes
+
+-- the bytes are a TLP with this header
+abbrev pub IsTlpWith : HeadView → List ℕ → Type 0
+IsTlpWith head bytes = MatchResult (read_of bytes) (λ t. header t ≡ head) (λ _. ⊥)

@@ -15,6 +15,7 @@ mod fault;
 mod head;
 mod laws;
 mod layout;
+mod outgoing_tlp;
 mod reading;
 mod tlp;
 mod writing;
@@ -29,6 +30,7 @@ pub use head::{
 pub use ide_types::{OutOfMemory, SubKind};
 pub use laws::{head_reading_is_grammar, one_spelling, parts_of_spelling, reading_is_grammar};
 pub use layout::{head_size, kind_at};
+pub use outgoing_tlp::OutgoingTlp;
 pub use reading::{read, read_head};
 pub use tlp::{Tlp, TlpView};
 pub use writing::write_head;

@@ -29,7 +29,7 @@ use Rattle.all_links.specs.declared.links.Links.{Links}
 use Rattle.all_links.proofs.{sealed_there}
 use Rattle.whole_links.specs.Accesses.{AccessesArriveAt}
 use Rattle.whole_links.specs.Besides.{beside_whole}
-use Rattle.whole_links.specs.Packets.{altered_bytes, bytes_left, packet_event, incoming_event, passed_on, brought_in}
+use Rattle.whole_links.specs.Packets.{altered_bytes, bytes_left, packet_event, incoming_event, passed_on, incoming_bytes}
 use Rattle.whole_links.specs.Whole.{IsBoundedWhole, WholeEnds}
 use Rattle.whole_links.specs.declared.packets.Incoming.{Incoming}
 use Rattle.whole_links.specs.declared.packets.Incoming.TheVariants.{Given, Sent}
@@ -84,7 +84,7 @@ module _ (plan : Plan) (st : LinkState) where
   left_of p (Some x) = left_by x (bytes_left p x.bytes)
 
   incoming_arrival : (i : Incoming) → arrival_of plan st (incoming_event i)
-      ≡ arrival_by plan (brought_in plan st.packets i)
+      ≡ arrival_by plan (incoming_bytes plan st.packets i)
   incoming_arrival (Given port bytes) = by (has_port plan port)
     where
       by : (b : Bool) → (if b then Some (arrival_at plan port bytes.now) else None)
@@ -112,14 +112,14 @@ module _ (plan : Plan) (st : LinkState) where
       either false = refl
 
   incoming_step : (i : Incoming) (b : BesidePorts) → step_of plan b st (incoming_event i)
-      ≡ stepped_arrival plan b st (arrival_by plan (brought_in plan st.packets i))
+      ≡ stepped_arrival plan b st (arrival_by plan (incoming_bytes plan st.packets i))
   incoming_step (Given port bytes) b =
       given_step port bytes.now b
       ∙ ap (λ (a : Option Arrival). stepped_arrival plan b st a) (incoming_arrival (Given port bytes))
   incoming_step (Sent n p) b =
       packet_step n p b ∙ ap (λ (a : Option Arrival). stepped_arrival plan b st a) (incoming_arrival (Sent n p))
 
-  pub nothing_brought : (i : Incoming) → None ≡ brought_in plan st.packets i → (b : BesidePorts)
+  pub nothing_brought : (i : Incoming) → None ≡ incoming_bytes plan st.packets i → (b : BesidePorts)
       → step_of plan b st (incoming_event i) ≡ (v.Nothing, st)
   nothing_brought i none b =
       incoming_step i b
@@ -156,7 +156,7 @@ is_passed p None x is = absurd (none-some x (sym is))
 is_passed p (Some q) x is = record { packet = q; packet_is = refl; port_is = left_is q x (bytes_left p q.bytes) is }
 
 incoming_port : (plan : Plan) (old : Links) (i : Incoming) (x : LinkPacket)
-    → Some x ≡ brought_in plan old.packets.packets i → (h : History) → AreLinks plan old.ends old.keeper.keys
+    → Some x ≡ incoming_bytes plan old.packets.packets i → (h : History) → AreLinks plan old.ends old.keeper.keys
     → PortsStandFor plan (links_state plan old) h → has_port plan x.port ≡ true
 incoming_port plan old (Given port bytes) x is h links stands =
     port_given plan port bytes.now (has_port plan port) x refl is
@@ -165,7 +165,7 @@ incoming_port plan old (Sent n p) x is h links stands =
     ap (has_port plan) q.port_is ∙ sealed_there plan (links_state plan old) h n q.packet stands q.packet_is
 
 pub is_brought : (plan : Plan) (old : Links) (i : Incoming) (x : LinkPacket)
-    → Some x ≡ brought_in plan old.packets.packets i → IsBrought plan old (incoming_event i) x.port x.bytes
+    → Some x ≡ incoming_bytes plan old.packets.packets i → IsBrought plan old (incoming_event i) x.port x.bytes
 is_brought plan old i x is = record {
   quiet = incoming_quiet plan i;
   has = incoming_port plan old i x is;

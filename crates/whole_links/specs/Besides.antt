@@ -1,20 +1,22 @@
 -- What all links say beside their ports: also the effects of accepted units, the answers to reads that wait, what is
 -- shown of the memory of devices, and what the first TLP comes to that waits at a switch.
 use Rattle.std.specs.Prelude.{ℕ, nat_le, Bool, false, if◌then◌else◌, List, [], ◌∷◌, Option, Some, None}
-use Rattle.std.specs.Prelude.{Result, Err, slice_get}
+use Rattle.std.specs.Prelude.{Result, Ok, Err, slice_get}
 use Rattle.ide_types.specs.declared.direction.Direction.{Direction}
 use Rattle.ide_types.specs.declared.plan.Plan.{Plan}
 use Rattle.script_events.specs.declared.event.InterfaceEvent.{InterfaceEvent}
 use Rattle.event_verdicts.specs.declared.verdict.Verdict.{Verdict}
 use Rattle.event_verdicts.specs.declared.verdict.Verdict.TheVariants as v
 use Rattle.event_verdicts.specs.declared.access.AccessVerdict.TheVariants as av
+use Rattle.ide_types.specs.declared.binding.Binding.{Binding}
 use Rattle.tlp_layout.specs.Outgoing.{outgoing_of, stream_taken}
+use Rattle.tlp_layout.specs.Reading.{IsTlpWith}
 use Rattle.trusted_memory.specs.{MemoryContents, byte_at, bytes_from}
 use Rattle.trusted_memory.specs.declared.queue.WaitingRead.{WaitingRead}
 unfoldable use Rattle.trusted_memory.specs.{completion_bytes}
 use Rattle.guarded_memory.specs.Contents.{has_bytes}
 use Rattle.interface_host.specs.Managers.{running_grant, interface_of_requester}
-use Rattle.all_links.specs.{LinkEnds, InterfacesView}
+use Rattle.all_links.specs.{LinkEnds, InterfacesView, EndsView, IsTakenAtHost}
 use Rattle.spec_links.specs.Memory.{effects_under_policy}
 use Rattle.spec_links.specs.Hops.{HopTlp}
 use Rattle.spec_links.specs.Ports.{port_of}
@@ -30,6 +32,7 @@ use Rattle.all_links.specs.Accesses.{reads_at, sizes_at, mmio_at, carried_on_lin
 use Rattle.all_links.specs.Besides.{beside_in}
 use Rattle.all_links.specs.Interfaces.{interface_named}
 use Rattle.whole_links.specs.declared.whole.WholeLinks.{WholeLinks}
+use Rattle.whole_links.specs.declared.reply.Reply.{Reply}
 
 -- ---- answers to reads
 
@@ -44,6 +47,16 @@ reply_numbered m l link memory r (Some interface) =
     let bytes = completion_bytes (byte_at memory) r.read in
     completion_with_bytes (judged_bound (host_stream l bytes) interface r.draw (running_grant m link r.read.requester))
     bytes
+
+-- what a reply is bound to
+abbrev pub reply_binding : Result Reply Verdict → Result Binding Verdict
+reply_binding (Ok reply) = Ok reply.binding
+reply_binding (Err verdict) = Err verdict
+
+-- the bytes are a TLP with the reply's header, and take its stream at the host's port of a link
+pub record IsReplyMade (ends : EndsView) (link : ℕ) (reply : Reply) (bytes : List ℕ) : Type 0 where
+  pub head : IsTlpWith reply.head bytes
+  pub stream : IsTakenAtHost ends link bytes reply.stream
 
 -- the number of the interface of a link with this requester ID
 abbrev pub small_number : ℕ → Option ℕ

@@ -42,7 +42,7 @@ passed_on passage x =
     option_map (λ (bytes : List ℕ). record { port = partner x.port; bytes = bytes }) (bytes_left passage x.bytes)
 
 -- the bytes that arrive, with an end at their port; none if there is no such port or packet, or if it is too short
-abbrev pub brought_in : Plan → List LinkPacket → Incoming → Option LinkPacket
-brought_in plan packets (Given port bytes) =
+abbrev pub incoming_bytes : Plan → List LinkPacket → Incoming → Option LinkPacket
+incoming_bytes plan packets (Given port bytes) =
     if has_port plan port then Some (record { port = port; bytes = bytes.now }) else None
-brought_in plan packets (Sent n passage) = option_and_then (passed_on passage) (packet_numbered packets n)
+incoming_bytes plan packets (Sent n passage) = option_and_then (passed_on passage) (packet_numbered packets n)

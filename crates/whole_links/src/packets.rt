@@ -3,7 +3,7 @@
 ghost use Rattle.std.specs.Prelude.{◌≡◌, ◌<◌, ◌^◌, IfOk, option_map};
 ghost use Rattle.std.specs.Cow.{cow_slice_items};
 ghost use Rattle.all_links.specs.BesideAfter.{BesideBytes};
-ghost use Rattle.whole_links.specs.Packets.{bytes_left, brought_in, incoming_event, packet_event};
+ghost use Rattle.whole_links.specs.Packets.{bytes_left, incoming_bytes, incoming_event, packet_event};
 
 use crate::whole::WholeLinks;
 use all_links::{Arriving, Packets, land};
@@ -63,13 +63,13 @@ fn bytes_left<'a>(
 
 // The bytes that arrive, with an end at their port; `None` if there is no such port or packet, or if the packet ends
 // before the byte that is altered, or before it is cut.
-fn brought<'a>(
+fn incoming_bytes<'a>(
     alloc: Global,
     plan: &ValidPlan,
     packets: &'a Packets,
     incoming: Incoming<'a>,
 ) -> Result<Option<(PortName, CowSlice<'a, u8, Global>)>, OutOfMemory>
-    ensures { IfOk result (λ o. option_map (λ p. record { port = p.0; bytes = cow_slice_items p.1 }) o ≡ brought_in
+    ensures { IfOk result (λ o. option_map (λ p. record { port = p.0; bytes = cow_slice_items p.1 }) o ≡ incoming_bytes
         plan.now packets.now.packets incoming.entry) }
 {
     match incoming {
@@ -96,7 +96,7 @@ impl WholeLinks {
 
     // Bytes arrive: they meet the end of the line that has their stream. The memory for them, for what they may write,
     // and for a TLP that waits at a switch, is taken first.
-    fn bring(
+    fn land_incoming(
         &mut self,
         alloc: Global,
         plan: &ValidPlan,
@@ -110,7 +110,7 @@ impl WholeLinks {
         ensures accesses { IfOk result (λ v.
             AccessesArriveAt plan.now (incoming_event incoming.entry) v self.old self.new) }
     {
-        match brought(alloc, plan, &self.links.packets, incoming)? {
+        match incoming_bytes(alloc, plan, &self.links.packets, incoming)? {
             None => Ok(self.links.only(Verdict::Nothing)),
             Some((end, bytes)) => {
                 let keeper = &self.links.keeper.interfaces;
@@ -149,7 +149,7 @@ impl WholeLinks {
         ensures accesses { IfOk result (λ v.
             AccessesArriveAt plan.now (Event.Arrive port bytes.now) v self.old self.new) }
     {
-        self.bring(alloc, plan, Incoming::Given { port, bytes })
+        self.land_incoming(alloc, plan, Incoming::Given { port, bytes })
     }
 
     /// A packet by its number arrives, as its passage leaves it, at the port of the other end of its line. For want of
@@ -169,6 +169,6 @@ impl WholeLinks {
         ensures accesses { IfOk result (λ v.
             AccessesArriveAt plan.now (packet_event packet passage) v self.old self.new) }
     {
-        self.bring(alloc, plan, Incoming::Sent { packet, passage })
+        self.land_incoming(alloc, plan, Incoming::Sent { packet, passage })
     }
 }

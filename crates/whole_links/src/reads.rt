@@ -10,21 +10,20 @@ ghost use Rattle.whole_links.specs.Besides.{draw_below};
 ghost use Rattle.all_links.specs.Accesses.{is_sending, reads_at};
 ghost use Rattle.all_links.specs.BesideAfter.{BesideStays};
 
-use crate::reply::{draw_below, judged, small_number};
+use crate::reply::{Reply, draw_below, judged, small_number, stream_id};
 use crate::verdicts::{dropped, empty, takes_read};
 use crate::whole::WholeLinks;
 use event_verdicts::{AccessVerdict, BlockCause, Verdict};
-use ide_types::{
-    Binding, Bytes, InterfaceVerdict, OutOfMemory, PortName, Side, SubKind, ValidPlan,
-};
+use ide_types::{Binding, Bytes, InterfaceVerdict, OutOfMemory, SubKind, ValidPlan};
 use script_events::{AccessEvent, Event};
 use std::alloc::Global;
+use tlp_layout::OutgoingTlp;
 use trusted_memory::{COMPLETION_BYTES, WaitingRead, complete};
 
 impl WholeLinks {
     ghost use Rattle.ide_types.specs.declared.plan.Plan.{Plan as PlanView};
     ghost use Rattle.whole_links.specs.Besides.{completion_with_bytes, reply_numbered, link_reply, reader_of};
-    ghost use Rattle.whole_links.specs.Besides.{has_shown, bytes_shown};
+    ghost use Rattle.whole_links.specs.Besides.{has_shown, bytes_shown, reply_binding, IsReplyMade};
     ghost use Rattle.whole_links.specs.Whole.{HasAllAccesses, IsBoundedWhole, WholeEndsOr};
     ghost use Rattle.whole_links.specs.Accesses.{takes_read, AccessesAfter};
 
@@ -36,15 +35,16 @@ impl WholeLinks {
         interface: u8,
         waiting: &WaitingRead,
         bytes: &mut Vec<u8>,
-    ) -> Result<Binding, Verdict>
+    ) -> Result<Reply, Verdict>
         requires here { link < length self.now.links.ends.links }
         requires fits { FitsRead waiting.now.read }
         requires empty { bytes.old.items ≡ [] }
         requires room { vec_len bytes.old + 4108 ≤ vec_capacity bytes.old }
-        ensures { (l : LinkEnds) → slice_get self.now.links.ends.links link ≡ Some l →
-            completion_with_bytes result bytes.new.items
+        ensures due { (l : LinkEnds) → slice_get self.now.links.ends.links link ≡ Some l →
+            completion_with_bytes (reply_binding result) bytes.new.items
             ≡ reply_numbered self.now.links.keeper.interfaces l link self.now.links.trusted.contents waiting.now
             (Some interface) }
+        ensures made { IfOk result (λ r. IsReplyMade self.now.links.ends link r bytes.new.items) }
     {
         let requester = waiting.read.requester;
         match self
@@ -57,8 +57,10 @@ impl WholeLinks {
             None => Err(dropped(interface, BlockCause::NotRunning)),
             Some(bound) => {
                 let head = complete(&self.links.trusted, &waiting.read, bytes);
-                let taken = self.links.ends.link(link).host.stream_by_head(&head);
-                judged(taken, interface, waiting.draw, bound)
+                let tlp = OutgoingTlp::written(bytes.as_slice(), head);
+                let stream = self.links.ends.link(link).host.choose(&tlp);
+                let binding = judged(stream_id(stream), interface, waiting.draw, bound)?;
+                Ok(Reply { binding, stream, head })
             }
         }
     }
@@ -80,12 +82,13 @@ impl WholeLinks {
     }
 
     // Appends the completion of the oldest read of the link, or gives the verdict without one. There is room for it.
-    fn reply(&self, link: u8, bytes: &mut Vec<u8>) -> Result<Binding, Verdict>
+    fn reply(&self, link: u8, bytes: &mut Vec<u8>) -> Result<Reply, Verdict>
         requires here { link < length self.now.links.ends.links }
         requires whole { HasAllAccesses self.now }
         requires empty { bytes.old.items ≡ [] }
         requires room { vec_len bytes.old + 4108 ≤ vec_capacity bytes.old }
-        ensures { completion_with_bytes result bytes.new.items ≡ link_reply self.now link }
+        ensures due { completion_with_bytes (reply_binding result) bytes.new.items ≡ link_reply self.now link }
+        ensures made { IfOk result (λ r. IsReplyMade self.now.links.ends link r bytes.new.items) }
     {
         match self.accesses.at(link).reads.first() {
             None => Err(empty(link)),
@@ -107,33 +110,33 @@ impl WholeLinks {
         draw_below(draw, bound.floor)
     }
 
-    // Sends the completion as any TLP is sent, with T, unless that would be under too old a draw.
+    // Sends the completion, with T, unless that would be under too old a draw.
     fn send_reply(
         &mut self,
         plan: &ValidPlan,
         link: u8,
-        bound: Binding,
+        reply: &Reply,
         bytes: &[u8],
     ) -> Result<Verdict, OutOfMemory>
         requires steps { self.old.links.steps < 2 ^ 28 }
         requires bounded { IsBoundedWhole self.old }
         requires here { link < length self.old.links.ends.links }
-        requires due { link_reply self.old link ≡ completion_with_bytes (Ok bound) bytes.now }
+        requires due { link_reply self.old link ≡ completion_with_bytes (Ok reply.now.binding) bytes.now }
+        requires made { IsReplyMade self.old.links.ends link reply.now bytes.now }
         ensures ends { WholeEndsOr plan.now result self.old self.new (Event.Access (AccessEvent.Answer link)) }
         ensures sides { IfOk result (λ v. BesideStays self.old.links self.new.links) }
         ensures accesses { self.new.accesses ≡ self.old.accesses }
         ensures kind { IfOk result (λ v. is_sending v ≡ true) }
     {
-        match self.older_draw(link, bound) {
+        match self.older_draw(link, reply.binding) {
             Some(draw) => {
-                let needed = bound.floor;
+                let needed = reply.binding.floor;
                 let verdict = InterfaceVerdict::RefusedRefreshFirst { draw, needed };
                 Ok(self.links.only(Verdict::Interface { verdict }))
             }
             None => {
-                let side = Side::Host;
-                self.links
-                    .send_at(plan, PortName { side, line: link }, bytes, false, true)
+                let tlp = OutgoingTlp::written(bytes, reply.head);
+                self.links.complete(plan, link, reply.stream, &tlp)
             }
         }
     }
@@ -157,7 +160,7 @@ impl WholeLinks {
         let mut bytes = Vec::with_capacity(alloc, COMPLETION_BYTES)?;
         match self.reply(link, &mut bytes) {
             Err(verdict) => Ok(self.links.only(verdict)),
-            Ok(bound) => self.send_reply(plan, link, bound, &bytes),
+            Ok(reply) => self.send_reply(plan, link, &reply, &bytes),
         }
     }
 

@@ -1,11 +1,34 @@
 //! What an answer to the oldest read of a link comes to beside the ports.
 
 ghost use Rattle.std.specs.Prelude.{◌≡◌, Some};
+ghost use Rattle.tlp_layout.specs.Choice.{choice_of_stream, chosen_stream};
 ghost use Rattle.whole_links.specs.Besides.{draw_below, judged_bound, small_number};
 
 use crate::verdicts::dropped;
 use event_verdicts::{Verdict, binding_cause};
 use ide_types::Binding;
+use tlp_layout::{ChosenStream, HeadView};
+
+/// What the completion of a read is to be sealed by.
+#[derive(Clone, Copy)]
+pub struct Reply {
+    /// The stream that it has to take, and the least draw that it may be sealed under.
+    pub binding: Binding,
+    /// The stream that it takes at the host's port.
+    pub stream: Option<ChosenStream>,
+    /// The header that it was written with.
+    pub head: HeadView,
+}
+
+/// The ID of a stream that was chosen.
+pub fn stream_id(stream: Option<ChosenStream>) -> Option<u8>
+    ensures { result ≡ chosen_stream (choice_of_stream stream) }
+{
+    match stream {
+        None => None,
+        Some(stream) => Some(stream.id),
+    }
+}
 
 /// The binding of an interface, if a completion for it takes that stream, and if its read came under a draw from the
 /// floor on; else the verdict that drops the read. `taken` is the stream that the completion takes.

@@ -11,6 +11,7 @@ use event_verdicts::Verdict;
 use ide_types::{Direction, OutOfMemory, ValidPlan};
 use line_routes::{has_hop, leaving_end};
 use script_events::Event;
+use tlp_layout::OutgoingTlp;
 
 impl WholeLinks {
     ghost use Rattle.whole_links.specs.Whole.{IsBoundedWhole, WholeEndsOr};
@@ -38,8 +39,8 @@ impl WholeLinks {
             None => Ok(self.links.only(empty(link))),
             Some(tlp) => {
                 let end = leaving_end(link, direction);
-                self.links
-                    .send_at(plan, end, tlp.bytes.as_slice(), false, tlp.t)
+                let sent = OutgoingTlp::of(tlp.bytes.as_slice());
+                self.links.send_at(plan, end, &sent, false, tlp.t)
             }
         }
     }

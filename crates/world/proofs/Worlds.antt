@@ -26,8 +26,8 @@ use Rattle.join_accesses.proofs.Turned.{accesses_are}
 use Rattle.world.proofs.Turns.{Turn, IsAfter, beside_after, drawn_after}
 
 -- the links stand for the history that the world stands for
-pub standing : (plan : Plan) (s : WholeLinks) → IsWorld plan s → StandsForSome plan s.links
-standing plan s is = record {
+pub stands_for_some : (plan : Plan) (s : WholeLinks) → IsWorld plan s → StandsForSome plan s.links
+stands_for_some plan s is = record {
   history = is.history;
   links = is.links;
   stands = subst (λ (st : LinkState). PortsStandFor plan st is.history) is.stands.is.links is.stands.stands.links;
@@ -120,7 +120,7 @@ both_sides plan old new e (Some verdict) sides accesses = record { sides = sides
 module _ (plan : Plan) (old new : WholeLinks) (e : Event) (given : Given) (w : IsWorld plan old) where
   -- each event has a verdict
   not_without : HasNoVerdict plan old.links e → ⊥
-  not_without none = none (standing plan old w)
+  not_without none = none (stands_for_some plan old w)
       (is_answered plan old w.stands.whole given.join w.links w.stands.is e)
 
   pub has_verdict : (o : Option Verdict) → WholeEndsAs plan o old new e → IsSome o

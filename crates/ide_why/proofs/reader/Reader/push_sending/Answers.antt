@@ -12,15 +12,15 @@ pub returns-in-Err : goal.returns-in-Err
 returns-in-Err c =
     subst (λ (fs : List Fact). IfOk c.push_port-in-Err.result (λ x. c.push_port-in-Err.new.facts.items
     ≡ c.args.facts.now.items ++ fs))
-    (sent_no_tlp c.args.self.now.plan.now c.args.self.now.links.now c.args.end c.args.bytes.now c.in-Err.field-0
-    (sym c.in-Err.ensures.reading)) c.push_port-in-Err.ensures
+    (sent_no_tlp c.args.self.now.plan.now c.args.self.now.links.now c.args.end c.args.tlp.now c.in-Err.field-0
+    (sym c.in-Err.ensures)) c.push_port-in-Err.ensures
 
 pub returns-in-Ok : goal.returns-in-Ok
 returns-in-Ok c =
     subst (λ (fs : List Fact). IfOk c.push_on_stream.result (λ x. c.push_on_stream.new.facts.items
     ≡ c.args.facts.now.items ++ fs))
-    (sent_on c.args.self.now.plan.now c.args.self.now.links.now c.args.end c.args.bytes.now (viewed_tlp c.in-Ok.tlp)
-    c.in-Some.stream (sym c.in-Ok.ensures.reading) c.in-Some.ensures)
+    (sent_on c.args.self.now.plan.now c.args.self.now.links.now c.args.end c.args.tlp.now (viewed_tlp c.in-Ok.view)
+    c.in-Some.stream (sym c.in-Ok.ensures) c.in-Some.ensures)
     (subst (λ (head : HeadView). IfOk c.push_on_stream.result (λ x. c.push_on_stream.new.facts.items
     ≡ c.args.facts.now.items ++ stream_sends c.args.self.now.plan.now c.args.self.now.links.now c.args.end
     c.in-Some.stream head (stream_read c.args.self.now.plan.now c.args.self.now.links.now c.args.end c.in-Some.stream)))

@@ -12,8 +12,8 @@ unfoldable use Rattle.trusted_memory.specs.{completion_bytes}
 use Rattle.whole_links.specs.Besides.{judged_bound, completion_with_bytes, host_stream}
 use Rattle.whole_links.proofs.whole.WholeLinks.granted.Goals as goal
 
-pub returns-in-None : goal.returns-in-None
-returns-in-None c = λ l is.
+pub returns-in-None-clause-due : goal.returns-in-None-clause-due
+returns-in-None-clause-due c = λ l is.
     let bytes : List ℕ = completion_bytes (byte_at c.args.self.now.links.trusted.contents) c.args.waiting.now.read in
     ap (λ (w : Verdict). completion_with_bytes (Err w) bytes) c.dropped.ensures
     ∙ ap (λ (o : Option Binding). completion_with_bytes

@@ -8,17 +8,17 @@ pub returns-in-Some-clause-ends : goal.returns-in-Some-clause-ends
 returns-in-Some-clause-ends c =
     let l = there c.args.self.now.links.ends.links c.args.link c.requires.here in
     answer_older c.args.plan.now c.args.link
-    (record { bound = c.args.bound; bytes = c.args.bytes.now }) l.0 c.in-Some.draw
+    (record { bound = c.args.reply.now.binding; bytes = c.args.bytes.now }) l.0 c.in-Some.draw
     c.requires.due l.1 (sym (c.in-Some.ensures l.0 l.1)) c.only.ensures.value c.only.ensures.links refl
     c.requires.bounded
 
 pub returns-in-None-clause-ends : goal.returns-in-None-clause-ends
 returns-in-None-clause-ends c =
     let l = there c.args.self.now.links.ends.links c.args.link c.requires.here in
-    answer_sent_or c.args.plan.now c.send_at.result c.args.self.now
-    (record { links = c.send_at.new.self; accesses = c.args.self.now.accesses }) c.args.link
-    (record { bound = c.args.bound; bytes = c.args.bytes.now }) l.0
-    c.requires.due l.1 (sym (c.in-None.ensures l.0 l.1)) c.send_at.ensures.ends refl c.requires.bounded
+    answer_sent_or c.args.plan.now c.complete.result c.args.self.now
+    (record { links = c.complete.new.self; accesses = c.args.self.now.accesses }) c.args.link
+    (record { bound = c.args.reply.now.binding; bytes = c.args.bytes.now }) l.0
+    c.requires.due l.1 (sym (c.in-None.ensures l.0 l.1)) c.complete.ensures.ends refl c.requires.bounded
 
 pub returns-in-Some-clause-sides : goal.returns-in-Some-clause-sides
 returns-in-Some-clause-sides c = keeps_all c.only.ensures.links
