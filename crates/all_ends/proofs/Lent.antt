@@ -9,7 +9,7 @@ use Rattle.all_ends.specs.Ends.{trust_at_place, link_trust, asked_trust, pair_tr
 use Rattle.tlp_layout.specs.declared.choice.ChosenStream.{ChosenStream}
 use Rattle.ide_port.specs.Sends.{IsStreamTaken}
 use Rattle.all_ends.specs.AllEnds.{IsTakenAtHost}
-use Rattle.all_ends.specs.AllEnds.{TakesAt, SendsAt, OperatesIn, OperatesAt, Settles, Calls, CallsAt}
+use Rattle.all_ends.specs.AllEnds.{TakesAt, SendsAt, OperatesByPlace, OperatesAt, Settles, Calls, CallsAt}
 use Rattle.all_ends.specs.AllEnds.{Asks, AsksAt, IsEnded}
 use Rattle.all_ends.specs.Places.{code_behind}
 use Rattle.all_ends.specs.States.{EndsUnitsAtMost}
@@ -31,7 +31,7 @@ use Rattle.key_host.specs.declared.operation.NamedOperation.{NamedOperation}
 use Rattle.key_host.specs.declared.operation.StreamOutcome.{StreamOutcome}
 use Rattle.link_ends.specs.declared.device.Device.{Device as DeviceEnd}
 use Rattle.interface_ends.specs.Replies.{called_at}
-use Rattle.interface_state.specs.Machine.{Tdi, Call, state_code, tdi_after}
+use Rattle.interface_state.specs.Machine.{DeviceTdi, Call, state_code, interface_after_call}
 use Rattle.std.specs.Prelude.{IfSome, IsSome, is_some, true, false, nat_lt, ◌-◌, if◌then◌else◌}
 use Rattle.std.proofs.Common.{arith}
 use Rattle.std.proofs.lemmas.Bool.Decides.{nat_tests}
@@ -326,7 +326,8 @@ module _ (v : EndsView) (line i : ℕ) (k k' : KeeperView) (op : NamedOperation)
       → Operates k x op loss outcome k' y → NoMoreUnits x y → Settles (peer_live v i) x y
       → OperatesAt v line k op loss outcome (record v { links = slice_set v.links i y }) k'
   operate_link x y at read operates units settles =
-      subst (λ (p : LinePlace). OperatesIn v p k op loss outcome (record v { links = slice_set v.links i y }) k') at
+      subst (λ (p : LinePlace). OperatesByPlace v p k op loss outcome (record v { links = slice_set v.links i y }) k')
+      at
       (λ l is. (let same : x ≡ l = read_there v.links i x l read is in record {
         ends = y;
         new_is = refl;
@@ -339,7 +340,7 @@ module _ (v : EndsView) (line i : ℕ) (k k' : KeeperView) (op : NamedOperation)
       → Operates k x op loss outcome k' y → KeysAlone x y
       → OperatesAt v line k op loss outcome (record v { near = slice_set v.near i y }) k'
   operate_near x y at read operates units =
-      subst (λ (p : LinePlace). OperatesIn v p k op loss outcome (record v { near = slice_set v.near i y }) k') at
+      subst (λ (p : LinePlace). OperatesByPlace v p k op loss outcome (record v { near = slice_set v.near i y }) k') at
       (λ l is. (let same : x ≡ l = read_there v.near i x l read is in record {
         ends = y;
         new_is = refl;
@@ -352,7 +353,7 @@ module _ (v : EndsView) (line i : ℕ) (k k' : KeeperView) (op : NamedOperation)
       → new ≡ settled_place (Pair i) (record v { pairs = slice_set v.pairs i y })
       → OperatesAt v line k op loss outcome new k'
   operate_pair x y new at read operates units new_is =
-      subst (λ (p : LinePlace). OperatesIn v p k op loss outcome new k') at
+      subst (λ (p : LinePlace). OperatesByPlace v p k op loss outcome new k') at
       (λ l is. (let same : x ≡ l = read_there v.pairs i x l read is in record {
         ends = y;
         new_is = new_is;
@@ -370,15 +371,15 @@ pub call_there : (v : EndsView) (link place : ℕ) (call : Call) (code : ℕ) (x
     (record v { links = slice_set v.links link (record x { device = d }) })
 call_there v link place call code x d read called coded l is =
     let same : x ≡ l = read_there v.links link x l read is in
-    let made : (tdi : Tdi) → slice_get x.device.interfaces.interfaces place ≡ Some tdi
+    let made : (tdi : DeviceTdi) → slice_get x.device.interfaces.interfaces place ≡ Some tdi
     → d ≡ record x.device { interfaces = called_at x.device.interfaces place tdi call } =
-    λ tdi at. subst (λ (o : Option Tdi). IfSome o
+    λ tdi at. subst (λ (o : Option DeviceTdi). IfSome o
     (λ t. d ≡ record x.device { interfaces = called_at x.device.interfaces place t call })) at called in
-    let says : (tdi : Tdi) → slice_get x.device.interfaces.interfaces place ≡ Some tdi
+    let says : (tdi : DeviceTdi) → slice_get x.device.interfaces.interfaces place ≡ Some tdi
     → code ≡ code_behind tdi call =
-    λ tdi at. subst (λ (o : Option Tdi). IfSome o (λ t. code ≡ state_code t.state))
+    λ tdi at. subst (λ (o : Option DeviceTdi). IfSome o (λ t. code ≡ state_code t.state))
     (ap (λ (e : DeviceEnd). slice_get e.interfaces.interfaces place) (made tdi at)
-    ∙ set_there x.device.interfaces.interfaces place tdi (tdi_after tdi call) at) coded in
+    ∙ set_there x.device.interfaces.interfaces place tdi (interface_after_call tdi call) at) coded in
     subst (λ (z : LinkEnds). (l' : LinkEnds)
     × (record v { links = slice_set v.links link (record x { device = d }) }
     ≡ record v { links = slice_set v.links link l' }) × Calls place call code z l') same (

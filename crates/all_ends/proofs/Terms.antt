@@ -22,7 +22,8 @@ pub use Rattle.event_verdicts.specs.declared.verdict.UnitName.{UnitName}
 unfoldable pub use Rattle.arrival_verdicts.specs.{stream_plan, streams_by_line}
 pub use Rattle.machine_ports.specs.Machine.{BesidePorts, LinkPacket, LinkState, Stepped, stepped_answer, kept_packet}
 pub use Rattle.machine_ports.specs.Machine.{port_at, port_place, reset_state, machine_status}
-pub use Rattle.spec_stream.specs.Stream.{unit_name, Failed, Held, Insecure, LiveKey, StreamState, Taken, Three, TxSub}
+pub use Rattle.spec_stream.specs.Stream.{unit_name, Failed, Held, Insecure, LiveKey, StreamState, PacketOutcome, Three}
+pub use Rattle.spec_stream.specs.Stream.{TxSub}
 pub use Rattle.spec_stream.specs.Stream.{at_sub, outcome_of_checks, holds_any, is_allowed, is_tagged, lanes_of, live_in}
 pub use Rattle.spec_stream.specs.Stream.{sealed_all, slot_in_set, stream_outcome, stream_outcome_by_keys}
 unfoldable pub use Rattle.machine_ports.specs.Machine.{find, find_op, with_stream_state}

@@ -39,7 +39,7 @@ use Rattle.all_ends.specs.declared.places.LinePlace.{LinePlace}
 use Rattle.all_ends.specs.declared.places.LinePlace.TheVariants.{Link, Near, Pair}
 use Rattle.all_ends.specs.Places.{code_behind}
 use Rattle.link_ends.specs.declared.host.HostKeeper.{HostKeeper}
-use Rattle.interface_state.specs.Machine.{Tdi, Call}
+use Rattle.interface_state.specs.Machine.{DeviceTdi, Call}
 use Rattle.interface_ends.specs.Replies.{DeviceTdis, called_at, settled_interfaces}
 use Rattle.link_ends.specs.DeviceEnds.{secure_or_live}
 use Rattle.interface_host.specs.declared.operation.InterfaceOperation.{InterfaceOperation}
@@ -61,13 +61,13 @@ pub record Sends (old : EndsView) (side : Side) (place : LinePlace) (tlp : List 
   pub new_is : new ≡ with_port_at_place old side place port
   pub sent : (number : ℕ) → IsSentAtPort e tlp more (trust_at_place old side place trusted) number answer port sealed
 
-abbrev pub SendsIn : EndsView → Side → LinePlace → List ℕ → Bool → Bool → Sent → EndsView → List ℕ → Type 0
-SendsIn old side place tlp more trusted answer new sealed =
+abbrev pub SendsByPlace : EndsView → Side → LinePlace → List ℕ → Bool → Bool → Sent → EndsView → List ℕ → Type 0
+SendsByPlace old side place tlp more trusted answer new sealed =
     (e : PortEnd) → port_at_place old side place ≡ Some e → Sends old side place tlp more trusted answer new sealed e
 
 abbrev pub SendsAt : EndsView → PortName → List ℕ → Bool → Bool → Sent → EndsView → List ℕ → Type 0
 SendsAt old end tlp more trusted answer new sealed =
-    SendsIn old end.side (line_place end.line) tlp more trusted answer new sealed
+    SendsByPlace old end.side (line_place end.line) tlp more trusted answer new sealed
 
 -- the stream that bytes take at the host's port of a link, if they take one
 abbrev pub IsTakenAtHost : EndsView → ℕ → List ℕ → Option ChosenStream → Type 0
@@ -191,18 +191,18 @@ pub record OperatesOnPair (old : EndsView) (i : ℕ) (k : KeeperView) (op : Name
   pub operates : PairOperates k l op loss outcome k' ends
   pub units : NoMorePairUnits l ends
 
-abbrev pub OperatesIn : EndsView → LinePlace → KeeperView → NamedOperation → Option Loss → StreamOutcome → EndsView
+abbrev pub OperatesByPlace : EndsView → LinePlace → KeeperView → NamedOperation → Option Loss → StreamOutcome → EndsView
     → KeeperView → Type 0
-OperatesIn old (Link i) k op loss outcome new k' =
+OperatesByPlace old (Link i) k op loss outcome new k' =
     (l : LinkEnds) → slice_get old.links i ≡ Some l → OperatesOnLink old i k op loss outcome new k' l
-OperatesIn old (Near i) k op loss outcome new k' =
+OperatesByPlace old (Near i) k op loss outcome new k' =
     (l : LinkEnds) → slice_get old.near i ≡ Some l → OperatesOnNear old i k op loss outcome new k' l
-OperatesIn old (Pair i) k op loss outcome new k' =
+OperatesByPlace old (Pair i) k op loss outcome new k' =
     (l : PairEnds) → slice_get old.pairs i ≡ Some l → OperatesOnPair old i k op loss outcome new k' l
 
 abbrev pub OperatesAt : EndsView → ℕ → KeeperView → NamedOperation → Option Loss → StreamOutcome → EndsView → KeeperView
     → Type 0
-OperatesAt old line k op loss outcome new k' = OperatesIn old (line_place line) k op loss outcome new k'
+OperatesAt old line k op loss outcome new k' = OperatesByPlace old (line_place line) k op loss outcome new k'
 
 -- what it tells the manager of interfaces, by the line
 abbrev pub told_by_place : LinePlace → NamedOperation → Bool → Bool → ℕ → StreamOutcome → InterfacesView
@@ -254,9 +254,10 @@ pub record IsThere (v : EndsView) (link place : ℕ) : Type 0 where
 
 -- a call of the interface at this place of a device, after which its state has this code
 pub record Calls (place : ℕ) (call : Call) (code : ℕ) (l l' : LinkEnds) : Type 0 where
-  pub ends : (tdi : Tdi) → slice_get l.device.interfaces.interfaces place ≡ Some tdi
+  pub ends : (tdi : DeviceTdi) → slice_get l.device.interfaces.interfaces place ≡ Some tdi
       → l' ≡ record l { device = record l.device { interfaces = called_at l.device.interfaces place tdi call } }
-  pub code_is : (tdi : Tdi) → slice_get l.device.interfaces.interfaces place ≡ Some tdi → code ≡ code_behind tdi call
+  pub code_is : (tdi : DeviceTdi) → slice_get l.device.interfaces.interfaces place ≡ Some tdi → code
+      ≡ code_behind tdi call
 
 abbrev pub CallsAt : EndsView → ℕ → ℕ → Call → ℕ → EndsView → Type 0
 CallsAt old link place call code new = Changes old link new (λ l l'. Calls place call code l l')

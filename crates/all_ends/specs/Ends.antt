@@ -19,7 +19,7 @@ use Rattle.spec_interfaces.specs.Peers.{live_by_id}
 use Rattle.arrival_verdicts.specs.{lone_stream, hop_streams, in_eight, hop_by_link, behind_near}
 use Rattle.ide_port.specs.{PortEnd, Trusting, port_stream_status, receiving_draw_in, reset_port}
 use Rattle.link_ends.specs.DeviceEnds.{says_secure, settled_device, peer_trusting}
-use Rattle.interface_ends.specs.Replies.{DeviceTdis, reset_tdis}
+use Rattle.interface_ends.specs.Replies.{DeviceTdis, reset_device_interfaces}
 use Rattle.link_ends.specs.declared.pair.PairEnds.{PairEnds}
 use Rattle.link_ends.specs.LineEnds.{new_pair, end_in, with_end, reset_pair}
 use Rattle.link_ends.specs.declared.ends.LinkEnds.{LinkEnds}
@@ -222,7 +222,7 @@ all_cleared v [] = v
 all_cleared v (e ∷ es) = all_cleared (cleared_on v e) es
 
 abbrev pub unlocked_ends : LinkEnds → LinkEnds
-unlocked_ends l = record l { device = record l.device { interfaces = reset_tdis l.device.interfaces } }
+unlocked_ends l = record l { device = record l.device { interfaces = reset_device_interfaces l.device.interfaces } }
 
 -- the interfaces of a link's device are as they were made, but for the nonces that were given
 abbrev pub unlocked_link : EndsView → ℕ → EndsView

@@ -3,7 +3,7 @@ use Rattle.std.specs.Prelude.{ℕ, ◌+◌, ◌-◌, nat_lt, nat_le, if◌then�
 use Rattle.std.specs.Prelude.{is_some, ◌&&◌}
 use Rattle.ide_types.specs.Ports.{host_port}
 use Rattle.key_host.specs.Managers.{ManagerView, named_stream}
-use Rattle.interface_state.specs.Machine.{Tdi, Call, tdi_after, state_code}
+use Rattle.interface_state.specs.Machine.{DeviceTdi, Call, interface_after_call, state_code}
 use Rattle.link_ends.specs.declared.ends.LinkEnds.{LinkEnds}
 use Rattle.all_ends.specs.Ends.{EndsView, port_on}
 
@@ -22,5 +22,5 @@ place_on_links link n (l ∷ ls) =
     else place_on_links (link + 1) (n - length l.device.interfaces.interfaces) ls
 
 -- the state after a call
-abbrev pub code_behind : Tdi → Call → ℕ
-code_behind tdi call = state_code (tdi_after tdi call).state
+abbrev pub code_behind : DeviceTdi → Call → ℕ
+code_behind tdi call = state_code (interface_after_call tdi call).state

@@ -70,7 +70,8 @@ impl Model for AllEnds {
 impl AllEnds {
     ghost use Rattle.all_ends.specs.Ends.{new_all_ends, port_on, settled_link, settled_first_links, cleared_on};
     ghost use Rattle.all_ends.specs.Ends.{all_cleared, unlocked_link, settled_place};
-    ghost use Rattle.all_ends.specs.AllEnds.{IsTakenAtHost, SendsAt, TakesAt, ComesAt, ArrivesAt, Leaves, WaitsAt, OperatesAt};
+    ghost use Rattle.all_ends.specs.AllEnds.{IsTakenAtHost, SendsAt, TakesAt, ComesAt, ArrivesAt, Leaves, WaitsAt};
+    ghost use Rattle.all_ends.specs.AllEnds.{OperatesAt};
     ghost use Rattle.all_ends.specs.AllEnds.{told_by_line, drawn_on_line, AsksAt, CallsAt, IsThere, ResetsAt};
     ghost use Rattle.all_ends.specs.AllEnds.{settled_by_side, statuses_of};
     ghost use Rattle.all_ends.specs.States.{EndsUnitsAtMost};

@@ -21,7 +21,7 @@ use Rattle.interface_state.specs.declared.states.TdiState.{TdiState}
 use Rattle.interface_state.specs.declared.states.TdiState.TheVariants.{ConfigUnlocked, ConfigLocked, Run, Error}
 use Rattle.all_links.specs.Accesses.{planned_stream, device_draw, place_runs}
 use Rattle.event_verdicts.specs.declared.verdict.Verdict.TheVariants as v
-use Rattle.interface_state.specs.Machine.{Tdi, Call, state_code}
+use Rattle.interface_state.specs.Machine.{DeviceTdi, Call, state_code}
 use Rattle.interface_ends.specs.Replies.{DeviceTdis, called_at}
 use Rattle.interface_host.specs.declared.operation.InterfaceOperation.{InterfaceOperation}
 use Rattle.interface_host.specs.declared.operation.InterfaceOutcome.{InterfaceOutcome}
@@ -30,7 +30,8 @@ use Rattle.interface_host.specs.Views.{HostTdi}
 use Rattle.interface_ends.specs.Keepers.{Ended}
 use Rattle.script_events.specs.declared.event.InterfaceEvent.{InterfaceEvent}
 use Rattle.script_events.specs.declared.event.Loss.{Loss}
-use Rattle.all_links.specs.Interfaces.{interface_named, tdi_named, interface_of_ends, ended_in, ended_if_there}
+use Rattle.all_links.specs.Interfaces.{interface_named, named_device_interface, interface_of_ends, ended_in}
+use Rattle.all_links.specs.Interfaces.{ended_if_there}
 use Rattle.all_links.specs.Interfaces.{ended_on_link, verdict_in, has_peer_in, managed_peer_stream, peer_verdict_in}
 use Rattle.all_links.specs.Interfaces.{has_peer_if_there}
 use Rattle.all_links.specs.Besides.{op_verdict}
@@ -52,19 +53,19 @@ named_parts : (m : InterfacesView) (ends : List LinkEnds) (n : ℕ) (at : ℕ ×
     → (place_on_links 0 n ends ≡ Some at) × (n < length m.interfaces)
 named_parts m ends n at is = grind (arith, nat_tests)
 
-tdi_at : (ends : List LinkEnds) (at : ℕ × ℕ) {l : LinkEnds} {tdi : Tdi} → slice_get ends at.0 ≡ Some l
+interface_there : (ends : List LinkEnds) (at : ℕ × ℕ) {l : LinkEnds} {tdi : DeviceTdi} → slice_get ends at.0 ≡ Some l
     → slice_get l.device.interfaces.interfaces at.1 ≡ Some tdi → interface_of_ends ends at ≡ Some tdi
-tdi_at ends at link_there tdi_there = rw link_there tdi_there
+interface_there ends at link_there tdi_there = rw link_there tdi_there
 
 -- the interface of this number, at its device and at the manager
 pub record IsFound (m : InterfacesView) (v : EndsView) (n : ℕ) (at : ℕ × ℕ) : Type 0 where
   pub ends_at : LinkEnds
-  pub tdi : Tdi
+  pub tdi : DeviceTdi
   pub kept : HostTdi
   pub link_there : slice_get v.links at.0 ≡ Some ends_at
   pub tdi_there : slice_get ends_at.device.interfaces.interfaces at.1 ≡ Some tdi
   pub kept_there : slice_get m.interfaces n ≡ Some kept
-  pub named_is : tdi_named m v.links n ≡ Some tdi
+  pub named_is : named_device_interface m v.links n ≡ Some tdi
 
 pub is_found : (m : InterfacesView) (v : EndsView) (n : ℕ) (at : ℕ × ℕ) → Some at ≡ interface_named m v.links n
     → IsFound m v n at
@@ -84,7 +85,7 @@ is_found m v n at named =
       tdi_there = t.1;
       kept_there = k.1;
       named_is = ap (λ (o : Option (ℕ × ℕ)). option_and_then (interface_of_ends v.links) o) (sym named)
-          ∙ tdi_at v.links at link_there t.1;
+          ∙ interface_there v.links at link_there t.1;
     }
 
 pub is_placed : (v : EndsView) (n : ℕ) (o : Option (ℕ × ℕ)) → o ≡ place_on_links 0 n v.links
@@ -199,7 +200,7 @@ interfaces_change plan old new link l d ends k verdict e due is ends_is keys new
 pub called : (plan : Plan) (old : Links) (n : ℕ) (at : ℕ × ℕ) (call : Call) (code : ℕ) (ends : EndsView) (new : Links)
     (verdict : Verdict) (e : InterfaceEvent) (w : ℕ → Verdict)
     → Some at ≡ interface_named old.keeper.interfaces old.ends.links n → CallsAt old.ends at.0 at.1 call code ends
-    → ((tdi : Tdi) → tdi_named old.keeper.interfaces old.ends.links n ≡ Some tdi
+    → ((tdi : DeviceTdi) → named_device_interface old.keeper.interfaces old.ends.links n ≡ Some tdi
     → Some (w (code_behind tdi call)) ≡ answer_of_links old e)
     → verdict ≡ w code → new ≡ record old { ends = ends; steps = old.steps + 1 }
     → IsBounded old.ends old.packets.packets old.steps → EndsWith plan verdict old new (Interface e)
@@ -333,16 +334,16 @@ run_code Error = refl
 
 pub runs_is : (s : Links) (at : ℕ × ℕ) (b : Bool) → IsThere s.ends at.0 at.1
     → IfSome (slice_get s.ends.links at.0) (λ (l : LinkEnds). IfSome (slice_get l.device.interfaces.interfaces at.1)
-    (λ (t : Tdi). b ≡ (state_code t.state == 2))) → b ≡ place_runs s (Some at)
+    (λ (t : DeviceTdi). b ≡ (state_code t.state == 2))) → b ≡ place_runs s (Some at)
 runs_is s at b here says =
     let l = there s.ends.links at.0 here.link_there in
     let t = there l.0.device.interfaces.interfaces at.1 (here.place_there l.0 l.1) in
-    if_some (λ (t : Tdi). b ≡ (state_code t.state == 2)) (slice_get l.0.device.interfaces.interfaces at.1) t.0 t.1
+    if_some (λ (t : DeviceTdi). b ≡ (state_code t.state == 2)) (slice_get l.0.device.interfaces.interfaces at.1) t.0 t.1
     (if_some (λ (l : LinkEnds). IfSome (slice_get l.device.interfaces.interfaces at.1)
-    (λ (t : Tdi). b ≡ (state_code t.state == 2))) (slice_get s.ends.links at.0) l.0 l.1 says)
+    (λ (t : DeviceTdi). b ≡ (state_code t.state == 2))) (slice_get s.ends.links at.0) l.0 l.1 says)
     ∙ run_code t.0.state
-    ∙ sym (ap (λ (o : Option Tdi). option_map_or (λ (t : Tdi). is_run t.state) o false)
-    (tdi_at s.ends.links at l.1 t.1))
+    ∙ sym (ap (λ (o : Option DeviceTdi). option_map_or (λ (t : DeviceTdi). is_run t.state) o false)
+    (interface_there s.ends.links at l.1 t.1))
 
 pub draw_is : (s : Links) (i link stream : ℕ) (l : LinkEnds) (x : HostTdi) (o : Option ℕ)
     → slice_get s.ends.links link ≡ Some l → slice_get s.keeper.interfaces.interfaces i ≡ Some x → stream ≡ x.stream

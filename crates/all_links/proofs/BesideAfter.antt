@@ -16,7 +16,7 @@ use Rattle.key_host.specs.declared.operation.NamedOperation.TheVariants as call
 use Rattle.key_host.specs.declared.operation.StreamOutcome.{StreamOutcome}
 use Rattle.key_host.specs.Operations.{OpName, op_name}
 use Rattle.key_host.specs.Walk.{verdict_of}
-use Rattle.interface_state.specs.Machine.{Tdi, Call}
+use Rattle.interface_state.specs.Machine.{DeviceTdi, Call}
 use Rattle.interface_host.specs.declared.operation.InterfaceOperation.{InterfaceOperation}
 use Rattle.interface_host.specs.declared.operation.InterfaceOutcome.{InterfaceOutcome}
 use Rattle.interface_host.specs.Managers.{reset_interface_manager}
@@ -142,7 +142,7 @@ peer_beside old new n line stream o loss small has x = record {
 
 -- ---- calls of a device's interface
 
-pub nothing_called : {old new : Links} (n : ℕ) (test : Tdi → Bool) (call : Call)
+pub nothing_called : {old new : Links} (n : ℕ) (test : DeviceTdi → Bool) (call : Call)
     → None ≡ interface_named old.keeper.interfaces old.ends.links n → new ≡ record old { steps = old.steps + 1 }
     → BesideCall n test call old new
 nothing_called {old} {new} n test call nowhere is = record {
@@ -154,11 +154,11 @@ nothing_called {old} {new} n test call nowhere is = record {
 }
 
 -- of the interface at this place the test is so
-abbrev pub Tests : EndsView → ℕ × ℕ → (Tdi → Bool) → Bool → Type 0
-Tests v at test b = (l : LinkEnds) (tdi : Tdi) → slice_get v.links at.0 ≡ Some l
+abbrev pub Tests : EndsView → ℕ × ℕ → (DeviceTdi → Bool) → Bool → Type 0
+Tests v at test b = (l : LinkEnds) (tdi : DeviceTdi) → slice_get v.links at.0 ≡ Some l
     → slice_get l.device.interfaces.interfaces at.1 ≡ Some tdi → test tdi ≡ b
 
-pub called_beside : (old new : Links) (n : ℕ) (at : ℕ × ℕ) (test : Tdi → Bool) (call : Call) (code : ℕ)
+pub called_beside : (old new : Links) (n : ℕ) (at : ℕ × ℕ) (test : DeviceTdi → Bool) (call : Call) (code : ℕ)
     (ends : EndsView) → Some at ≡ interface_named old.keeper.interfaces old.ends.links n → Tests old.ends at test true
     → CallsAt old.ends at.0 at.1 call code ends → new ≡ record old { ends = ends; steps = old.steps + 1 }
     → BesideCall n test call old new
@@ -177,7 +177,7 @@ called_beside old new n at test call code ends here tests calls is = record {
       (a.2.ends tdi tdi_there ∙ ap (λ (b : Bool). if b then after else l) (sym meets));
 }
 
-pub not_called : (old new : Links) (n : ℕ) (at : ℕ × ℕ) (test : Tdi → Bool) (call : Call)
+pub not_called : (old new : Links) (n : ℕ) (at : ℕ × ℕ) (test : DeviceTdi → Bool) (call : Call)
     → Some at ≡ interface_named old.keeper.interfaces old.ends.links n → Tests old.ends at test false
     → new ≡ record old { steps = old.steps + 1 } → BesideCall n test call old new
 not_called old new n at test call here tests is = record {

@@ -13,11 +13,12 @@ use Rattle.ide_types.specs.Ports.{host_port}
 unfoldable use Rattle.spec_interfaces.specs.Peers.{peer_end}
 use Rattle.line_arrivals.proofs.{peer_end_is, each_set, seen_same}
 use Rattle.script_events.specs.declared.event.Loss.{Loss}
-use Rattle.line_arrivals.specs.{PairEnds, secure_or_live, OperatesIn, OperatesOnLink, OperatesOnPair, line_place}
+use Rattle.line_arrivals.specs.{PairEnds, secure_or_live, OperatesByPlace, OperatesOnLink, OperatesOnPair, line_place}
 use Rattle.line_arrivals.specs.{changed_at, port_at_place, live_of, live_at_port, pair_port, settled_ends, settled_link}
 use Rattle.line_arrivals.specs.{settled_first_links, settled_peer, cleared_place, cleared_ends, cleared_on, all_cleared}
 use Rattle.line_arrivals.specs.{unlocked_ends, unlocked_link, reset_all, LinePlace, Link, Near, Pair}
-use Rattle.interface_state.specs.Machine.{Tdi, StreamLeft, tdi_after, bound_link_stream, after_failure, bindings_left}
+use Rattle.interface_state.specs.Machine.{DeviceTdi, StreamLeft, interface_after_call, bound_link_stream, after_failure}
+use Rattle.interface_state.specs.Machine.{bindings_left}
 use Rattle.ide_types.specs.declared.binding.Binding.{Binding}
 use Rattle.interface_state.specs.declared.states.TdiState.{TdiState}
 use Rattle.interface_state.specs.declared.states.TdiState.TheVariants.{ConfigUnlocked, ConfigLocked, Run, Error}
@@ -89,7 +90,8 @@ bindings_twice (ConfigLocked lock nonce) bs = refl
 bindings_twice (Run lock) bs = refl
 bindings_twice Error bs = refl
 
-left_twice : (t : Tdi) → tdi_after (tdi_after t StreamLeft) StreamLeft ≡ tdi_after t StreamLeft
+left_twice : (t : DeviceTdi) → interface_after_call (interface_after_call t StreamLeft) StreamLeft
+    ≡ interface_after_call t StreamLeft
 left_twice t = λ i. record {
   plan = t.plan;
   registers = t.registers;
@@ -97,27 +99,29 @@ left_twice t = λ i. record {
   bindings = bindings_twice t.state t.bindings i;
 }
 
-interface_twice : (f : ℕ → Bool) (t : Tdi) → settled_interface f (settled_interface f t) ≡ settled_interface f t
+interface_twice : (f : ℕ → Bool) (t : DeviceTdi) → settled_interface f (settled_interface f t) ≡ settled_interface f t
 interface_twice f t = by (is_left f (bound_link_stream t.state) || any_left f t.bindings) refl
   where
-    again : (b : Bool) → (if b then tdi_after (tdi_after t StreamLeft) StreamLeft else tdi_after t StreamLeft)
-        ≡ tdi_after t StreamLeft
+    again : (b : Bool) → (if b then interface_after_call (interface_after_call t StreamLeft) StreamLeft else
+        interface_after_call t StreamLeft)
+        ≡ interface_after_call t StreamLeft
     again true = left_twice t
     again false = refl
 
     by : (b : Bool) → (is_left f (bound_link_stream t.state) || any_left f t.bindings) ≡ b
-        → settled_interface f (if b then tdi_after t StreamLeft else t) ≡ (if b then tdi_after t StreamLeft else t)
-    by true is = let u : Tdi = tdi_after t StreamLeft in
+        → settled_interface f (if b then interface_after_call t StreamLeft else t)
+        ≡ (if b then interface_after_call t StreamLeft else t)
+    by true is = let u : DeviceTdi = interface_after_call t StreamLeft in
         again (is_left f (bound_link_stream u.state) || any_left f u.bindings)
-    by false is = ap (λ (b : Bool). if b then tdi_after t StreamLeft else t) is
+    by false is = ap (λ (b : Bool). if b then interface_after_call t StreamLeft else t) is
 
-each_twice : (f : ℕ → Bool) (ts : List Tdi) → map (settled_interface f) (map (settled_interface f) ts)
+each_twice : (f : ℕ → Bool) (ts : List DeviceTdi) → map (settled_interface f) (map (settled_interface f) ts)
     ≡ map (settled_interface f) ts
 each_twice f [] = refl
 each_twice f (t ∷ ts) = λ i. interface_twice f t i ∷ each_twice f ts i
 
 settled_twice : (f : ℕ → Bool) (d : DeviceTdis) → settled_interfaces f (settled_interfaces f d) ≡ settled_interfaces f d
-settled_twice f d = ap (λ (ts : List Tdi). record d { interfaces = ts }) (each_twice f d.interfaces)
+settled_twice f d = ap (λ (ts : List DeviceTdi). record d { interfaces = ts }) (each_twice f d.interfaces)
 
 -- ---- a reset
 
@@ -357,7 +361,7 @@ module _ (old : EndsView) (k : KeeperView) (c : OpCall) (loss : Option Loss) (ou
       by false late = joined (slice_get old.peers (i - 8)) refl (grind (arith, nat_tests, late))
 
   at_place : (place : LinePlace) → IsSome (port_at_place old Host place)
-      → OperatesIn old place k c loss outcome ends k' → AllFollow old ends
+      → OperatesByPlace old place k c loss outcome ends k' → AllFollow old ends
   at_place (Link i) here operates =
       let f = mapped_there (λ (l : LinkEnds). port_in Host l) (slice_get old.links i) here in
       on_link i f.0 f.1 (operates f.0 f.1)

@@ -4,7 +4,7 @@ use Rattle.std.specs.Option.{option_map_or, option_and_then}
 use Rattle.ide_types.specs.declared.sub.SubKind.TheVariants.{Pr}
 use Rattle.event_verdicts.specs.declared.verdict.Verdict.{Verdict}
 use Rattle.event_verdicts.specs.declared.verdict.Verdict.TheVariants as v
-use Rattle.interface_state.specs.Machine.{Tdi}
+use Rattle.interface_state.specs.Machine.{DeviceTdi}
 use Rattle.spec_interfaces.specs.Devices.{is_run}
 use Rattle.ide_port.specs.{receiving_draw_in}
 use Rattle.line_arrivals.specs.{LinkEnds}
@@ -30,7 +30,7 @@ device_draw s i link =
 -- the interface at a place is in RUN
 abbrev pub place_runs : Links → Option (ℕ × ℕ) → Bool
 place_runs s at =
-    option_map_or (λ (t : Tdi). is_run t.state) (option_and_then (interface_of_ends s.ends.links) at) false
+    option_map_or (λ (t : DeviceTdi). is_run t.state) (option_and_then (interface_of_ends s.ends.links) at) false
 
 abbrev pub runs_in : Links → ℕ → Bool
 runs_in s i = place_runs s (interface_named s.keeper.interfaces s.ends.links i)

@@ -17,12 +17,12 @@ use Rattle.event_verdicts.specs.declared.verdict.Verdict.{Verdict}
 use Rattle.event_verdicts.specs.declared.verdict.Verdict.TheVariants as v
 use Rattle.spec_keys.specs.History.{History}
 use Rattle.spec_keys.specs.Operations.{StreamStage, work_of}
-use Rattle.spec_links.specs.History.{Arrival}
+use Rattle.spec_links.specs.History.{ArrivedBytes}
 use Rattle.machine_ports.specs.Machine.{LinkState}
 use Rattle.machine_ports.specs.Stands.{PortsStandFor}
 use Rattle.key_host.specs.Managers.{Named, named_stream}
-use Rattle.interface_state.specs.Machine.{Tdi, Call, WriteRegister, LevelReset, FirmwareUpdate}
-use Rattle.interface_ends.specs.Replies.{DeviceTdis, settled_interfaces, reset_tdis, called_at}
+use Rattle.interface_state.specs.Machine.{DeviceTdi, Call, WriteRegister, LevelReset, FirmwareUpdate}
+use Rattle.interface_ends.specs.Replies.{DeviceTdis, settled_interfaces, reset_device_interfaces, called_at}
 use Rattle.interface_host.specs.declared.operation.InterfaceOperation.{InterfaceOperation}
 use Rattle.interface_host.specs.declared.operation.InterfaceOperation.TheVariants as op
 use Rattle.interface_host.specs.Views.{HostTdi}
@@ -47,7 +47,8 @@ pub record BesideStays (old new : Links) : Type 0 where
 
 -- ---- arrivals
 
-pub record BesideArrival (plan : Plan) (arrival : LinkState → Option Arrival) (verdict : Verdict) (old new : Links) :
+pub record BesideArrival (plan : Plan) (arrival : LinkState → Option ArrivedBytes) (verdict : Verdict) (old new : Links)
+    :
     Type 0 where
   pub keeper : new.keeper.interfaces ≡ old.keeper.interfaces
   pub peer_draws : new.keeper.peer_draws ≡ old.keeper.peer_draws
@@ -111,7 +112,7 @@ pub record BesideOperation (o : Operation) (line stream : ℕ) (verdict : Verdic
 
 -- the interfaces of the link's own device are reset
 abbrev pub reset_if : Bool → DeviceTdis → DeviceTdis
-reset_if own d = if own then reset_tdis d else d
+reset_if own d = if own then reset_device_interfaces d else d
 
 pub record BesideReset (link : ℕ) (old new : Links) : Type 0 where
   pub contents : new.trusted.contents ≡ old.trusted.contents
@@ -151,17 +152,17 @@ pub record BesideBinding (number line stream : ℕ) (o : InterfaceOperation) (lo
         → BesideAsking number o loss old new
 
 -- a call of one interface of a device, if it meets a test
-abbrev pub called_if : (Tdi → Bool) → LinkEnds → ℕ → Tdi → Call → LinkEnds
+abbrev pub called_if : (DeviceTdi → Bool) → LinkEnds → ℕ → DeviceTdi → Call → LinkEnds
 called_if test l place tdi call =
     if test tdi then record l { device = record l.device { interfaces = called_at l.device.interfaces place tdi call } }
     else l
 
-pub record BesideCall (number : ℕ) (test : Tdi → Bool) (call : Call) (old new : Links) : Type 0 where
+pub record BesideCall (number : ℕ) (test : DeviceTdi → Bool) (call : Call) (old new : Links) : Type 0 where
   pub keeper : new.keeper.interfaces ≡ old.keeper.interfaces
   pub peer_draws : new.keeper.peer_draws ≡ old.keeper.peer_draws
   pub contents : new.trusted.contents ≡ old.trusted.contents
   pub unnamed : interface_named old.keeper.interfaces old.ends.links number ≡ None → BesideStays old new
-  pub called : (at : ℕ × ℕ) (l : LinkEnds) (tdi : Tdi)
+  pub called : (at : ℕ × ℕ) (l : LinkEnds) (tdi : DeviceTdi)
       → interface_named old.keeper.interfaces old.ends.links number ≡ Some at
       → slice_get old.ends.links at.0 ≡ Some l → slice_get l.device.interfaces.interfaces at.1 ≡ Some tdi
       → new.ends ≡ record old.ends { links = slice_set old.ends.links at.0 (called_if test l at.1 tdi call) }
@@ -185,7 +186,7 @@ BesideInterface (ie.Memory at len) old new = BesideStays old new
 
 -- ---- all events
 
-abbrev pub arrival_in_state : Plan → Event → LinkState → Option Arrival
+abbrev pub arrival_in_state : Plan → Event → LinkState → Option ArrivedBytes
 arrival_in_state plan e st = arrival_of plan st e
 
 abbrev pub BesideBytes : Plan → Event → Verdict → Links → Links → Type 0

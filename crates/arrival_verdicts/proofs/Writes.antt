@@ -14,7 +14,7 @@ use Rattle.ide_prefix.specs.Packet.{Packet}
 use Rattle.event_verdicts.specs.declared.verdict.Effect.{Effect}
 use Rattle.event_verdicts.specs.declared.verdict.UnitName.{UnitName}
 use Rattle.spec_keys.specs.Places.{sent_direction}
-use Rattle.spec_stream.specs.Stream.{StreamState, LiveKey, Taken, Insecure, Failed, Held, holds_any, is_tagged}
+use Rattle.spec_stream.specs.Stream.{StreamState, LiveKey, PacketOutcome, Insecure, Failed, Held, holds_any, is_tagged}
 use Rattle.spec_stream.specs.Stream.{is_allowed, outcome_of_checks, stream_outcome_by_keys, stream_outcome, live_in}
 use Rattle.spec_stream.specs.Stream.{slot_in_set, at_sub, unit_name, Accepted}
 use Rattle.sub_stream.specs.{opened_from_byte, opened_unit}
@@ -39,7 +39,7 @@ use Rattle.ide_prefix.specs.{encrypted_bytes, iv_of, is_sync_packet}
 use Rattle.ide_prefix.specs.declared.fault.PacketFault.{PacketFault}
 use Rattle.ide_prefix.specs.Reading.{CutValue, PlainTlp, IdePacket, cut_of}
 use Rattle.spec_keys.specs.Keys.{Keyed, Off, Loaded, On, Keys}
-use Rattle.spec_links.specs.History.{Arrival as Arrives, port_keys}
+use Rattle.spec_links.specs.History.{ArrivedBytes as Arrives, port_keys}
 use Rattle.spec_links.specs.Admission.{payload_write, write_if_admitted, admitted_each, admitted_writes, plain_of}
 use Rattle.spec_links.specs.Ports.{port_of, at_switch}
 use Rattle.spec_links.specs.Packets.{received_in}
@@ -126,7 +126,7 @@ pub record IsUnder (x : StreamState) (p : Packet) (draw unit : ℕ) : Type 0 whe
   pub draw_is : draw ≡ key.draw
   pub unit_is : unit ≡ key.units + 1
 
-abbrev pub IsTaken : StreamState → Packet → Taken → Type 0
+abbrev pub IsTaken : StreamState → Packet → PacketOutcome → Type 0
 IsTaken x p (Accepted draw unit packets) = IsUnder x p draw unit
 IsTaken x p t = Unit {0}
 
@@ -148,7 +148,7 @@ module _ (x : StreamState) (p : Packet) where
       (is_tagged closed (at_sub x.rx p.prefix.sub).total y p) p.prefix.m
       (is_allowed x.rx p.prefix.sub (y.packets ++ p ∷ [])) is
 
-  failed_taken : (b : Bool) (t : Taken) → IsTaken x p t → IsTaken x p (if b then Insecure else t)
+  failed_taken : (b : Bool) (t : PacketOutcome) → IsTaken x p t → IsTaken x p (if b then Insecure else t)
   failed_taken true t is = tt
   failed_taken false t is = is
 
@@ -184,7 +184,7 @@ module _ {A : Type 0} (plan : Plan) (port : PortName) (f g : UnitName → List P
       → y.key ≡ key_of plan y.draw (lane_in port p.prefix.stream p.prefix.sub)
 
   -- by the machine, of an arrival that gave this, and by the port
-  taken_same : (p : Packet) (x : StreamState) (t : Taken) → HasKeys p x → IsTaken x p t
+  taken_same : (p : Packet) (x : StreamState) (t : PacketOutcome) → HasKeys p x → IsTaken x p t
       → of_unit (port_arrival p t) (λ unit. f unit (unit_taken t))
       ≡ of_unit (port_arrival p t) (λ unit. g unit (opened_if_accepted x p t))
   taken_same p x (Accepted draw n ps) keys under =
@@ -230,7 +230,7 @@ module _ {A : Type 0} (plan : Plan) (now : LinkState) (h : History) (end : PortN
       let state : stream_state_due plan h end id ≡ x.state =
       where_it_stands (has_stream plan end id) x.state (stream_state_due plan h end id)
       (sym (stands.ports_stand.streams end id) ∙ seen) in
-      let t : Taken = stream_outcome x.plan.aggregation x.plan.closed x.state p in
+      let t : PacketOutcome = stream_outcome x.plan.aggregation x.plan.closed x.state p in
       let aggregation : aggregation_of plan end.line id ≡ x.plan.aggregation = is.aggregations id x at in
       let closed : is_closed plan end.line id ≡ x.plan.closed = is.closes id x at in
       (λ i. of_unit (port_arrival p t)

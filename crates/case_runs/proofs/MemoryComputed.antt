@@ -17,7 +17,7 @@ use Rattle.spec_interfaces.specs.Due.{interface_verdict_due as interface_due}
 use Rattle.trusted_memory.specs.Writes.{Write, byte_last_written, newest_first}
 use Rattle.spec_links.specs.History.{packet_of}
 use Rattle.spec_links.specs.Memory.{admitted_writes, admitted_each, shown_if}
-use Rattle.spec_links.specs.Packets.{Arrival, arrival_packet}
+use Rattle.spec_links.specs.Packets.{ArrivedBytes, arrival_packet}
 use Rattle.event_verdicts.specs.declared.verdict.Effect.TheVariants.{Applied, Blocked}
 use Rattle.event_verdicts.specs.declared.verdict.BlockCause.TheVariants.{NotRunning, Stale}
 use Rattle.case_runs.specs.MemoryCases.{IsInterfaceDue, MemoryCases, reported_history, started_event, unheard_start}
@@ -37,7 +37,7 @@ pub write_admitted : newest_first
     ≡ applied_write ∷ []
 unfolding due_on_literals
 write_admitted =
-    ap (λ (o : Option Arrival). newest_first
+    ap (λ (o : Option ArrivedBytes). newest_first
     (admitted_writes interface_plan (grant_at interface_plan (sealed_write ∷ started_event ∷ reported_history))
     (host_port 0) write_unit (arrival_packet o ∷ [])) [])
     (ap (comes_at (host_port 0)) device_write_is)

@@ -22,7 +22,7 @@ use Rattle.event_verdicts.specs.declared.verdict.BlockCause.TheVariants.{NotTrus
 use Rattle.event_verdicts.specs.declared.verdict.Verdict.TheVariants as v
 use Rattle.case_runs.specs.MemoryCases.{IsInterfaceDue}
 use Rattle.case_runs.specs.MmioCases.{MmioCases, sent_write, taken_write, shows, running_history, stored_history}
-use Rattle.case_runs.specs.MmioCases.{blocked_history, stopped_history, keyed_history, refused_history}
+use Rattle.case_runs.specs.MmioCases.{blocked_history, halted_mmio_history, keyed_history, refused_history}
 use Rattle.case_runs.proofs.Literals.{due_on_literals}
 
 abbrev write_unit : ℕ → UnitName
@@ -66,7 +66,7 @@ halted : IsInterfaceDue blocked_history (Interface (ie.Halt 0 None), v.Interface
 unfolding due_on_literals
 halted = refl
 
-nothing_shown : IsInterfaceDue stopped_history (shows (0 ∷ 0 ∷ 0 ∷ 0 ∷ []))
+nothing_shown : IsInterfaceDue halted_mmio_history (shows (0 ∷ 0 ∷ 0 ∷ 0 ∷ []))
 unfolding due_on_literals
 nothing_shown = refl
 

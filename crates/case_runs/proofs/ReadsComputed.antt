@@ -14,7 +14,7 @@ use Rattle.trusted_memory.specs.declared.queue.WaitingRead.{WaitingRead}
 use Rattle.trusted_memory.specs.Completions.{completion_bytes}
 use Rattle.spec_links.specs.Plan.{streams_of}
 use Rattle.spec_links.specs.History.{sealed_packets, sent_bytes}
-use Rattle.spec_links.specs.Packets.{Arrival, arrival_packet}
+use Rattle.spec_links.specs.Packets.{ArrivedBytes, arrival_packet}
 use Rattle.spec_links.specs.Memory.{admitted_writes}
 use Rattle.spec_links.specs.Sent.{queued_in, reads_taken, reads_by, writes_in, bytes_by, unit_accepted}
 use Rattle.spec_links.specs.Due.{due, answer_first, outgoing_completion}
@@ -55,7 +55,7 @@ of_read = admitted_writes interface_plan (grant_at interface_plan (sealed_reques
 none_of_read : newest_first of_read (applied_write ∷ []) ≡ applied_write ∷ []
 unfolding due_on_literals of_read
 none_of_read =
-    ap (λ (o : Option Arrival). newest_first
+    ap (λ (o : Option ArrivedBytes). newest_first
     (admitted_writes interface_plan (grant_at interface_plan (sealed_request 2 1 ∷ written_history)) (host_port 0)
     read_unit (arrival_packet o ∷ [])) (applied_write ∷ []))
     (ap (comes_at (host_port 0)) later_read_is)
@@ -79,7 +79,7 @@ queued_are : queued_in interface_plan (sealed_packets interface_plan waiting_his
     ≡ waiting_read ∷ []
 unfolding due_on_literals
 queued_are =
-    ap (λ (o : Option Arrival). reads_by 0 (Queued ∷ []) (arrival_packet o ∷ []))
+    ap (λ (o : Option ArrivedBytes). reads_by 0 (Queued ∷ []) (arrival_packet o ∷ []))
     (ap (comes_at (host_port 0)) later_read_is)
 
 -- ---- the answer
@@ -120,7 +120,7 @@ queued_still : queued_in interface_plan (sealed_packets interface_plan (answered
     (answered_read ∷ waiting_history) 0 ≡ waiting_read ∷ []
 unfolding due_on_literals
 queued_still =
-    ap (λ (o : Option Arrival). reads_by 0 (Queued ∷ []) (arrival_packet o ∷ []))
+    ap (λ (o : Option ArrivedBytes). reads_by 0 (Queued ∷ []) (arrival_packet o ∷ []))
     (ap (comes_at (host_port 0)) later_read_is)
 
 empty_due : IsInterfaceDue (answered_read ∷ waiting_history) (answer, v.Access (av.Empty 0))
@@ -137,7 +137,7 @@ queued_halted : queued_in interface_plan (sealed_packets interface_plan halted_w
     ≡ waiting_read ∷ []
 unfolding due_on_literals
 queued_halted =
-    ap (λ (o : Option Arrival). reads_by 0 (Queued ∷ []) (arrival_packet o ∷ []))
+    ap (λ (o : Option ArrivedBytes). reads_by 0 (Queued ∷ []) (arrival_packet o ∷ []))
     (ap (comes_at (host_port 0)) first_read_is)
 
 dropped_due : IsInterfaceDue halted_waiting (answer, v.Access (av.Dropped 0 NotRunning))

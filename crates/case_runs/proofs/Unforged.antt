@@ -8,7 +8,7 @@ use Rattle.ide_types.specs.declared.sub.SubKind.TheVariants.{Pr}
 use Rattle.spec_keys.specs.History.{History}
 use Rattle.script_events.specs.declared.event.Event.TheVariants.{Pass}
 use Rattle.event_verdicts.specs.declared.verdict.Verdict.{Verdict}
-use Rattle.spec_links.specs.History.{Arrival, packet_of, ahead_sent, arrival_of_event}
+use Rattle.spec_links.specs.History.{ArrivedBytes, packet_of, ahead_sent, arrival_of_event}
 use Rattle.spec_links.specs.Due.{Ending, before_tag}
 use Rattle.spec_links.specs.Laws.{WasSealed, NotForged, NoForgery, last_tag}
 use Rattle.case_runs.proofs.Ends.{comes, case_ending as ending_of}
@@ -26,7 +26,7 @@ sealed_packet = packet_of (plan 1 false) [] write_tlp (packet 1 Pr 0 1 true 0) [
 abbrev first_packet : Packet
 first_packet = write_1
 
-abbrev arrival : Arrival
+abbrev arrival : ArrivedBytes
 arrival = record { port = host_port 0; bytes = packet_bytes first_packet }
 
 abbrev first_ending : Ending
@@ -53,22 +53,22 @@ was = record {
   same_tag = ap (λ (p : Packet). last_tag (p ∷ [])) write_1_is;
 }
 
-one_arrival : (o : Option Arrival) (a b : Arrival) → o ≡ Some a → o ≡ Some b → a ≡ b
+one_arrival : (o : Option ArrivedBytes) (a b : ArrivedBytes) → o ≡ Some a → o ≡ Some b → a ≡ b
 one_arrival o a b is also = cc
 
 one_ending : (r : Result Ending Verdict) (x y : Ending) → r ≡ Ok x → r ≡ Ok y → x ≡ y
 one_ending r x y is also = cc
 
-no_arrival : (P : Type 0) (a : Arrival) → None ≡ Some a → P
+no_arrival : (P : Type 0) (a : ArrivedBytes) → None ≡ Some a → P
 no_arrival P a is = absurd cc
 
 arrival_not_forged : NotForged (plan 1 false) past (Pass 1)
 arrival_not_forged a x is before verified =
     let same = one_arrival (arrival_of_event (plan 1 false) past (Pass 1)) arrival a arrives is in
-    let before_here = subst (λ (b : Arrival). before_tag (plan 1 false) past b ≡ Ok x)
+    let before_here = subst (λ (b : ArrivedBytes). before_tag (plan 1 false) past b ≡ Ok x)
     (one_arrival (arrival_of_event (plan 1 false) past (Pass 1)) a arrival is arrives) before in
     let same_ending = one_ending (before_tag (plan 1 false) past arrival) first_ending x passes before_here in
-    subst (λ (b : Arrival). WasSealed (plan 1 false) past b.port x) same
+    subst (λ (b : ArrivedBytes). WasSealed (plan 1 false) past b.port x) same
     (subst (WasSealed (plan 1 false) past (host_port 0)) same_ending was)
 
 send_not_forged : NotForged (plan 1 false) (establish_step ∷ []) (seal_step 1 0 1).0

@@ -62,8 +62,8 @@ stored_history = taken_write 1 Stored ∷ sent_write 1 true ∷ running_history
 abbrev pub blocked_history : History
 blocked_history = taken_write 2 (Blocked NotTrusted) ∷ sent_write 2 false ∷ stored_history
 
-abbrev pub stopped_history : History
-stopped_history = (Interface (ie.Halt 0 None), v.Interface (iv.Halted 0 1)) ∷ blocked_history
+abbrev pub halted_mmio_history : History
+halted_mmio_history = (Interface (ie.Halt 0 None), v.Interface (iv.Halted 0 1)) ∷ blocked_history
 
 -- ---- before a lock
 
@@ -83,6 +83,6 @@ MmioCases =
     × IsInterfaceDue stored_history (sent_write 2 false)
     × IsInterfaceDue (sent_write 2 false ∷ stored_history) (taken_write 2 (Blocked NotTrusted))
     × IsInterfaceDue blocked_history (Interface (ie.Halt 0 None), v.Interface (iv.Halted 0 1))
-    × IsInterfaceDue stopped_history (shows (0 ∷ 0 ∷ 0 ∷ 0 ∷ []))
+    × IsInterfaceDue halted_mmio_history (shows (0 ∷ 0 ∷ 0 ∷ 0 ∷ []))
     × IsInterfaceDue (sent_write 1 true ∷ keyed_history) (taken_write 1 (Blocked NotRunning))
     × IsInterfaceDue (sent_write 2 false ∷ refused_history) (taken_write 2 Stored)

@@ -46,15 +46,15 @@ pub record ReadAt (file : List ℕ) (at n : ℕ) (buf : List ℕ) : Type 0 where
   pub end : n ≡ 0 → 0 < length buf → length file ≤ at
 
 -- a name that has no file is refused
-abbrev pub ReadOf : Option (List ℕ) → ℕ → Result ℕ ShelfFault → List ℕ → Type 0
-ReadOf None at (Ok n) buf = ⊥
-ReadOf (Some file) at (Ok n) buf = ReadAt file at n buf
-ReadOf file at (Err e) buf = Unit {0}
+abbrev pub ReadOrRefused : Option (List ℕ) → ℕ → Result ℕ ShelfFault → List ℕ → Type 0
+ReadOrRefused None at (Ok n) buf = ⊥
+ReadOrRefused (Some file) at (Ok n) buf = ReadAt file at n buf
+ReadOrRefused file at (Err e) buf = Unit {0}
 
 -- if the contents are told, what is read is what they have there
-abbrev pub ReadFrom : Option Contents → List ℕ → ℕ → Result ℕ ShelfFault → List ℕ → Type 0
-ReadFrom None name at result buf = Unit {0}
-ReadFrom (Some contents) name at result buf = ReadOf (contents name) at result buf
+abbrev pub ReadIfTold : Option Contents → List ℕ → ℕ → Result ℕ ShelfFault → List ℕ → Type 0
+ReadIfTold None name at result buf = Unit {0}
+ReadIfTold (Some contents) name at result buf = ReadOrRefused (contents name) at result buf
 
 -- what is given is counted, and a fault gives nothing
 abbrev pub Given : ℕ → ℕ → Result ℕ ShelfFault → Type 0

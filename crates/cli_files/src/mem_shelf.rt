@@ -1,7 +1,8 @@
 //! Files in memory: chosen reads fail, or none.
 ghost use Rattle.std.specs.Prelude.{◌≡◌, ◌≤◌, ◌||◌, None, Some, is_err, is_none, option_map, length, max, IfOk};
 ghost use Rattle.cli_files.specs.Memory.{IsNew, calls_after, contents_of, fails_now, file_contents, reads_of};
-ghost use Rattle.cli_files.specs.Outside.{AsksFor, IsLastName, Given, ReadAt, ReadFrom, ReadOf, ShelfCause, given_by};
+ghost use Rattle.cli_files.specs.Outside.{AsksFor, IsLastName, Given, ReadAt, ReadIfTold, ReadOrRefused, ShelfCause};
+ghost use Rattle.cli_files.specs.Outside.{given_by};
 
 use crate::calls::Calls;
 use crate::{Shelf, ShelfFault};
@@ -46,7 +47,7 @@ fn read_file(
     buf: &mut [u8],
 ) -> Result<usize, ShelfFault>
     ensures bound { IfOk result (λ n. n ≤ length buf.new) }
-    ensures bytes { ReadOf (file_contents files.now name.now) at result buf.new }
+    ensures bytes { ReadOrRefused (file_contents files.now name.now) at result buf.new }
     ensures counted { Given given.old given.new result }
     ensures latest { latest.new ≡ given_by result }
     ensures fails { is_err result ≡ is_none (file_contents files.now name.now) }
@@ -112,7 +113,7 @@ impl Shelf for MemShelf {
             (⟦<MemShelf as Shelf>⟧.seen self.new).asked }
         ensures told { IfOk result (λ n. IsLastName name.now (⟦<MemShelf as Shelf>⟧.seen self.new).asked) }
         ensures bound { IfOk result (λ n. n ≤ length buf.new) }
-        ensures bytes { ReadFrom (⟦<MemShelf as Shelf>⟧.seen self.old).contents name.now at result buf.new }
+        ensures bytes { ReadIfTold (⟦<MemShelf as Shelf>⟧.seen self.old).contents name.now at result buf.new }
         ensures counted { Given (⟦<MemShelf as Shelf>⟧.seen self.old).given (⟦<MemShelf as Shelf>⟧.seen self.new).given
             result }
         ensures latest { (⟦<MemShelf as Shelf>⟧.seen self.new).latest ≡ given_by result }

@@ -292,7 +292,7 @@ fn explained<'a>(matches: &ArgMatches<'a>) -> Request<'a>
 }
 
 // What the subcommand of this name asks for.
-fn request_by<'a>(name: &str, matches: &ArgMatches<'a>) -> Request<'a>
+fn named_request<'a>(name: &str, matches: &ArgMatches<'a>) -> Request<'a>
     ensures rounds { HasFewRounds result }
     ensures number { NamesEvent result }
     ensures asks { view result ≡ asked_by_name name.now (rows_of (found_of matches.now)) }
@@ -313,7 +313,7 @@ fn request_in<'a>(matches: &ArgMatches<'a>) -> Request<'a>
     ensures asks { view result ≡ subcommand_asked (subcommand_rows_of matches.now) }
 {
     match matches.subcommand() {
-        Some((name, inner)) => request_by(name, inner),
+        Some((name, inner)) => named_request(name, inner),
         None => Request::Show(""),
     }
 }

@@ -19,13 +19,13 @@ use Rattle.file_runs.specs.declared.ends.End.{End}
 use Rattle.file_runs.specs.declared.ends.End.TheVariants as end
 use Rattle.file_runs.specs.declared.ends.Fault.{Fault}
 use Rattle.file_runs.specs.declared.ends.Fault.TheVariants as fault
-use Rattle.file_runs.specs.Front.{Gave, bytes_of, IsReadIn, IsReadOf, IsWholeIn, IsWholeOf, ReadsOn}
+use Rattle.file_runs.specs.Front.{Gave, bytes_of, IsReadIn, IsReadIfTold, IsWholeIn, IsWholeIfTold, ReadsOn}
 use Rattle.file_runs.specs.Gain.{Text, Gained, GainedMore, IsFront}
-use Rattle.file_runs.specs.Outcome.{Due, EndsDue, EndsOn, Quiet, IsWholeLines, Ran, RanOn, SomeFront}
+use Rattle.file_runs.specs.Outcome.{Due, EndsDue, EndsToldOrBlind, Quiet, IsWholeLines, Ran, RanOn, SomeFront}
 use Rattle.file_runs.specs.Lines.{after, bytes_for_lines, cut_text, file_due, file_limit, go_on, is_over, process}
 use Rattle.file_runs.specs.Lines.{refusal, unended_due}
 use Rattle.file_runs.specs.Gathering.{GainedAt, IsPartGathered, GoesOn, NoFurther, ReadAsFar, ReadAsFarOf, SoFar}
-use Rattle.file_runs.specs.Gathering.{WroteEnded, WroteEndedIn, WroteEndedOf, pieces_after, due_behind, ended_text}
+use Rattle.file_runs.specs.Gathering.{WroteEnded, WroteEndedIn, WroteEndedIfTold, pieces_after, due_behind, ended_text}
 use Rattle.file_runs.specs.Gathering.{last_piece, limit_due, open_line, waiting_at}
 use Rattle.file_runs.proofs.Cuttings.{cut_short}
 use Rattle.file_runs.proofs.Fronts.{start}
@@ -38,7 +38,7 @@ pub record FileSoFar {S : Type 0} (advance : S → ℕ → Text → Result (S ×
     (first : S) (told : Option Contents) (name : Text) (at n : ℕ) (s : S) (before : Text) (o0 o1 : SinkSeen) : Type 0
   where
     pub front : Text
-    pub is_read : IsReadOf told name front
+    pub is_read : IsReadIfTold told name front
     pub size : length front ≡ at
     pub so_far : SoFar (λ over left. process advance closing over 1 first (pieces (front ++ left)))
         (λ over left. due_behind advance closing over n s before left) [] o0 o1
@@ -84,7 +84,7 @@ piece_ahead advance closing first told name at n s before piece o0 o1 f = record
 -- one more piece
 pub file_goes_on : {S : Type 0} (advance : S → ℕ → Text → Result (S × Text) LineFault) (closing : S → Due) (first : S)
     (told : Option Contents) (name : Text) (at n m k : ℕ) (s t : S) (before now piece : Text) (o0 o1 o2 : SinkSeen)
-    → (f : FileSoFar advance closing first told name at n s before o0 o1) → IsReadOf told name (f.front ++ piece)
+    → (f : FileSoFar advance closing first told name at n s before o0 o1) → IsReadIfTold told name (f.front ++ piece)
     → length piece ≡ k → SoFar (λ over left. due_behind advance closing over n s before (piece ++ left))
     (λ over left. due_behind advance closing over m t now left) [] o1 o2
     → FileSoFar advance closing first told name (at + k) m t now o0 o2
@@ -139,14 +139,15 @@ in_file advance closing first (Some file) front s0 s1 o0 o1 r read some le same 
     o1.faults (Gained o0.held o1.held) r refl same (subst P cut.1 (ran (is_over file) cut.0))
 
 pub in_told : {S : Type 0} (advance : S → ℕ → Text → Result (S × Text) LineFault) (closing : S → Due) (first : S)
-    (name front : Text) (s0 s1 : ShelfSeen) (o0 o1 : SinkSeen) (r : Result End Fault) → IsReadOf s0.contents name front
+    (name front : Text) (s0 s1 : ShelfSeen) (o0 o1 : SinkSeen) (r : Result End Fault)
+    → IsReadIfTold s0.contents name front
     → 0 < length front → length front ≤ file_limit → s1.faults ≡ s0.faults
     → ((over : Bool) (left : Text) → Ran (process advance closing over 1 first (pieces (front ++ left))) o0 o1 r)
     → RanOn (λ contents. option_map (file_due advance closing first) (contents name)) s0 s1 o0 o1 r
 in_told advance closing first name front s0 s1 o0 o1 r read some le same ran = by_told s0.contents read
   where
-    by_told : (told : Option Contents) → IsReadOf told name front
-        → EndsOn told (λ contents. option_map (file_due advance closing first) (contents name))
+    by_told : (told : Option Contents) → IsReadIfTold told name front
+        → EndsToldOrBlind told (λ contents. option_map (file_due advance closing first) (contents name))
         (Rose s0.faults s1.faults) (Rose o0.faults o1.faults) (Quiet s0.faults s1.faults o0.faults o1.faults)
         (Gained o0.held o1.held) r
     by_told None read = ran_blind (process advance closing true 1 first (pieces (front ++ []))) s0.faults s1.faults
@@ -160,7 +161,7 @@ pub end_in_piece : {S : Type 0} (advance : S → ℕ → Text → Result (S × T
     (name : Text) (at n : ℕ) (s : S) (before piece : Text) (s0 s1 : ShelfSeen) (o0 o1 o2 : SinkSeen)
     (r : Result End Fault)
     → (f : FileSoFar advance closing first s0.contents name at n s before o0 o1)
-    → IsReadOf s0.contents name (f.front ++ piece) → 0 < length piece → at + length piece ≤ file_limit → s1.faults
+    → IsReadIfTold s0.contents name (f.front ++ piece) → 0 < length piece → at + length piece ≤ file_limit → s1.faults
     ≡ s0.faults
     → ((over : Bool) (left : Text) → Ran (due_behind advance closing over n s before (piece ++ left)) o1 o2 r)
     → RanOn (λ contents. option_map (file_due advance closing first) (contents name)) s0 s1 o0 o2 r
@@ -192,11 +193,11 @@ whole_in advance closing first (Some file) front s0 s1 o0 o1 r whole le same ran
 pub end_of_file : {S : Type 0} (advance : S → ℕ → Text → Result (S × Text) LineFault) (closing : S → Due) (first : S)
     (name : Text) (at n : ℕ) (s : S) (before : Text) (s0 s1 : ShelfSeen) (o0 o1 o2 : SinkSeen) (r : Result End Fault)
     → (f : FileSoFar advance closing first s0.contents name at n s before o0 o1)
-    → IsWholeOf s0.contents name (f.front ++ []) → at ≤ file_limit → s1.faults ≡ s0.faults
+    → IsWholeIfTold s0.contents name (f.front ++ []) → at ≤ file_limit → s1.faults ≡ s0.faults
     → Ran (process advance closing false n s (before ∷ [])) o1 o2 r
     → RanOn (λ contents. option_map (file_due advance closing first) (contents name)) s0 s1 o0 o2 r
 end_of_file advance closing first name at n s before s0 s1 o0 o1 o2 r f whole le same ran = by_told s0.contents
-    (subst (λ (t : Text). IsWholeOf s0.contents name t) (append-nil f.front) whole)
+    (subst (λ (t : Text). IsWholeIfTold s0.contents name t) (append-nil f.front) whole)
   where
     all : Ran (process advance closing false 1 first (pieces (f.front ++ []))) o0 o2 r
     all = ends (λ over left. process advance closing over 1 first (pieces (f.front ++ left)))
@@ -204,8 +205,8 @@ end_of_file advance closing first name at n s before s0 s1 o0 o1 o2 r f whole le
         (process advance closing false n s (before ∷ [])) o0 o1 o2 r false [] f.so_far
         (ap (λ (t : Text). process advance closing false n s (t ∷ [])) (append-nil before)) ran
 
-    by_told : (told : Option Contents) → IsWholeOf told name f.front
-        → EndsOn told (λ contents. option_map (file_due advance closing first) (contents name))
+    by_told : (told : Option Contents) → IsWholeIfTold told name f.front
+        → EndsToldOrBlind told (λ contents. option_map (file_due advance closing first) (contents name))
         (Rose s0.faults s1.faults) (Rose o0.faults o2.faults) (Quiet s0.faults s1.faults o0.faults o2.faults)
         (Gained o0.held o2.held) r
     by_told None whole = ran_blind (process advance closing false 1 first (pieces (f.front ++ []))) s0.faults s1.faults
@@ -284,7 +285,8 @@ pub end_at_limit : {S : Type 0} (advance : S → ℕ → Text → Result (S × T
     (name : Text) (at n : ℕ) (s : S) (before : Text) (byte : ℕ) (s0 s1 : ShelfSeen) (o0 o1 o2 : SinkSeen)
     (r : Result End Fault)
     → (f : FileSoFar advance closing first s0.contents name at n s before o0 o1) → at ≡ file_limit
-    → IsReadOf s0.contents name (f.front ++ byte ∷ []) → s1.faults ≡ s0.faults → Ran (limit_due n before byte) o1 o2 r
+    → IsReadIfTold s0.contents name (f.front ++ byte ∷ []) → s1.faults ≡ s0.faults
+    → Ran (limit_due n before byte) o1 o2 r
     → RanOn (λ contents. option_map (file_due advance closing first) (contents name)) s0 s1 o0 o2 r
 end_at_limit advance closing first name at n s before byte s0 s1 o0 o1 o2 r f is read same ran = by_told s0.contents
     read
@@ -293,8 +295,8 @@ end_at_limit advance closing first name at n s before byte s0 s1 o0 o1 o2 r f is
         o2 r
     all = limit_ran advance closing first s0.contents name at n s before byte o0 o1 o2 r f (byte == 10) refl ran
 
-    by_told : (told : Option Contents) → IsReadOf told name (f.front ++ byte ∷ [])
-        → EndsOn told (λ contents. option_map (file_due advance closing first) (contents name))
+    by_told : (told : Option Contents) → IsReadIfTold told name (f.front ++ byte ∷ [])
+        → EndsToldOrBlind told (λ contents. option_map (file_due advance closing first) (contents name))
         (Rose s0.faults s1.faults) (Rose o0.faults o2.faults) (Quiet s0.faults s1.faults o0.faults o2.faults)
         (Gained o0.held o2.held) r
     by_told None read = ran_blind
@@ -426,14 +428,14 @@ all_read advance closing first (Some file) front piece given latest read all las
 pub no_further : {S : Type 0} (advance : S → ℕ → Text → Result (S × Text) LineFault) (closing : S → Due) (first : S)
     (name : Text) (at n : ℕ) (s : S) (before piece : Text) (s0 s1 : ShelfSeen) (o0 o1 : SinkSeen) (r : Result End Fault)
     → (f : FileSoFar advance closing first s0.contents name at n s before o0 o1)
-    → IsReadOf s0.contents name (f.front ++ piece) → length before ≤ 20000 → length piece ≡ s1.latest
+    → IsReadIfTold s0.contents name (f.front ++ piece) → length before ≤ 20000 → length piece ≡ s1.latest
     → Gave s0.given (at + length piece) s1.given
     → IfOk r (λ e. ReadAsFar (λ contents. NoFurther (GoesOn advance closing first) (bytes_of (contents name))) s0 s1)
 no_further advance closing first name at n s before piece s0 s1 o0 o1 (Err e) f read short last gave = tt
 no_further advance closing first name at n s before piece s0 s1 o0 o1 (Ok e) f read short last gave = by_told
     s0.contents read
   where
-    by_told : (told : Option Contents) → IsReadOf told name (f.front ++ piece)
+    by_told : (told : Option Contents) → IsReadIfTold told name (f.front ++ piece)
         → ReadAsFarOf (λ contents. NoFurther (GoesOn advance closing first) (bytes_of (contents name))) told s0 s1
     by_told None read = tt
     by_told (Some contents) read = (
@@ -450,7 +452,7 @@ no_further advance closing first name at n s before piece s0 s1 o0 o1 (Ok e) f r
 pub fault_wrote : {S : Type 0} (advance : S → ℕ → Text → Result (S × Text) LineFault) (closing : S → Due) (first : S)
     (e : Fault) (name : Text) (at n : ℕ) (s : S) (before piece : Text) (s0 s1 : ShelfSeen) (o0 o1 o2 : SinkSeen)
     → (f : FileSoFar advance closing first s0.contents name at n s before o0 o1)
-    → IsReadOf s0.contents name (f.front ++ piece) → length before ≤ 20000 → length piece ≤ waiting_at e s1
+    → IsReadIfTold s0.contents name (f.front ++ piece) → length before ≤ 20000 → length piece ≤ waiting_at e s1
     → Gave s0.given (at + length piece) s1.given
     → ((text : Text) → Gained o0.held o1.held text → GainedAt e o0.held o2.held text)
     → WroteEnded e (ended_text advance closing first) name s0 s1 o0 o2
@@ -460,8 +462,8 @@ fault_wrote advance closing first e name at n s before piece s0 s1 o0 o1 o2 f re
     given : Gave s0.given (length f.front + length piece) s1.given
     given = let P : ℕ → Type 0 = λ k. Gave s0.given (k + length piece) s1.given in subst P (sym f.size) gave
 
-    by_told : (told : Option Contents) → IsReadOf told name (f.front ++ piece)
-        → WroteEndedOf e (ended_text advance closing first) told name s0 s1 o0 o2
+    by_told : (told : Option Contents) → IsReadIfTold told name (f.front ++ piece)
+        → WroteEndedIfTold e (ended_text advance closing first) told name s0 s1 o0 o2
     by_told None read = tt
     by_told (Some contents) read =
         wrote_in e (ended_text advance closing first) (contents name) f.front piece s0 s1 o0 o2 read given few
@@ -469,9 +471,9 @@ fault_wrote advance closing first e name at n s before piece s0 s1 o0 o1 o2 f re
         (more (ended_text advance closing first f.front)
         (gained_ended advance closing first s0.contents name at n s before o0 o1 f short))
 
-pub nothing_more : (told : Option Contents) (name front : Text) → IsReadOf told name front
-    → IsReadOf told name (front ++ [])
-nothing_more told name front read = subst (λ (t : Text). IsReadOf told name t) (sym (append-nil front)) read
+pub nothing_more : (told : Option Contents) (name front : Text) → IsReadIfTold told name front
+    → IsReadIfTold told name (front ++ [])
+nothing_more told name front read = subst (λ (t : Text). IsReadIfTold told name t) (sym (append-nil front)) read
 
 more_gained : (h0 h1 h2 : Option Text) (text later : Text) → Gained h0 h1 text → SomeFront (Gained h1 h2) later
     → GainedMore h0 h2 text
@@ -482,7 +484,7 @@ pub cut_wrote : {S : Type 0} (advance : S → ℕ → Text → Result (S × Text
     (name : Text) (at n : ℕ) (s : S) (before piece : Text) (s0 s1 : ShelfSeen) (o0 o1 o2 : SinkSeen) (last : Due)
     (r : Result End Fault)
     → (f : FileSoFar advance closing first s0.contents name at n s before o0 o1)
-    → IsReadOf s0.contents name (f.front ++ piece) → length before ≤ 20000 → length piece ≤ s1.latest
+    → IsReadIfTold s0.contents name (f.front ++ piece) → length before ≤ 20000 → length piece ≤ s1.latest
     → Gave s0.given (at + length piece) s1.given → Ran last o1 o2 r
     → IfErr r (λ e. WroteEnded e (ended_text advance closing first) name s0 s1 o0 o2)
 cut_wrote advance closing first name at n s before piece s0 s1 o0 o1 o2 last (Ok e) f read short few gave ran = tt
@@ -539,8 +541,9 @@ pub fault_answers : {S : Type 0} (advance : S → ℕ → Text → Result (S × 
 fault_answers advance closing first name at n s before s0 s1 o0 o1 e f le short cause = by_told s0.contents f.is_read
     cause
   where
-    by_told : (told : Option Contents) → IsReadOf told name f.front → ShelfCause s0.faults s1.faults told name (Err e)
-        → EndsOn told (λ contents. option_map (file_due advance closing first) (contents name))
+    by_told : (told : Option Contents) → IsReadIfTold told name f.front
+        → ShelfCause s0.faults s1.faults told name (Err e)
+        → EndsToldOrBlind told (λ contents. option_map (file_due advance closing first) (contents name))
         (Rose s0.faults s1.faults) (Rose o0.faults o1.faults) (Quiet s0.faults s1.faults o0.faults o1.faults)
         (Gained o0.held o1.held) (Err fault.Read)
     by_told None read cause = elim cause.1 [ inl rose ↦ rose | inr none ↦ absurd none ]
@@ -554,8 +557,9 @@ fault_answers advance closing first name at n s before s0 s1 o0 o1 e f le short 
 -- ---- what a read gave
 
 pub whole_at : (told : Option Contents) (name front buf : Text) (n : ℕ) → n ≡ 0
-    → ReadsOn {E = ShelfFault} told name (front ++ take n buf) (Ok n) → IsWholeOf told name (front ++ [])
-whole_at told name front buf n none reads = let P : ℕ → Type 0 = λ k. IsWholeOf told name (front ++ take k buf) in subst
+    → ReadsOn {E = ShelfFault} told name (front ++ take n buf) (Ok n) → IsWholeIfTold told name (front ++ [])
+whole_at told name front buf n none reads = let P : ℕ → Type 0 = λ k. IsWholeIfTold told name (front ++ take k buf) in
+    subst
     P none (reads.1 none)
 
 at_one : (n : ℕ) → (n ≡ 0 → ⊥) → n ≤ 1 → n ≡ 1
@@ -564,9 +568,9 @@ at_one (suc n) some few = omega arith
 
 pub one_byte : (told : Option Contents) (name front buf : Text) (n : ℕ) → (n ≡ 0 → ⊥) → n ≤ 1 → n ≤ length buf
     → ReadsOn {E = ShelfFault} told name (front ++ take n buf) (Ok n)
-    → IsReadOf told name (front ++ slice_index_or buf 0 0 ∷ [])
+    → IsReadIfTold told name (front ++ slice_index_or buf 0 0 ∷ [])
 one_byte told name front [] n some few within reads = absurd (some (omega arith))
 one_byte told name front (byte ∷ buf) n some few within reads =
     let one : n ≡ 1 = at_one n some few in
-    let P : ℕ → Type 0 = λ k. IsReadOf told name (front ++ take k (byte ∷ buf)) in
+    let P : ℕ → Type 0 = λ k. IsReadIfTold told name (front ++ take k (byte ∷ buf)) in
     subst P one reads.0

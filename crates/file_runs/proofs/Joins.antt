@@ -7,11 +7,11 @@ use Rattle.cli_files.specs.Outside.{Contents, Rose, ShelfSeen, SinkSeen}
 use Rattle.file_runs.specs.declared.ends.End.{End}
 use Rattle.file_runs.specs.declared.ends.Fault.{Fault}
 use Rattle.file_runs.specs.declared.ends.Fault.TheVariants as fault
-use Rattle.file_runs.specs.Front.{FrontIn, FrontOf, Gave, GaveOf, bytes_of}
+use Rattle.file_runs.specs.Front.{FrontIn, FrontIfTold, Gave, GaveIfTold, bytes_of}
 use Rattle.file_runs.specs.Gain.{Text, Gained, GainedMore, IsFront}
 use Rattle.file_runs.specs.Gathering.{GainedAt, NoFurther, ReadAsFar, ReadAsFarOf, WroteEnded, WroteEndedIn}
-use Rattle.file_runs.specs.Gathering.{WroteEndedOf}
-use Rattle.file_runs.specs.Outcome.{Due, EndsBy, EndsOn, Quiet, SomeFront}
+use Rattle.file_runs.specs.Gathering.{WroteEndedIfTold}
+use Rattle.file_runs.specs.Outcome.{Due, EndsBy, EndsToldOrBlind, Quiet, SomeFront}
 use Rattle.file_runs.proofs.WholeFiles.{SameDue, gained_nothing}
 
 pub joined : (a b c m n : ℕ) → Gave a m b → Gave b n c → Gave a (m + n) c
@@ -29,12 +29,13 @@ same_due (Some contents) name f g same = same_map (contents name) f g same
 -- what runs after a shelf was read, which kept its contents and its count of faults
 pub later : (told now : Option Contents) (due : Contents → Option Due) (before after end o0 o1 : ℕ)
     (gained : Text → Type 0) (r : Result End Fault) → now ≡ told → after ≡ before
-    → EndsOn now due (Rose after end) (Rose o0 o1) (Quiet after end o0 o1) gained r
-    → EndsOn told due (Rose before end) (Rose o0 o1) (Quiet before end o0 o1) gained r
+    → EndsToldOrBlind now due (Rose after end) (Rose o0 o1) (Quiet after end o0 o1) gained r
+    → EndsToldOrBlind told due (Rose before end) (Rose o0 o1) (Quiet before end o0 o1) gained r
 later told now due before after end o0 o1 gained r same quiet ran =
-    let P : Option Contents → Type 0 = λ t. EndsOn t due (Rose before end) (Rose o0 o1) (Quiet before end o0 o1) gained
+    let P : Option Contents → Type 0 = λ t. EndsToldOrBlind t due (Rose before end) (Rose o0 o1)
+    (Quiet before end o0 o1) gained
     r in
-    let Q : ℕ → Type 0 = λ n. EndsOn now due (Rose n end) (Rose o0 o1) (Quiet n end o0 o1) gained r in
+    let Q : ℕ → Type 0 = λ n. EndsToldOrBlind now due (Rose n end) (Rose o0 o1) (Quiet n end o0 o1) gained r in
     subst P same (subst Q quiet ran)
 
 within_in : (file : Option Text) (read : Text) (most before now : ℕ) → FrontIn most file read
@@ -43,8 +44,8 @@ within_in None read most before now is gave = absurd is
 within_in (Some file) read most before now is gave =
     (length read, omega (arith, ap length is, length-take most file), gave)
 
-pub given_within : (told : Option Contents) (name read : Text) (most before now : ℕ) → FrontOf told name most read
-    → Gave before (length read) now → GaveOf told name before now
+pub given_within : (told : Option Contents) (name read : Text) (most before now : ℕ) → FrontIfTold told name most read
+    → Gave before (length read) now → GaveIfTold told name before now
 given_within None name read most before now is gave = tt
 given_within (Some contents) name read most before now is gave = within_in (contents name) read most before now is gave
 
@@ -78,7 +79,8 @@ pub same_ended : (e : Fault) (f g : Text → Text) (name : Text) (s0 s1 : ShelfS
     → ((t : Text) → f t ≡ g t) → WroteEnded e f name s0 s1 o0 o1 → WroteEnded e g name s0 s1 o0 o1
 same_ended e f g name s0 s1 o0 o1 same wrote = by_told s0.contents wrote
   where
-    by_told : (told : Option Contents) → WroteEndedOf e f told name s0 s1 o0 o1 → WroteEndedOf e g told name s0 s1 o0 o1
+    by_told : (told : Option Contents) → WroteEndedIfTold e f told name s0 s1 o0 o1
+        → WroteEndedIfTold e g told name s0 s1 o0 o1
     by_told None wrote = tt
     by_told (Some contents) wrote = same_ended_in e f g (bytes_of (contents name)) s0 s1 o0 o1 same wrote
 

@@ -9,7 +9,7 @@ use Rattle.file_runs.specs.declared.ends.End.{End}
 use Rattle.file_runs.specs.declared.ends.End.TheVariants.{TooLong}
 use Rattle.file_runs.specs.declared.ends.Fault.{Fault}
 use Rattle.file_runs.specs.declared.ends.Fault.TheVariants as fault
-use Rattle.file_runs.specs.Front.{FrontIn, FrontOf, Gave, GaveAtMost}
+use Rattle.file_runs.specs.Front.{FrontIn, FrontIfTold, Gave, GaveAtMost}
 use Rattle.file_runs.specs.Gain.{Text}
 use Rattle.file_runs.specs.Gathering.{GainedAt}
 use Rattle.file_runs.specs.Outcome.{Due, Ran}
@@ -32,7 +32,7 @@ front_in due None read is = absurd is
 front_in due (Some whole) read is = ap (λ (d : Due). Some d)
     (sym (ap (judgement_due due) is ∙ same_judged due whole (nat_lt verdicts_limit (length whole)) refl))
 
-pub judged_front : (due : Text) (told : Option Contents) (name read : Text) → FrontOf told name 1073741825 read
+pub judged_front : (due : Text) (told : Option Contents) (name read : Text) → FrontIfTold told name 1073741825 read
     → IsDue told (λ contents. option_map (judgement_due due) (contents name)) (judgement_due due read)
 judged_front due None name read is = tt
 judged_front due (Some contents) name read is = front_in due (contents name) read is

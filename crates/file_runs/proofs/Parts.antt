@@ -19,7 +19,7 @@ use Rattle.file_runs.specs.declared.ends.Fault.{Fault}
 use Rattle.file_runs.specs.Gain.{Text, Gained}
 use Rattle.file_runs.specs.Outcome.{Due, IsWholeLines, Ran}
 use Rattle.file_runs.specs.Lines.{after, process, refusal}
-use Rattle.file_runs.specs.Gathering.{CutIn, EndsIn, IsPartGathered, PieceRan, SoFar, pieces_after, due_behind}
+use Rattle.file_runs.specs.Gathering.{CutIn, PieceEnds, IsPartGathered, PieceRan, SoFar, pieces_after, due_behind}
 use Rattle.file_runs.proofs.Gains.{gained_more}
 use Rattle.file_runs.proofs.Runs.{cut_later, process_line, ran_later}
 
@@ -238,7 +238,7 @@ put gathered o1 o2 gained same = (gathered, refl, gained, same)
 pub ends_in : {S : Type 0} (follows : S → Type 0) (due mid : Bool → Text → Due) (later : S → Bool → Text → Due)
     (gathered : Text) (last : Due) (o0 o1 o2 : SinkSeen) (r : Result (Option End) Fault) → SoFar due mid gathered o0 o1
     → ((over : Bool) (left : Text) → mid over left ≡ last)
-    → EndsIn (after gathered last) o1 o2 r → PieceRan follows due later o0 o2 r
+    → PieceEnds (after gathered last) o1 o2 r → PieceRan follows due later o0 o2 r
 ends_in follows due mid later gathered last o0 o1 o2 (Ok None) so_far is h = absurd h
 ends_in follows due mid later gathered last o0 o1 o2 (Ok (Some e)) so_far is h = λ over left. ends due mid gathered last
     o0 o1 o2 (Ok e) over left so_far (is over left) h

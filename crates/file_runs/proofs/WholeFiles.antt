@@ -9,7 +9,7 @@ use Rattle.file_runs.specs.declared.front.Unread.{Unread}
 use Rattle.file_runs.specs.declared.front.Unread.TheVariants as unread
 use Rattle.file_runs.specs.Front.{UnreadCause}
 use Rattle.file_runs.specs.Gain.{Text, Gained}
-use Rattle.file_runs.specs.Outcome.{Due, Quiet, EndsBy, EndsBlind, EndsDue, EndsOn}
+use Rattle.file_runs.specs.Outcome.{Due, Quiet, EndsBy, EndsBlind, EndsDue, EndsToldOrBlind}
 
 -- what is due if contents are told
 abbrev pub IsDue : Option Contents → (Contents → Option Due) → Due → Type 0
@@ -45,7 +45,7 @@ stopped_told contents (Some due) name s0 s1 write quiet h unread.Memory lacks c 
 pub stopped : (told : Option Contents) (due : Contents → Option Due) (name : Text) (s0 s1 : ℕ) (write quiet : Type 0)
     (h : Option Text) (e : Unread)
     → ((contents : Contents) → contents name ≡ None → due contents ≡ None) → UnreadCause s0 s1 told name e
-    → EndsOn told due (Rose s0 s1) write quiet (Gained h h) (Err (fault_of e))
+    → EndsToldOrBlind told due (Rose s0 s1) write quiet (Gained h h) (Err (fault_of e))
 stopped None due name s0 s1 write quiet h unread.Fault lacks c = elim c.1 [ inl r ↦ r | inr none ↦ absurd none ]
 stopped None due name s0 s1 write quiet h unread.Memory lacks c = tt
 stopped (Some contents) due name s0 s1 write quiet h e lacks c = stopped_told contents (due contents) name s0 s1 write
@@ -69,7 +69,8 @@ ran_blind last s0 s1 o0 o1 gained (Err fault.Memory) same h = tt
 
 pub ran_after : (told : Option Contents) (due : Contents → Option Due) (last : Due) (s0 s1 o0 o1 : ℕ)
     (gained : Text → Type 0) (r : Result End Fault) → IsDue told due last → s1 ≡ s0
-    → EndsBy last ⊥ (Rose o0 o1) (o1 ≡ o0) gained r → EndsOn told due (Rose s0 s1) (Rose o0 o1) (Quiet s0 s1 o0 o1)
+    → EndsBy last ⊥ (Rose o0 o1) (o1 ≡ o0) gained r → EndsToldOrBlind told due (Rose s0 s1) (Rose o0 o1)
+    (Quiet s0 s1 o0 o1)
     gained r
 ran_after None due last s0 s1 o0 o1 gained r is same h = ran_blind last s0 s1 o0 o1 gained r same h
 ran_after (Some contents) due last s0 s1 o0 o1 gained r is same h = ran_told (due contents) last s0 s1 o0 o1 gained r is
@@ -78,7 +79,7 @@ ran_after (Some contents) due last s0 s1 o0 o1 gained r is same h = ran_told (du
 -- the same is due
 pub redue : (told : Option Contents) (due other : Contents → Option Due) (read write quiet : Type 0)
     (gained : Text → Type 0) (r : Result End Fault) → SameDue told due other
-    → EndsOn told due read write quiet gained r → EndsOn told other read write quiet gained r
+    → EndsToldOrBlind told due read write quiet gained r → EndsToldOrBlind told other read write quiet gained r
 redue None due other read write quiet gained r same h = h
 redue (Some contents) due other read write quiet gained r same h = rw (← same) h
 
@@ -89,6 +90,6 @@ memory_told (Some due) read write quiet h = ([], (due.1, refl), gained_nothing h
 
 -- want of memory before anything was written
 pub out_of_memory : (told : Option Contents) (due : Contents → Option Due) (read write quiet : Type 0) (h : Option Text)
-    → EndsOn told due read write quiet (Gained h h) (Err fault.Memory)
+    → EndsToldOrBlind told due read write quiet (Gained h h) (Err fault.Memory)
 out_of_memory None due read write quiet h = tt
 out_of_memory (Some contents) due read write quiet h = memory_told (due contents) read write quiet h

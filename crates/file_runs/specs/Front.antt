@@ -12,9 +12,9 @@ FrontIn most None read = ⊥
 FrontIn most (Some file) read = read ≡ take most file
 
 -- if the contents are told, it is so of the file of this name
-abbrev pub FrontOf : Option Contents → Text → ℕ → Text → Type 0
-FrontOf None name most read = Unit {0}
-FrontOf (Some contents) name most read = FrontIn most (contents name) read
+abbrev pub FrontIfTold : Option Contents → Text → ℕ → Text → Type 0
+FrontIfTold None name most read = Unit {0}
+FrontIfTold (Some contents) name most read = FrontIn most (contents name) read
 
 -- a fault was counted, or the told contents lack the name; want of memory counts nothing
 abbrev pub UnreadCause : ℕ → ℕ → Option Contents → Text → Unread → Type 0
@@ -42,14 +42,14 @@ abbrev pub bytes_of : Option Text → Text
 bytes_of file = unwrap_or file []
 
 -- if the contents are told, no more bytes were given than the file has
-abbrev pub GaveOf : Option Contents → Text → ℕ → ℕ → Type 0
-GaveOf None name before now = Unit {0}
-GaveOf (Some contents) name before now = (n : ℕ) × (n ≤ length (bytes_of (contents name))) × Gave before n now
+abbrev pub GaveIfTold : Option Contents → Text → ℕ → ℕ → Type 0
+GaveIfTold None name before now = Unit {0}
+GaveIfTold (Some contents) name before now = (n : ℕ) × (n ≤ length (bytes_of (contents name))) × Gave before n now
 
 -- and no more than it has after a place
-abbrev pub GaveBehind : Option Contents → Text → ℕ → ℕ → ℕ → Type 0
-GaveBehind None name at before now = Unit {0}
-GaveBehind (Some contents) name at before now = (n : ℕ) × (at + n ≤ length (bytes_of (contents name)))
+abbrev pub GaveRestIfTold : Option Contents → Text → ℕ → ℕ → ℕ → Type 0
+GaveRestIfTold None name at before now = Unit {0}
+GaveRestIfTold (Some contents) name at before now = (n : ℕ) × (at + n ≤ length (bytes_of (contents name)))
     × Gave before n now
 
 -- ---- piece by piece
@@ -59,20 +59,20 @@ abbrev pub IsReadIn : Option Text → Text → Type 0
 IsReadIn None read = read ≡ []
 IsReadIn (Some file) read = IsFront read file
 
-abbrev pub IsReadOf : Option Contents → Text → Text → Type 0
-IsReadOf None name read = Unit {0}
-IsReadOf (Some contents) name read = IsReadIn (contents name) read
+abbrev pub IsReadIfTold : Option Contents → Text → Text → Type 0
+IsReadIfTold None name read = Unit {0}
+IsReadIfTold (Some contents) name read = IsReadIn (contents name) read
 
 -- it is the whole file
 abbrev pub IsWholeIn : Option Text → Text → Type 0
 IsWholeIn None read = ⊥
 IsWholeIn (Some file) read = read ≡ file
 
-abbrev pub IsWholeOf : Option Contents → Text → Text → Type 0
-IsWholeOf None name read = Unit {0}
-IsWholeOf (Some contents) name read = IsWholeIn (contents name) read
+abbrev pub IsWholeIfTold : Option Contents → Text → Text → Type 0
+IsWholeIfTold None name read = Unit {0}
+IsWholeIfTold (Some contents) name read = IsWholeIn (contents name) read
 
 -- after one more piece it still is a prefix, and the whole file if the piece was empty
 abbrev pub ReadsOn : {E : Type 0} → Option Contents → Text → Text → Result ℕ E → Type 0
-ReadsOn told name read (Ok n) = IsReadOf told name read × (n ≡ 0 → IsWholeOf told name read)
+ReadsOn told name read (Ok n) = IsReadIfTold told name read × (n ≡ 0 → IsWholeIfTold told name read)
 ReadsOn told name read (Err e) = Unit {0}

@@ -58,18 +58,19 @@ pub record SoFarBy {S : Type 0} (follows : S → Type 0) (due : Bool → Text �
   pub so_far : SoFar due (later past) gathered before now
 
 -- an end at a piece
-abbrev pub EndsIn : Due → SinkSeen → SinkSeen → Result (Option End) Fault → Type 0
-EndsIn due before now (Ok None) = ⊥
-EndsIn due before now (Ok (Some e)) = Ran due before now (Ok e)
-EndsIn due before now (Err e) = Ran due before now (Err e)
+abbrev pub PieceEnds : Due → SinkSeen → SinkSeen → Result (Option End) Fault → Type 0
+PieceEnds due before now (Ok None) = ⊥
+PieceEnds due before now (Ok (Some e)) = Ran due before now (Ok e)
+PieceEnds due before now (Err e) = Ran due before now (Err e)
 
 -- the text of the lines that end in a piece was written, or the run ends there, whatever is left of the file
 abbrev pub PieceRan : {S : Type 0} → (S → Type 0) → (Bool → Text → Due) → (S → Bool → Text → Due) → SinkSeen
     → SinkSeen → Result (Option End) Fault → Type 0
 PieceRan follows due later before now (Ok None) = SoFarBy follows due later [] before now
-PieceRan follows due later before now (Ok (Some e)) = (over : Bool) (left : Text) → EndsIn (due over left) before now
+PieceRan follows due later before now (Ok (Some e)) = (over : Bool) (left : Text) → PieceEnds (due over left) before now
     (Ok (Some e))
-PieceRan follows due later before now (Err e) = (over : Bool) (left : Text) → EndsIn (due over left) before now (Err e)
+PieceRan follows due later before now (Err e) = (over : Bool) (left : Text)
+    → PieceEnds (due over left) before now (Err e)
 
 -- what is due of a line that has begun, at the first byte that counts no more: a line feed there ends nothing
 abbrev pub limit_due : ℕ → Text → ℕ → Due
@@ -117,15 +118,17 @@ pub record WroteEndedIn (e : Fault) (text : Text → Text) (file : Text) (shelf 
   pub short : length (open_line (take ran file)) ≤ line_limit
   pub gained : GainedAt e sink.held sink_now.held (text (take ran file))
 
-abbrev pub WroteEndedOf : Fault → (Text → Text) → Option Contents → Text → ShelfSeen → ShelfSeen → SinkSeen → SinkSeen
+abbrev pub WroteEndedIfTold : Fault → (Text → Text) → Option Contents → Text → ShelfSeen → ShelfSeen → SinkSeen
+    → SinkSeen
     → Type 0
-WroteEndedOf e text None name shelf shelf_now sink sink_now = Unit {0}
-WroteEndedOf e text (Some contents) name shelf shelf_now sink sink_now = WroteEndedIn e text (bytes_of (contents name))
+WroteEndedIfTold e text None name shelf shelf_now sink sink_now = Unit {0}
+WroteEndedIfTold e text (Some contents) name shelf shelf_now sink sink_now = WroteEndedIn e text
+    (bytes_of (contents name))
     shelf shelf_now sink sink_now
 
 -- if the shelf tells its contents
 abbrev pub WroteEnded : Fault → (Text → Text) → Text → ShelfSeen → ShelfSeen → SinkSeen → SinkSeen → Type 0
-WroteEnded e text name shelf shelf_now sink sink_now = WroteEndedOf e text shelf.contents name shelf shelf_now sink
+WroteEnded e text name shelf shelf_now sink sink_now = WroteEndedIfTold e text shelf.contents name shelf shelf_now sink
     sink_now
 
 -- ---- how the run ends

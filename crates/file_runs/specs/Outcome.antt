@@ -72,10 +72,10 @@ EndsBlind read write quiet (Ok e) = quiet
 EndsBlind read write quiet (Err e) = CutCause read write e
 
 -- if the contents are told, by what they call for: an end and a text, or nothing if a file is not there
-abbrev pub EndsOn : Option Contents → (Contents → Option Due) → (read write quiet : Type 0) → (Text → Type 0)
+abbrev pub EndsToldOrBlind : Option Contents → (Contents → Option Due) → (read write quiet : Type 0) → (Text → Type 0)
     → Result End Fault → Type 0
-EndsOn None due read write quiet gained r = EndsBlind read write quiet r
-EndsOn (Some contents) due read write quiet gained r = EndsDue (due contents) read write quiet gained r
+EndsToldOrBlind None due read write quiet gained r = EndsBlind read write quiet r
+EndsToldOrBlind (Some contents) due read write quiet gained r = EndsDue (due contents) read write quiet gained r
 
 -- no count of faults rose
 abbrev pub Quiet : ℕ → ℕ → ℕ → ℕ → Type 0
@@ -85,5 +85,5 @@ Quiet shelf_before shelf_now sink_before sink_now = (shelf_now ≡ shelf_before)
 abbrev pub RanOn : (Contents → Option Due) → (shelf shelf_now : ShelfSeen) → (sink sink_now : SinkSeen)
     → Result End Fault → Type 0
 RanOn due shelf shelf_now sink sink_now r =
-    EndsOn shelf.contents due (Rose shelf.faults shelf_now.faults) (Rose sink.faults sink_now.faults)
+    EndsToldOrBlind shelf.contents due (Rose shelf.faults shelf_now.faults) (Rose sink.faults sink_now.faults)
     (Quiet shelf.faults shelf_now.faults sink.faults sink_now.faults) (Gained sink.held sink_now.held) r

@@ -4,7 +4,7 @@ ghost use Rattle.std.specs.Prelude.{◌≡◌, ◌≢◌, ◌≤◌, ◌<◌, �
 ghost use Rattle.std.specs.Prelude.{OnOk, None, length, nat_lt, option_map, take, vec_capacity, vec_len};
 ghost use Rattle.cli_files.specs.Outside.{AsksFor, Given, ShelfCause, given_by};
 ghost use Rattle.script_events.specs.Words.{line_limit};
-ghost use Rattle.file_runs.specs.Front.{AskedPieces, Gave, GaveAtMost, IsReadOf, ReadsOn, bytes_of};
+ghost use Rattle.file_runs.specs.Front.{AskedPieces, Gave, GaveAtMost, IsReadIfTold, ReadsOn, bytes_of};
 ghost use Rattle.file_runs.specs.Gathering.{CutIn, Gathers, GoesOn, NoFurther, PieceRan, ReadAsFar, WroteEnded};
 ghost use Rattle.file_runs.specs.Gathering.{due_behind, ended_text, limit_due};
 ghost use Rattle.file_runs.specs.Lines.{Came, file_due, file_limit};
@@ -32,7 +32,7 @@ fn read_piece<S: Shelf>(
     requires room { 0 < length buf.old }
     requires piece { length buf.old ≤ 4096 }
     ensures same { (S.seen shelf.new).contents ≡ (S.seen shelf.old).contents }
-    ensures bytes { IfOk result (λ n. (front : List ℕ) → length front ≡ at → IsReadOf (S.seen shelf.old).contents
+    ensures bytes { IfOk result (λ n. (front : List ℕ) → length front ≡ at → IsReadIfTold (S.seen shelf.old).contents
         name.now
         front → ReadsOn (S.seen shelf.old).contents name.now (front ++ take n buf.new) result) }
     ensures bound { IfOk result (λ n. n ≤ length buf.new) }

@@ -1,7 +1,8 @@
 //! The first bytes of a file.
 ghost use Rattle.std.specs.Prelude.{◌≡◌, ◌≤◌, ◌<◌, ◌+◌, ◌^◌, length, IfOk, OnErr};
 ghost use Rattle.cli_files.specs.Outside.{AsksFor, capped_count};
-ghost use Rattle.file_runs.specs.Front.{AskedPieces, FrontOf, Gave, GaveBehind, GaveOf, IsReadOf, ReadCause, ReadsOn};
+ghost use Rattle.file_runs.specs.Front.{AskedPieces, FrontIfTold, Gave, GaveRestIfTold, GaveIfTold, IsReadIfTold};
+ghost use Rattle.file_runs.specs.Front.{ReadCause, ReadsOn};
 
 use cli_files::Shelf;
 use std::alloc::Global;
@@ -31,14 +32,13 @@ fn read_on<S: Shelf>(
     ensures kept { OnErr result (bytes.new.items ≡ bytes.old.items) }
     ensures bound { IfOk result (λ n. n ≤ length piece.old) }
     ensures more { IfOk result (λ n. length bytes.new.items ≡ length bytes.old.items + n) }
-    ensures bytes { IsReadOf (S.seen shelf.old).contents name.now bytes.old.items → ReadsOn (S.seen shelf.old).contents
-        name.now
-        bytes.new.items result }
+    ensures bytes { IsReadIfTold (S.seen shelf.old).contents name.now bytes.old.items
+        → ReadsOn (S.seen shelf.old).contents name.now bytes.new.items result }
     ensures given { IfOk result (λ n. (S.seen shelf.new).given ≡ capped_count (S.seen shelf.old).given n) }
     ensures cap { (S.seen shelf.new).given ≤ (S.seen shelf.old).given + length piece.old }
     ensures names { AsksFor name.now (S.seen shelf.old).asked (S.seen shelf.new).asked }
     ensures read_pieces { AskedPieces (S.seen shelf.old).longest (S.seen shelf.new).longest }
-    ensures within { IsReadOf (S.seen shelf.old).contents name.now bytes.old.items → GaveBehind
+    ensures within { IsReadIfTold (S.seen shelf.old).contents name.now bytes.old.items → GaveRestIfTold
         (S.seen shelf.old).contents name.now (length bytes.old.items) (S.seen shelf.old).given
         (S.seen shelf.new).given }
     ensures cause { ReadCause (S.seen shelf.old).faults (S.seen shelf.new).faults (S.seen shelf.old).contents name.now
@@ -64,13 +64,13 @@ pub fn read_front<S: Shelf>(
     requires some { 0 < most }
     requires size { most < 2 ^ 32 }
     ensures same { (S.seen shelf.new).contents ≡ (S.seen shelf.old).contents }
-    ensures bytes { IfOk result (λ v. FrontOf (S.seen shelf.old).contents name.now most v.items) }
+    ensures bytes { IfOk result (λ v. FrontIfTold (S.seen shelf.old).contents name.now most v.items) }
     ensures length { IfOk result (λ v. length v.items ≤ most) }
     ensures given { IfOk result (λ v. Gave (S.seen shelf.old).given (length v.items) (S.seen shelf.new).given) }
     ensures cap { (S.seen shelf.new).given ≤ (S.seen shelf.old).given + most }
     ensures names { AsksFor name.now (S.seen shelf.old).asked (S.seen shelf.new).asked }
     ensures read_pieces { AskedPieces (S.seen shelf.old).longest (S.seen shelf.new).longest }
-    ensures within { GaveOf (S.seen shelf.old).contents name.now (S.seen shelf.old).given (S.seen shelf.new).given }
+    ensures within { GaveIfTold (S.seen shelf.old).contents name.now (S.seen shelf.old).given (S.seen shelf.new).given }
     ensures cause { ReadCause (S.seen shelf.old).faults (S.seen shelf.new).faults (S.seen shelf.old).contents name.now
         result }
 {

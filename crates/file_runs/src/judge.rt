@@ -1,7 +1,7 @@
 //! The text of a file, judged.
 ghost use Rattle.std.specs.Prelude.{◌≡◌, ◌≢◌, ◌<◌, ◌≤◌, ◌+◌, [], IfErr, IfOk, length, option_map};
 ghost use Rattle.cli_files.specs.Outside.{AsksFor};
-ghost use Rattle.file_runs.specs.Front.{AskedPieces, Gave, GaveAtMost, GaveOf};
+ghost use Rattle.file_runs.specs.Front.{AskedPieces, Gave, GaveAtMost, GaveIfTold};
 ghost use Rattle.file_runs.specs.Gathering.{GainedAt};
 ghost use Rattle.file_runs.specs.Outcome.{Ran, RanOn};
 ghost use Rattle.file_runs.specs.Judging.{judgement_due, verdicts_limit};
@@ -48,7 +48,7 @@ pub fn judge_file<S: Shelf, O: Sink>(
         (S.seen shelf.new) (O.seen out.old) (O.seen out.new) result }
     ensures so_far { IfErr result (λ e. GainedAt e (O.seen out.old).held (O.seen out.new).held []) }
     ensures names { AsksFor name.now (S.seen shelf.old).asked (S.seen shelf.new).asked }
-    ensures within { GaveOf (S.seen shelf.old).contents name.now (S.seen shelf.old).given (S.seen shelf.new).given }
+    ensures within { GaveIfTold (S.seen shelf.old).contents name.now (S.seen shelf.old).given (S.seen shelf.new).given }
     ensures cap { (S.seen shelf.new).given ≤ (S.seen shelf.old).given + (verdicts_limit + 1) }
     ensures read_pieces { AskedPieces (S.seen shelf.old).longest (S.seen shelf.new).longest }
     ensures long { IfOk result (λ e. e ≡ End.TooLong → Gave (S.seen shelf.old).given (verdicts_limit + 1)

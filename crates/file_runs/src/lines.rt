@@ -5,7 +5,7 @@ ghost use Rattle.script_events.specs.declared.fault.LineFault.{LineFault};
 ghost use Rattle.script_events.specs.declared.fault.LineFault.TheVariants.{TooLong};
 ghost use Rattle.script_events.specs.Words.{line_limit};
 ghost use Rattle.file_runs.specs.Outcome.{Due, IsWholeLines, Ran};
-ghost use Rattle.file_runs.specs.Gathering.{EndsIn};
+ghost use Rattle.file_runs.specs.Gathering.{PieceEnds};
 ghost use Rattle.file_runs.specs.Lines.{Came, after, process, refusal};
 
 use crate::writing::{finish, write};
@@ -110,7 +110,7 @@ pub(crate) fn refuse_in<O: Sink>(
     out: &mut O,
 ) -> Result<Option<End>, Fault>
     ensures end { IfOk result (λ o. IfSome o (λ e. e ≡ End.Script)) }
-    ensures ran { EndsIn (after gathered.now (refusal number fault)) (O.seen out.old) (O.seen out.new) result }
+    ensures ran { PieceEnds (after gathered.now (refusal number fault)) (O.seen out.old) (O.seen out.new) result }
 {
     match refuse(alloc, gathered, number, fault, out) {
         Ok(end) => Ok(Some(end)),

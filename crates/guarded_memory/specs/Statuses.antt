@@ -9,7 +9,7 @@ use Rattle.interface_state.specs.declared.states.TdiState.{TdiState}
 use Rattle.interface_state.specs.declared.states.TdiState.TheVariants as tdi
 use Rattle.interface_state.specs.RegisterValues.{has_bit}
 use Rattle.interface_state.specs.Bars.{bars_of}
-use Rattle.interface_state.specs.Machine.{Tdi, all_bindings}
+use Rattle.interface_state.specs.Machine.{DeviceTdi, all_bindings}
 
 -- bit 2 of the attributes: open to writes that are not trusted
 abbrev pub is_open_range : BarPlan → Bool
@@ -44,7 +44,7 @@ state_of_interface tdi.Error = Error
 
 -- memory space is bit 1 of its command register; it is bound to the stream that its lock keeps, with this floor, and to
 -- streams between two devices
-abbrev pub interface_status : Tdi → ℕ → InterfaceStatus
+abbrev pub interface_status : DeviceTdi → ℕ → InterfaceStatus
 interface_status t floor = record {
   state = state_of_interface t.state;
   memory_space = has_bit 1 t.registers.command;

@@ -7,7 +7,7 @@ use ide_types::{Items, OutOfMemory};
 use std::alloc::Global;
 
 // A byte of a number, by its weight.
-fn byte_at(n: u64, weight: u64) -> u8
+fn key_number_byte(n: u64, weight: u64) -> u8
     requires { 1 ≤ weight }
     ensures { result ≡ byte_of_weight n weight }
 {
@@ -19,14 +19,14 @@ fn key_numbered(n: u64) -> [u8; 32]
     ensures { result ≡ key_numbered n }
 {
     let number = [
-        byte_at(n, 72057594037927936),
-        byte_at(n, 281474976710656),
-        byte_at(n, 1099511627776),
-        byte_at(n, 4294967296),
-        byte_at(n, 16777216),
-        byte_at(n, 65536),
-        byte_at(n, 256),
-        byte_at(n, 1),
+        key_number_byte(n, 72057594037927936),
+        key_number_byte(n, 281474976710656),
+        key_number_byte(n, 1099511627776),
+        key_number_byte(n, 4294967296),
+        key_number_byte(n, 16777216),
+        key_number_byte(n, 65536),
+        key_number_byte(n, 256),
+        key_number_byte(n, 1),
     ];
     let mut key = [0; 32];
     key[24..].copy_from_slice(&number);

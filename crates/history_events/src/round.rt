@@ -20,7 +20,7 @@ pub(crate) struct Round {
 }
 
 // A byte of a number, by its weight.
-fn byte_of(n: u32, weight: u32) -> u8
+fn double_word_byte(n: u32, weight: u32) -> u8
     requires { 1 ≤ weight }
     ensures { result ≡ n / weight % 256 }
 {
@@ -34,7 +34,7 @@ fn write_bytes(alloc: Global, place: u32, value: u32) -> Result<Bytes, OutOfMemo
     ensures { IfOk result (λ b. b ≡ write_bytes place value) }
 {
     let address = 0x10000000 + 4 * (place % 4096);
-    let (high, low) = (byte_of(value, 256), byte_of(value, 1));
+    let (high, low) = (double_word_byte(value, 256), double_word_byte(value, 1));
     let bytes = [
         0x40,
         0,
@@ -44,10 +44,10 @@ fn write_bytes(alloc: Global, place: u32, value: u32) -> Result<Bytes, OutOfMemo
         0,
         0,
         15,
-        byte_of(address, 16777216),
-        byte_of(address, 65536),
-        byte_of(address, 256),
-        byte_of(address, 1),
+        double_word_byte(address, 16777216),
+        double_word_byte(address, 65536),
+        double_word_byte(address, 256),
+        double_word_byte(address, 1),
         high,
         low,
         high,

@@ -21,7 +21,7 @@ use Rattle.file_runs.specs.declared.ends.End.{End}
 use Rattle.file_runs.specs.declared.ends.Fault.{Fault}
 use Rattle.file_runs.specs.Gain.{Text}
 use Rattle.file_runs.specs.Lines.{cut_text, is_over}
-use Rattle.file_runs.specs.Outcome.{Due, EndsDue, EndsOn}
+use Rattle.file_runs.specs.Outcome.{Due, EndsDue, EndsToldOrBlind}
 use Rattle.file_runs.specs.Pieces.{pieces}
 use Rattle.ide_runs.specs.declared.topologies.Loaded.TheVariants.{Sound}
 use Rattle.ide_runs.specs.Script.{AtEnd, Script, run_due, script_of_pieces, script_of, with_line}
@@ -89,7 +89,7 @@ generated_runs seed count few =
 -- the same text is due by another function, which gives it of what is told
 ends_by : (told : Option Contents) (contents : Contents) (due other : Contents → Option Due) (read write quiet : Type 0)
     (gained : Text → Type 0) (r : Result End Fault) → told ≡ Some contents → due contents ≡ other contents
-    → EndsOn told due read write quiet gained r → EndsOn told other read write quiet gained r
+    → EndsToldOrBlind told due read write quiet gained r → EndsToldOrBlind told other read write quiet gained r
 ends_by None contents due other read write quiet gained r is same ends = absurd cc
 ends_by (Some c) contents due other read write quiet gained r is same ends =
     let at = same_Some c contents is in

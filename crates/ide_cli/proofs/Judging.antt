@@ -8,7 +8,7 @@ use Rattle.file_runs.specs.declared.ends.End.{End}
 use Rattle.file_runs.specs.declared.ends.End.TheVariants as end
 use Rattle.file_runs.specs.declared.ends.Fault.{Fault}
 use Rattle.file_runs.specs.Gain.{Text, Gained}
-use Rattle.file_runs.specs.Outcome.{Due, EndsBy, EndsDue, EndsOn}
+use Rattle.file_runs.specs.Outcome.{Due, EndsBy, EndsDue, EndsToldOrBlind}
 use Rattle.ide_runs.specs.{Tells, judgement_due}
 use Rattle.ide_runs.specs.declared.topologies.Loaded.TheVariants.{Sound}
 use Rattle.ide_runs.specs.Judge.{judge_due, judged_script_run, judged_run}
@@ -19,7 +19,7 @@ use Rattle.cli_words.specs.Words.{command_asked}
 use Rattle.ide_cli.specs.Headline.{AllJudged}
 use Rattle.ide_cli.specs.Meaning.{Answered, command_due}
 use Rattle.ide_cli.specs.Seen.{CallSeen}
-use Rattle.ide_cli.specs.Went.{AsksJudge, CameToEnd, JudgedCall}
+use Rattle.ide_cli.specs.Went.{NamesPlanAndScript, CameToEnd, JudgedCall}
 use Rattle.ide_cli.proofs.Written.{at_end}
 
 ended_at : (verdicts : Option Text) (e : End) (text : Text) → e ≡ end.Done
@@ -40,7 +40,7 @@ judge_is topology bytes claimed plan script plan_is read stop =
     ap (judged_run (Some claimed)) (ran_is topology bytes plan script plan_is read)
     ∙ ended_at (Some claimed) due.0 due.1 (ap run_end stop)
 
-asked_is : (migrated : Text) (call : CallSeen) (plan : Plan) (script : Script) (a : AsksJudge call plan script)
+asked_is : (migrated : Text) (call : CallSeen) (plan : Plan) (script : Script) (a : NamesPlanAndScript call plan script)
     (claimed : Text) → a.contents a.verdicts_name ≡ Some claimed
     → command_due migrated (command_asked call.words) a.contents
     ≡ judge_due (Some a.topology) (Some a.bytes) (Some claimed)
@@ -54,11 +54,11 @@ there read write quiet gained r e due is ran =
 
 pub ends_told : (call : CallSeen) (contents : Contents) (due : Contents → Option Due) (last : Due)
     (read write quiet : Type 0) (gained : Text → Type 0) → call.shelf_before.contents ≡ Some contents
-    → due contents ≡ Some last → EndsOn call.shelf_before.contents due read write quiet gained call.outcome
+    → due contents ≡ Some last → EndsToldOrBlind call.shelf_before.contents due read write quiet gained call.outcome
     → EndsDue (Some last) read write quiet gained call.outcome
 ends_told call contents due last read write quiet gained told is ran =
     subst (λ (d : Option Due). EndsDue d read write quiet gained call.outcome) is
-    (subst (λ (t : Option Contents). EndsOn t due read write quiet gained call.outcome) told ran)
+    (subst (λ (t : Option Contents). EndsToldOrBlind t due read write quiet gained call.outcome) told ran)
 
 pub at_this_end : {P : End → Type 0} (r : Result End Fault) → ((e : End) → r ≡ Ok e → P e) → IfOk r P
 at_this_end (Ok e) holds = holds e refl

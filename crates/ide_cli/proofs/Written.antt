@@ -20,7 +20,7 @@ use Rattle.law_text.specs.Telling.{events_told, lines_told, AreAllowed}
 use Rattle.law_text.specs.Statements.{LinesTell, AreTold}
 use Rattle.law_text.proofs.Reading.{length-events}
 use Rattle.file_runs.specs.Gain.{Text, Gained}
-use Rattle.file_runs.specs.Outcome.{Due, EndsBy, EndsDue, EndsOn}
+use Rattle.file_runs.specs.Outcome.{Due, EndsBy, EndsDue, EndsToldOrBlind}
 use Rattle.file_runs.specs.declared.ends.End.{End}
 use Rattle.file_runs.specs.declared.ends.Fault.{Fault}
 use Rattle.file_runs.proofs.Joins.{front_of_front, gained_front, later}
@@ -34,7 +34,7 @@ use Rattle.ide_cli.specs.Meaning.{Answered, RanAlone, RanGenerated, command_due}
 use Rattle.ide_cli.specs.Laws.{IsDue}
 use Rattle.ide_cli.specs.Headline.{AllCounted, AllWritten, AsksRun, InEvery, Written}
 use Rattle.ide_cli.specs.Seen.{CallSeen}
-use Rattle.ide_cli.specs.Went.{WentOver, WentThrough, WentUpTo}
+use Rattle.ide_cli.specs.Went.{WentOverGenerated, WentOverJudged, WentUpTo}
 
 -- ---- the run that the words ask for
 
@@ -44,13 +44,14 @@ due_is migrated call plan script a = rw (a.asks, a.topology_is, a.plan_is, a.scr
 
 ran_script : (migrated : Text) (call : CallSeen) (read write quiet : Type 0) (gained : Text → Type 0)
     (r : Result End Fault)
-    → EndsOn call.shelf_before.contents (command_due migrated (command_asked call.words)) read write quiet gained r
+    → EndsToldOrBlind call.shelf_before.contents (command_due migrated (command_asked call.words)) read write quiet
+    gained r
     → (plan : Plan) (script : Script) → AsksRun call plan script
     → EndsBy (due_after plan [] script) read write quiet gained r
 ran_script migrated call read write quiet gained r ran plan script a =
     let due = command_due migrated (command_asked call.words) in
     let ran_there : EndsDue (due a.contents) read write quiet gained r = subst
-    (λ (t : Option Contents). EndsOn t due read write quiet gained r) a.are_told ran in
+    (λ (t : Option Contents). EndsToldOrBlind t due read write quiet gained r) a.are_told ran in
     subst (λ (d : Option Due). EndsDue d read write quiet gained r) (due_is migrated call plan script a) ran_there
 
 plan_fits : (call : CallSeen) (plan : Plan) (script : Script) → AsksRun call plan script → FitsPlan plan
@@ -114,7 +115,7 @@ generated_is_due seed count few first later same = record {
   few = few_generated seed count few first later same;
 }
 
-went_is_due : (call : CallSeen) (plan : Plan) (h : History) → WentOver call plan h → IsDue plan h
+went_is_due : (call : CallSeen) (plan : Plan) (h : History) → WentOverGenerated call plan h → IsDue plan h
 went_is_due call plan h w =
     let few = (few_rounds call.words w.seed w.count w.asks).1 in
     let is = generated_is_due w.seed w.count few w.first w.later w.events_are in
@@ -140,7 +141,7 @@ first_is_due topology bytes plan script first later plan_is read events_are =
       few = few_through plan first later (events_on plan script) events_are allowed;
     }
 
-through_is_due : (call : CallSeen) (plan : Plan) (h : History) → WentThrough call plan h → IsDue plan h
+through_is_due : (call : CallSeen) (plan : Plan) (h : History) → WentOverJudged call plan h → IsDue plan h
 through_is_due call plan h w =
     let a = w.asks_judge in
     subst (IsDue plan) (sym w.history_is)

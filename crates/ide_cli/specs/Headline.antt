@@ -14,7 +14,7 @@ use Rattle.ide_runs.specs.Generated.{generated_history}
 use Rattle.ide_runs.specs.Script.{Script, events_on, script_of}
 use Rattle.ide_cli.specs.Seen.{CallSeen}
 use Rattle.ide_runs.specs.Topologies.{loaded_topology}
-use Rattle.ide_cli.specs.Went.{AsksJudge, AsksWhy, WentOver, WentThrough, WentUpTo}
+use Rattle.ide_cli.specs.Went.{NamesPlanAndScript, AsksWhy, WentOverGenerated, WentOverJudged, WentUpTo}
 
 -- The words ask for a run: the shelf tells its contents, in which the names that the words give are a sound topology of
 -- this plan, and this script.
@@ -50,7 +50,8 @@ pub record Written (call : CallSeen) (plan : Plan) (h : History) : Type 0 where
 -- script by which it judged a text, or of that of which it told an event
 abbrev pub InEvery : (Plan → History → Type 0) → CallSeen → Type 0
 InEvery law call = (plan : Plan) (h : History)
-    → Written call plan h ⊎ (WentOver call plan h ⊎ (WentThrough call plan h ⊎ WentUpTo call plan h)) → law plan h
+    → Written call plan h ⊎ (WentOverGenerated call plan h ⊎ (WentOverJudged call plan h ⊎ WentUpTo call plan h))
+    → law plan h
 
 -- the same of a law that asks nothing of the topology
 abbrev pub InEveryHistory : (History → Type 0) → CallSeen → Type 0
@@ -66,12 +67,12 @@ AllWritten call = IfOk call.outcome (λ e. (plan : Plan) (script : Script) (held
 abbrev pub AllCounted : CallSeen → Type 0
 AllCounted call = IfOk call.outcome (λ e. (seed count : ℕ) (held : Text) → command_asked call.words
     ≡ Some (generate seed count)
-    → call.sink_before.held ≡ Some held → WentOver call the_plan (generated_history seed count))
+    → call.sink_before.held ≡ Some held → WentOverGenerated call the_plan (generated_history seed count))
 
 -- and went over the history of all events of the script by which it judged a text
 abbrev pub AllJudged : CallSeen → Type 0
-AllJudged call = IfOk call.outcome (λ e. (plan : Plan) (script : Script) → AsksJudge call plan script
-    → WentThrough call plan (history_on plan [] (events_on plan script)))
+AllJudged call = IfOk call.outcome (λ e. (plan : Plan) (script : Script) → NamesPlanAndScript call plan script
+    → WentOverJudged call plan (history_on plan [] (events_on plan script)))
 
 -- and over the history of the events up to the one that it told, or of all if there are fewer
 abbrev pub AllTold : CallSeen → Type 0

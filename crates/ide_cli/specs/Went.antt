@@ -24,7 +24,7 @@ use Rattle.ide_cli.specs.Seen.{CallSeen}
 
 -- The call went over generated events: this is the history of the first of them, up to some event, under the plan that
 -- is generated for them, and the sink gained the line of the history of all.
-pub record WentOver (call : CallSeen) (plan : Plan) (h : History) : Type 0 where
+pub record WentOverGenerated (call : CallSeen) (plan : Plan) (h : History) : Type 0 where
   pub seed : ℕ
   pub count : ℕ
   pub asks : command_asked call.words ≡ Some (generate seed count)
@@ -41,7 +41,7 @@ pub record WentOver (call : CallSeen) (plan : Plan) (h : History) : Type 0 where
 
 -- The words ask to judge a text: the shelf tells its contents, in which the names that the words give are a sound
 -- topology of this plan, and this script.
-pub record AsksJudge (call : CallSeen) (plan : Plan) (script : Script) : Type 0 where
+pub record NamesPlanAndScript (call : CallSeen) (plan : Plan) (script : Script) : Type 0 where
   pub contents : Contents
   pub are_told : call.shelf_before.contents ≡ Some contents
   pub topology_name : Text
@@ -70,9 +70,9 @@ pub record WroteSome (call : CallSeen) : Type 0 where
 
 -- The call judged a text by the history of a script: this is the history of the first of its events, up to some event,
 -- and the call came to an end of its own, or wrote.
-pub record WentThrough (call : CallSeen) (plan : Plan) (h : History) : Type 0 where
+pub record WentOverJudged (call : CallSeen) (plan : Plan) (h : History) : Type 0 where
   pub script : Script
-  pub asks_judge : AsksJudge call plan script
+  pub asks_judge : NamesPlanAndScript call plan script
   pub first : List Event
   pub later : List Event
   pub events_are : first ++ later ≡ events_on plan script
@@ -90,7 +90,7 @@ pub record Said (due claimed held : Text) (call : CallSeen) (e : End) : Type 0 w
 
 -- if a call that judges a text comes to an end of its own, on a script that was read to its end
 abbrev pub JudgedCall : CallSeen → Type 0
-JudgedCall call = IfOk call.outcome (λ e. (plan : Plan) (script : Script) (a : AsksJudge call plan script)
+JudgedCall call = IfOk call.outcome (λ e. (plan : Plan) (script : Script) (a : NamesPlanAndScript call plan script)
     (claimed held : Text) → script.ending ≡ AtEnd → a.contents a.verdicts_name ≡ Some claimed
     → call.sink_before.held ≡ Some held → Said (due_after plan [] script).1 claimed held call e)
 

@@ -6,7 +6,7 @@ use Rattle.ide_types.specs.declared.port.Side.{Side}
 use Rattle.ide_prefix.specs.Packet.{Packet}
 use Rattle.spec_stream.specs.Sending.{Sending, sealed_with_syncs, refusals, first_that_holds}
 use Rattle.spec_stream.specs.Stream.{TxSub, RxSub, Three, StreamState, at_sub, slot_in_set, live_in}
-use Rattle.spec_stream.specs.Stream.{Taken, Insecure, NotKeyed, Failed, Held, Accepted, dropped_held}
+use Rattle.spec_stream.specs.Stream.{PacketOutcome, Insecure, NotKeyed, Failed, Held, Accepted, dropped_held}
 use Rattle.spec_stream.specs.Stream.{stream_outcome_by_keys, state_after}
 use Rattle.sub_stream.specs.{answer_taken}
 use Rattle.sub_stream.specs.declared.answer.MeasuredPacket.{MeasuredPacket}
@@ -142,7 +142,8 @@ taken-among side d p inv clear =
     p
     (live_in (slot_in_set slots p.prefix.k)) (live_in (slot_in_set slots (not p.prefix.k)))) (sym clear)
 
-state_is : (tx : Three TxSub) (rx : Three RxSub) (failed : Bool) (p : Packet) (t : Taken) (a : Answer) → failed ≡ false
+state_is : (tx : Three TxSub) (rx : Three RxSub) (failed : Bool) (p : Packet) (t : PacketOutcome) (a : Answer) → failed
+    ≡ false
     → Some a ≡ answer_taken t → ◌≡◌ {A = StreamState}
     (record {
       tx = tx;
@@ -170,7 +171,7 @@ state_is tx rx failed p (Accepted j n unit) a clear e =
       failed = (ap is_fail same ∙ sym clear) i;
     }
 
-rx_alone : (x : ReceiveEnds) (tx : Three TxSub) (failed : Bool) (p : Packet) (t : Taken)
+rx_alone : (x : ReceiveEnds) (tx : Three TxSub) (failed : Bool) (p : Packet) (t : PacketOutcome)
     → (state_after (receiving_state x) p t).rx ≡ (state_after (record { tx = tx; rx = x.rx; failed = failed }) p t).rx
 rx_alone x tx failed p Insecure = refl
 rx_alone x tx failed p NotKeyed = refl
@@ -178,7 +179,7 @@ rx_alone x tx failed p (Failed cause) = refl
 rx_alone x tx failed p (Held j n) = refl
 rx_alone x tx failed p (Accepted j n unit) = refl
 
-lent_alone : (x : ReceiveEnds) (tx : Three TxSub) (failed : Bool) (p : Packet) (t : Taken)
+lent_alone : (x : ReceiveEnds) (tx : Three TxSub) (failed : Bool) (p : Packet) (t : PacketOutcome)
     → opened_if_accepted (receiving_state x) p t ≡ opened_if_accepted (record { tx = tx; rx = x.rx; failed = failed }) p
     t
 lent_alone x tx failed p Insecure = refl
@@ -205,6 +206,6 @@ end-taken side d p a inv clear e =
       state = state_is d.tx.tx d.rx.rx d.failed p (lanes_outcome d.rx p) a clear e i;
       delivered = opened_if_accepted old.state p (lanes_outcome d.rx p);
     })
-    ∙ ap (λ (t : Taken). record old
+    ∙ ap (λ (t : PacketOutcome). record old
     { state = state_after old.state p t; delivered = opened_if_accepted old.state p t })
     (taken-among side d p inv clear)

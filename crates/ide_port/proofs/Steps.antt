@@ -15,7 +15,7 @@ use Rattle.ide_types.specs.declared.port.PortName.{PortName}
 use Rattle.key_slots.specs.declared.slots.OnlyLive.{OnlyLive}
 use Rattle.key_messages.specs.declared.port.ProgramFault.{ProgramFault}
 use Rattle.key_messages.specs.declared.port.ProgramFault.TheVariants as km
-use Rattle.spec_stream.specs.Stream.{Taken as Answer}
+use Rattle.spec_stream.specs.Stream.{PacketOutcome as Answer}
 use Rattle.sub_stream.specs.declared.answer.MeasuredPacket.{MeasuredPacket}
 use Rattle.sub_stream.specs.declared.answer.Taken.{Taken}
 use Rattle.ide_port.specs.StreamSends.{IsSent}

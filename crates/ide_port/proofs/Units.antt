@@ -16,7 +16,7 @@ use Rattle.ide_types.specs.declared.port.PortName.{PortName}
 use Rattle.ide_prefix.specs.declared.fault.PacketFault.{PacketFault}
 use Rattle.ide_prefix.specs.Reading.{CutValue, PlainTlp, IdePacket}
 use Rattle.event_verdicts.specs.declared.verdict.SealedPacket.{SealedPacket}
-use Rattle.spec_stream.specs.Stream.{Taken, sealed_sub, sealed_one}
+use Rattle.spec_stream.specs.Stream.{PacketOutcome, sealed_sub, sealed_one}
 use Rattle.tlp_layout.specs.Outgoing.{Outgoing, NoTlp, OnNone, OnStream}
 use Rattle.stream_lanes.specs.{SealedAtMost, AcceptedAtMost, any_out, any_into}
 use Rattle.ide_port.specs.StreamEnds.{lanes_in}
@@ -75,19 +75,20 @@ sealed-more m n e head payload s number le h = by_refusal (sending_refusal e s)
 
 -- ---- an arrival
 
-taken-more : (m n : ℕ) (st : StreamState) (p : Packet) (taken : Taken) → m + 1 ≤ n → UnitsAtMost m st
+taken-more : (m n : ℕ) (st : StreamState) (p : Packet) (taken : PacketOutcome) → m + 1 ≤ n → UnitsAtMost m st
     → UnitsAtMost n (state_after st p taken)
 taken-more m n st p taken le h =
     (λ u. omega (arith, le, sent taken u, h.0 u), λ u. omega (arith, le, came taken u, h.1 u))
   where
-    sent : (taken : Taken) (u : SubKind) → (at_sub (state_after st p taken).tx u).total ≤ (at_sub st.tx u).total
+    sent : (taken : PacketOutcome) (u : SubKind) → (at_sub (state_after st p taken).tx u).total ≤ (at_sub st.tx u).total
     sent Insecure u = omega arith
     sent NotKeyed u = omega arith
     sent (Failed cause) u = omega arith
     sent (Held j k) u = omega arith
     sent (Accepted j k unit) u = omega arith
 
-    came : (taken : Taken) (u : SubKind) → (at_sub (state_after st p taken).rx u).total ≤ (at_sub st.rx u).total + 1
+    came : (taken : PacketOutcome) (u : SubKind) → (at_sub (state_after st p taken).rx u).total ≤ (at_sub st.rx u).total
+        + 1
     came Insecure u = omega arith
     came NotKeyed u = omega arith
     came (Failed cause) u = grind arith

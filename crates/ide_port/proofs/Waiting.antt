@@ -5,7 +5,7 @@ use Rattle.ide_port.proofs.Terms.{accepted_sub, Insecure, NotKeyed}
 use Rattle.ide_port.proofs.Terms.{Failed, Held, Accepted, state_after, rested_stream, KeyCall, stream_after_call}
 use Rattle.ide_port.proofs.Terms.{slots_called_out, slots_called_into, no_stream, unless_verdict, is_waiting, NoneWaits}
 use Rattle.std.proofs.Common.{Bool}
-use Rattle.spec_stream.specs.Stream.{Taken}
+use Rattle.spec_stream.specs.Stream.{PacketOutcome}
 
 -- neither slot has a key that waits
 abbrev pub neither : LaneSlots → Type 0
@@ -36,7 +36,8 @@ none-accepted : (j : ℕ) (unit : List Packet) (k : Bool) (x : RxSub) → neithe
     → neither (accepted_sub j k unit x).slots
 none-accepted j unit k x h = grind (arith, nat_tests)
 
-pub none-taken : (st : StreamState) (p : Packet) (taken : Taken) → NoneWaits st → NoneWaits (state_after st p taken)
+pub none-taken : (st : StreamState) (p : Packet) (taken : PacketOutcome) → NoneWaits st
+    → NoneWaits (state_after st p taken)
 none-taken st p Insecure h u = h u
 none-taken st p NotKeyed h u = h u
 none-taken st p (Failed cause) h u = grind (arith, none-dropped, h u)

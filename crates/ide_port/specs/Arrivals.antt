@@ -3,7 +3,8 @@ use Rattle.std.specs.Prelude.{[], length, Option, Some, None, Result, Ok, Err}
 use Rattle.ide_prefix.specs.declared.fault.PacketFault.{PacketFault}
 use Rattle.ide_prefix.specs.Packet.{Packet}
 use Rattle.ide_prefix.specs.Reading.{CutValue, PlainTlp, IdePacket}
-use Rattle.spec_stream.specs.Stream.{Taken, Insecure as IsInsecure, NotKeyed as IsKeyless, Failed, Held as IsHeld}
+use Rattle.spec_stream.specs.Stream.{PacketOutcome, Insecure as IsInsecure, NotKeyed as IsKeyless, Failed}
+use Rattle.spec_stream.specs.Stream.{Held as IsHeld}
 use Rattle.spec_stream.specs.Stream.{Accepted as IsAccepted, stream_outcome, state_after, unit_name}
 use Rattle.stream_lanes.specs.{opened_if_accepted}
 use Rattle.ide_port.specs.declared.answer.Arrival.{Arrival}
@@ -21,7 +22,7 @@ abbrev pub untaken_step : PortEnd → Arrival → TakeStep
 untaken_step e answer = record { answer = answer; port = record e { delivered = [] } }
 
 -- of an accepted unit, how many packets it has
-abbrev pub port_arrival : Packet → Taken → Arrival
+abbrev pub port_arrival : Packet → PacketOutcome → Arrival
 port_arrival p IsInsecure = Insecure p.prefix.stream
 port_arrival p IsKeyless = NotKeyed p.prefix.stream p.prefix.sub
 port_arrival p (Failed cause) = Fail p.prefix.stream p.prefix.sub cause

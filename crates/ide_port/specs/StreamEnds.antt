@@ -7,7 +7,7 @@ use Rattle.ide_types.specs.declared.port.Side.{Side}
 use Rattle.ide_prefix.specs.Packet.{Packet}
 use Rattle.key_slots.specs.{SlotPair, KeyCall}
 use Rattle.spec_stream.specs.Sending.{Lanes}
-use Rattle.spec_stream.specs.Stream.{StreamState, Taken, lanes_of, stream_outcome, state_after}
+use Rattle.spec_stream.specs.Stream.{StreamState, PacketOutcome, lanes_of, stream_outcome, state_after}
 use Rattle.stream_lanes.specs.{opened_if_accepted}
 use Rattle.sub_stream.specs.Calls.{sends_in, pair_at, stream_after_call, no_stream}
 
@@ -40,7 +40,7 @@ lanes_in e = lanes_of e.aggregation e.limit e.state
 
 -- ---- arrivals
 
-abbrev pub end_outcome : StreamEnd → Packet → Taken
+abbrev pub end_outcome : StreamEnd → Packet → PacketOutcome
 end_outcome e p = stream_outcome e.aggregation e.closed e.state p
 
 abbrev pub end_taken : StreamEnd → Packet → StreamEnd

@@ -134,9 +134,10 @@ nothing_left ahead x y [] none no_packets r =
     }
 nothing_left ahead x y (e ∷ es) none no_packets r = absurd cc
 
-pub emptied : (aggregation mode' ahead : ℕ) (x y : List ℕ) (es : List PacketEnds)
-    → view aggregation ahead x y es ≡ empty_unit mode' → Rises ahead 0 es (length x) (length y) → IsEmpty ahead x y es
-emptied aggregation mode' ahead x y es is r =
+pub emptied : (aggregation aggregation' ahead : ℕ) (x y : List ℕ) (es : List PacketEnds)
+    → view aggregation ahead x y es ≡ empty_unit aggregation' → Rises ahead 0 es (length x) (length y)
+    → IsEmpty ahead x y es
+emptied aggregation aggregation' ahead x y es is r =
     nothing_left ahead x y es (ap (λ (u : Collected). u.ahead) is) (ap (λ (u : Collected). u.packets) is) r
 
 -- there was no packet, so the ahead alone lies in the heads

@@ -7,13 +7,13 @@ use Rattle.cli_files.specs.Outside.{Contents, ShelfSeen}
 use Rattle.ide_types.specs.declared.plan.Plan.{Plan}
 use Rattle.file_runs.specs.declared.ends.End.{End}
 use Rattle.file_runs.specs.declared.ends.Fault.{Fault}
-use Rattle.file_runs.specs.Front.{GaveOf, bytes_of}
+use Rattle.file_runs.specs.Front.{GaveIfTold, bytes_of}
 use Rattle.file_runs.specs.Gain.{Text}
 use Rattle.file_runs.specs.Gathering.{NoFurther, ReadAsFar, ReadAsFarOf}
 use Rattle.file_runs.proofs.Joins.{joined}
 use Rattle.ide_runs.specs.declared.topologies.Loaded.{Loaded}
 use Rattle.ide_runs.specs.declared.topologies.Loaded.TheVariants.{Sound, Faulty, Long}
-use Rattle.ide_runs.specs.Loading.{GaveAllOf, LoadedIn, LoadedOf}
+use Rattle.ide_runs.specs.Loading.{GaveAllOf, LoadedIn, LoadedIfTold}
 use Rattle.ide_runs.specs.Reads.{LoadedNoFurther, RunNoFurther, ScriptGoesOn}
 use Rattle.ide_runs.specs.Topologies.{loaded_topology}
 
@@ -35,7 +35,7 @@ behind_in (Some file) script plan given latest is far =
     ((length file + given) - latest)) is there
 
 pub far_behind : (topology script : Text) (plan : Plan) (s0 s1 s2 : ShelfSeen) (r : Result End Fault) → s1.contents
-    ≡ s0.contents → LoadedOf loaded_topology s0.contents topology (Sound plan)
+    ≡ s0.contents → LoadedIfTold loaded_topology s0.contents topology (Sound plan)
     → GaveAllOf s0.contents topology s0.given s1.given
     → IfOk r (λ e. ReadAsFar (λ contents. NoFurther (ScriptGoesOn plan) (bytes_of (contents script))) s1 s2)
     → IfOk r (λ e. ReadAsFar (λ contents. RunNoFurther (contents topology) (contents script)) s0 s2)
@@ -45,7 +45,7 @@ far_behind topology script plan s0 s1 s2 (Ok e) same is all far =
     (subst (λ (told : Option Contents). ReadAsFarOf
     (λ contents. NoFurther (ScriptGoesOn plan) (bytes_of (contents script))) told s1 s2) same far)
   where
-    by_told : (told : Option Contents) → LoadedOf loaded_topology told topology (Sound plan)
+    by_told : (told : Option Contents) → LoadedIfTold loaded_topology told topology (Sound plan)
         → GaveAllOf told topology s0.given s1.given → ReadAsFarOf
         (λ contents. NoFurther (ScriptGoesOn plan) (bytes_of (contents script))) told s1 s2
         → ReadAsFarOf (λ contents. RunNoFurther (contents topology) (contents script)) told s0 s2
@@ -78,8 +78,8 @@ alone_in (Some file) script l given ahead none is le = subst
     (alone l file (bytes_of script) given ahead none le)
 
 pub topology_alone : (told : Option Contents) (topology script : Text) (l : Loaded) (s0 s1 : ShelfSeen)
-    (r : Result End Fault) → IsNoPlan l → LoadedOf loaded_topology told topology l
-    → GaveOf told topology s0.given s1.given
+    (r : Result End Fault) → IsNoPlan l → LoadedIfTold loaded_topology told topology l
+    → GaveIfTold told topology s0.given s1.given
     → IfOk r (λ e. ReadAsFarOf (λ contents. RunNoFurther (contents topology) (contents script)) told s0 s1)
 topology_alone told topology script l s0 s1 (Err e) none is gave = tt
 topology_alone None topology script l s0 s1 (Ok e) none is gave = tt
@@ -89,7 +89,7 @@ topology_alone (Some contents) topology script l s0 s1 (Ok e) none is (n, le, ga
 -- ---- a topology that is checked
 
 pub within_file : (told : Option Contents) (name : Text) (s0 s1 : ShelfSeen) (r : Result End Fault)
-    → GaveOf told name s0.given s1.given → IfOk r
+    → GaveIfTold told name s0.given s1.given → IfOk r
     (λ e. ReadAsFarOf (λ contents given ahead. given ≤ length (bytes_of (contents name))) told s0 s1)
 within_file told name s0 s1 (Err e) gave = tt
 within_file None name s0 s1 (Ok e) gave = tt

@@ -7,21 +7,21 @@ use Rattle.file_runs.specs.declared.ends.End.{End}
 use Rattle.file_runs.specs.declared.ends.End.TheVariants as end
 use Rattle.file_runs.specs.declared.ends.Fault.{Fault}
 use Rattle.file_runs.specs.declared.ends.Fault.TheVariants as fault
-use Rattle.file_runs.specs.Front.{GaveOf, bytes_of}
+use Rattle.file_runs.specs.Front.{GaveIfTold, bytes_of}
 use Rattle.file_runs.specs.Gain.{Text, Gained}
 use Rattle.file_runs.specs.Gathering.{GainedAt, ReadAsFar, ReadAsFarOf}
-use Rattle.file_runs.specs.Outcome.{Due, EndsDue, EndsOn}
+use Rattle.file_runs.specs.Outcome.{Due, EndsDue, EndsToldOrBlind}
 use Rattle.file_runs.proofs.Joins.{joined}
 use Rattle.file_runs.proofs.FileNames.{asks_as, asks_more}
 use Rattle.file_runs.proofs.WholeFiles.{IsDue, SameDue, gained_nothing}
 use Rattle.file_runs.specs.Judging.{judgement_due}
 use Rattle.ide_runs.specs.declared.topologies.Loaded.{Loaded}
 use Rattle.ide_runs.specs.declared.topologies.Loaded.TheVariants.{Sound, Faulty, Long}
-use Rattle.ide_runs.specs.Judge.{FurtherAt, FurtherBy, IsOneOf, JudgeNoFurther, judge_due, judged_script_run}
+use Rattle.ide_runs.specs.Judge.{EndNoFurther, DueNoFurther, IsOneOf, JudgeNoFurther, judge_due, judged_script_run}
 use Rattle.ide_runs.specs.Judge.{judged_run, text_left}
 use Rattle.ide_runs.specs.Reads.{LoadedNoFurther, RunNoFurther}
 use Rattle.ide_runs.specs.Script.{run_due}
-use Rattle.ide_runs.specs.SoFar.{WroteBy, WroteByOf}
+use Rattle.ide_runs.specs.SoFar.{WroteBy, WroteByIfTold}
 use Rattle.ide_runs.specs.Topologies.{loaded_topology}
 use Rattle.ide_runs.proofs.Loads.{NoLineOf, no_line_wrote_of}
 
@@ -50,7 +50,8 @@ due_told (Some (to, what)) read write rest s0 s1 h0 h1 e text none holds ran =
 -- it came to this end, and its text is what the sink holds
 pub ran_to : (told : Option Contents) (due : Contents → Option Due) (read write rest : Type 0) (s0 s1 : ℕ)
     (h0 h1 : Option Text) (e : End) (text : Text) → h0 ≡ Some [] → h1 ≡ Some text
-    → EndsOn told due read write ((s1 ≡ s0) × rest) (Gained h0 h1) (Ok e) → (s1 ≡ s0) × IsDue told due (e, text)
+    → EndsToldOrBlind told due read write ((s1 ≡ s0) × rest) (Gained h0 h1) (Ok e) → (s1 ≡ s0)
+    × IsDue told due (e, text)
 ran_to None due read write rest s0 s1 h0 h1 e text none holds ran = (ran.0, tt)
 ran_to (Some contents) due read write rest s0 s1 h0 h1 e text none holds ran =
     due_told (due contents) read write rest s0 s1 h0 h1 e text none holds ran
@@ -79,8 +80,8 @@ none_due verdicts due is = rw is refl
 
 pub cut_run : (told : Option Contents) (topology script verdicts : Text) (read write0 quiet0 write quiet : Type 0)
     (gained : Text → Type 0) (h : Option Text) (e : Fault) → (write0 → ⊥)
-    → EndsOn told (run_on topology script) read write0 quiet0 gained (Err e)
-    → EndsOn told (judge_on topology script verdicts) read write quiet (Gained h h) (Err e)
+    → EndsToldOrBlind told (run_on topology script) read write0 quiet0 gained (Err e)
+    → EndsToldOrBlind told (judge_on topology script verdicts) read write quiet (Gained h h) (Err e)
 cut_run None topology script verdicts read write0 quiet0 write quiet gained h fault.Read never ran = ran
 cut_run None topology script verdicts read write0 quiet0 write quiet gained h fault.Write never ran = absurd (never ran)
 cut_run None topology script verdicts read write0 quiet0 write quiet gained h fault.Memory never ran = tt
@@ -126,7 +127,7 @@ pub given_cut : (text lines : Contents → ℕ → Text) (e : Fault) (s0 s1 : Sh
     → WroteBy e text lines s0 s1 o0 o1 → NoLineOf (λ contents n. []) (λ contents n. []) s0.contents s0.given s1.given
 given_cut text lines e s0 s1 o0 o1 wrote = by_told s0.contents wrote
   where
-    by_told : (told : Option Contents) → WroteByOf e text lines told s0 s1 o0 o1
+    by_told : (told : Option Contents) → WroteByIfTold e text lines told s0 s1 o0 o1
         → NoLineOf (λ contents n. []) (λ contents n. []) told s0.given s1.given
     by_told None wrote = tt
     by_told (Some contents) wrote = (wrote.given, refl, refl, wrote.gave)
@@ -143,13 +144,13 @@ given_run far s0 s1 read = by_told s0.contents read
 -- and then the text that is judged
 pub given_both : (verdicts : Text) (s0 s1 s2 : ShelfSeen) → s1.contents ≡ s0.contents
     → NoLineOf (λ contents n. []) (λ contents n. []) s0.contents s0.given s1.given
-    → GaveOf s1.contents verdicts s1.given s2.given
+    → GaveIfTold s1.contents verdicts s1.given s2.given
     → NoLineOf (λ contents n. []) (λ contents n. []) s0.contents s0.given s2.given
 given_both verdicts s0 s1 s2 same one two =
-    by_told s0.contents one (subst (λ (told : Option Contents). GaveOf told verdicts s1.given s2.given) same two)
+    by_told s0.contents one (subst (λ (told : Option Contents). GaveIfTold told verdicts s1.given s2.given) same two)
   where
     by_told : (told : Option Contents) → NoLineOf (λ contents n. []) (λ contents n. []) told s0.given s1.given
-        → GaveOf told verdicts s1.given s2.given
+        → GaveIfTold told verdicts s1.given s2.given
         → NoLineOf (λ contents n. []) (λ contents n. []) told s0.given s2.given
     by_told None one two = tt
     by_told (Some contents) (n, text, lines, gave) (m, le, more) =
@@ -179,23 +180,23 @@ within_run (Some file) script given ahead far =
 
 further_done : (topology script verdicts : Option Text) (due : Option Due) (text : Text) (n m ahead : ℕ)
     → due ≡ Some (end.Done, text) → n ≤ length (bytes_of topology) + length (bytes_of script)
-    → m ≤ length (bytes_of verdicts) → FurtherBy due topology script verdicts (n + m) ahead
+    → m ≤ length (bytes_of verdicts) → DueNoFurther due topology script verdicts (n + m) ahead
 further_done topology script verdicts due text n m ahead is le more = rw is (omega (arith, le, more))
 
 -- after a run that came to the end of its script
 pub far_judged : (topology script verdicts text : Text) (s0 s1 s2 : ShelfSeen) (r : Result End Fault)
     → s1.contents ≡ s0.contents → IsDue s0.contents (run_on topology script) (end.Done, text)
     → ReadAsFar (λ contents. RunNoFurther (contents topology) (contents script)) s0 s1
-    → GaveOf s1.contents verdicts s1.given s2.given
+    → GaveIfTold s1.contents verdicts s1.given s2.given
     → IfOk r (λ e. ReadAsFar (λ contents. JudgeNoFurther (contents topology) (contents script) (contents verdicts))
     s0 s2)
 far_judged topology script verdicts text s0 s1 s2 (Err e) same is one two = tt
 far_judged topology script verdicts text s0 s1 s2 (Ok e) same is one two =
-    by_told s0.contents is one (subst (λ (told : Option Contents). GaveOf told verdicts s1.given s2.given) same two)
+    by_told s0.contents is one (subst (λ (told : Option Contents). GaveIfTold told verdicts s1.given s2.given) same two)
   where
     by_told : (told : Option Contents) → IsDue told (run_on topology script) (end.Done, text)
         → ReadAsFarOf (λ contents. RunNoFurther (contents topology) (contents script)) told s0 s1
-        → GaveOf told verdicts s1.given s2.given
+        → GaveIfTold told verdicts s1.given s2.given
         → ReadAsFarOf (λ contents. JudgeNoFurther (contents topology) (contents script) (contents verdicts)) told s0 s2
     by_told None is one two = tt
     by_told (Some contents) is (n, gave, far) (m, le, more) = (
@@ -206,7 +207,7 @@ far_judged topology script verdicts text s0 s1 s2 (Ok e) same is one two =
     )
 
 further_other : (topology script verdicts : Option Text) (e : End) (given ahead : ℕ) → e ≢ end.Done
-    → RunNoFurther topology script given ahead → FurtherAt e topology script verdicts given ahead
+    → RunNoFurther topology script given ahead → EndNoFurther e topology script verdicts given ahead
 further_other topology script verdicts end.Done given ahead other far = absurd (other refl)
 further_other topology script verdicts end.Differs given ahead other far = far
 further_other topology script verdicts end.Usage given ahead other far = far
@@ -217,7 +218,7 @@ further_other topology script verdicts end.TooLong given ahead other far = far
 
 further_by : (topology script verdicts : Option Text) (due : Option Due) (e : End) (text : Text) (given ahead : ℕ)
     → due ≡ Some (e, text) → e ≢ end.Done → RunNoFurther topology script given ahead
-    → FurtherBy due topology script verdicts given ahead
+    → DueNoFurther due topology script verdicts given ahead
 further_by topology script verdicts due e text given ahead is other far =
     rw is (further_other topology script verdicts e given ahead other far)
 

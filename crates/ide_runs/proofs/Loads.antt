@@ -10,9 +10,9 @@ use Rattle.std.proofs.lemmas.List.{length-take-le, take_all}
 use Rattle.cli_files.specs.Outside.{Contents, Rose, ShelfSeen, SinkSeen}
 use Rattle.ide_types.specs.declared.plan.Plan.{Plan}
 use Rattle.file_runs.specs.Gain.{Text, Gained}
-use Rattle.file_runs.specs.Front.{FrontIn, FrontOf, Gave, GaveAtMost, GaveOf, bytes_of}
-use Rattle.file_runs.specs.Gathering.{GainedAt, WroteEnded, WroteEndedIn, WroteEndedOf, open_line}
-use Rattle.file_runs.specs.Outcome.{Due, EndsOn, Ran}
+use Rattle.file_runs.specs.Front.{FrontIn, FrontIfTold, Gave, GaveAtMost, GaveIfTold, bytes_of}
+use Rattle.file_runs.specs.Gathering.{GainedAt, WroteEnded, WroteEndedIn, WroteEndedIfTold, open_line}
+use Rattle.file_runs.specs.Outcome.{Due, EndsToldOrBlind, Ran}
 use Rattle.file_runs.specs.declared.ends.Fault.TheVariants as fault
 use Rattle.file_runs.specs.declared.front.Unread.TheVariants as unread
 use Rattle.file_runs.specs.declared.ends.End.{End}
@@ -21,9 +21,9 @@ use Rattle.file_runs.specs.declared.ends.Fault.{Fault}
 use Rattle.file_runs.proofs.WholeFiles.{IsDue, SameDue, stopped}
 use Rattle.file_runs.proofs.Joins.{gained_none, joined, some_gained}
 use Rattle.ide_runs.specs.declared.topologies.Loaded.{Loaded}
-use Rattle.ide_runs.specs.SoFar.{WroteBy, WroteByIn, WroteByOf, files_so_far, loaded_so_far, script_given}
+use Rattle.ide_runs.specs.SoFar.{WroteBy, WroteByIn, WroteByIfTold, files_so_far, loaded_so_far, script_given}
 use Rattle.ide_runs.specs.declared.topologies.Loaded.TheVariants.{Sound, Faulty, Long}
-use Rattle.ide_runs.specs.Loading.{GaveAllOf, Loads, LoadedIn, LoadedOf, LoadCut, topology_limit, loaded_within}
+use Rattle.ide_runs.specs.Loading.{GaveAllOf, Loads, LoadedIn, LoadedIfTold, LoadCut, topology_limit, loaded_within}
 use Rattle.ide_runs.specs.Topologies.{loaded_topology}
 use Rattle.ide_runs.specs.Reads.{RanPast}
 use Rattle.ide_runs.specs.Script.{due_of_files}
@@ -44,12 +44,13 @@ front_in long by (Some whole) read l is e = e ∙ ap (loaded_within long by) is 
     (nat_lt topology_limit (length whole)) refl
 
 front_of : {L : Type 0} (long : L) (by : Text → L) (told : Option Contents) (name read : Text) (l : L)
-    → FrontOf told name 1048577 read → l ≡ loaded_within long by read → LoadedOf (loaded_within long by) told name l
+    → FrontIfTold told name 1048577 read → l ≡ loaded_within long by read
+    → LoadedIfTold (loaded_within long by) told name l
 front_of long by None name read l is e = tt
 front_of long by (Some contents) name read l is e = front_in long by (contents name) read l is e
 
 pub loads_front : {L : Type 0} (long : L) (by : Text → L) (told : Option Contents) (name read : Text)
-    (r : Result L Fault) → FrontOf told name 1048577 read → IfOk r (λ l. l ≡ loaded_within long by read)
+    (r : Result L Fault) → FrontIfTold told name 1048577 read → IfOk r (λ l. l ≡ loaded_within long by read)
     → Loads (loaded_within long by) told name r
 loads_front long by told name read (Ok l) is e = front_of long by told name read l is e
 loads_front long by told name read (Err f) is e = tt
@@ -111,7 +112,7 @@ due_in by due None l is = absurd is
 due_in by due (Some bytes) l is = ap (λ x. Some (due x)) (sym is)
 
 pub due_loaded : {L : Type 0} (by : Text → L) (due : L → Due) (told : Option Contents) (name : Text) (l : L)
-    → LoadedOf by told name l → IsDue told (λ contents. option_map (λ t. due (by t)) (contents name)) (due l)
+    → LoadedIfTold by told name l → IsDue told (λ contents. option_map (λ t. due (by t)) (contents name)) (due l)
 due_loaded by due None name l is = tt
 due_loaded by due (Some contents) name l is = due_in by due (contents name) l is
 
@@ -119,7 +120,7 @@ due_loaded by due (Some contents) name l is = due_in by due (contents name) l is
 pub cut_by_load : (told : Option Contents) (due : Contents → Option Due) (name : Text) (s0 s1 : ℕ)
     (write quiet : Type 0) (h : Option Text) (e : Fault)
     → ((contents : Contents) → contents name ≡ None → due contents ≡ None) → LoadCut s0 s1 told name e
-    → EndsOn told due (Rose s0 s1) write quiet (Gained h h) (Err e)
+    → EndsToldOrBlind told due (Rose s0 s1) write quiet (Gained h h) (Err e)
 cut_by_load told due name s0 s1 write quiet h fault.Read lacks c = stopped told due name s0 s1 write quiet h
     unread.Fault
     lacks c
@@ -136,7 +137,7 @@ due_there due (Some bytes) script plan is = rw (← is) refl
 
 -- once a topology is loaded, what is due is the script's
 pub due_behind_load : (due : Plan → Text → Due) (told : Option Contents) (topology script : Text) (plan : Plan)
-    → LoadedOf loaded_topology told topology (Sound plan)
+    → LoadedIfTold loaded_topology told topology (Sound plan)
     → SameDue told (λ contents. option_map (due plan) (contents script))
     (λ contents. due_of_files due (contents topology) (contents script))
 due_behind_load due None topology script plan is = tt
@@ -153,13 +154,14 @@ gave_all_in (Some file) read before now is few gave =
     let P : ℕ → Type 0 = λ n. Gave before n now in
     subst P same gave
 
-gave_all_of : (told : Option Contents) (name read : Text) (before now : ℕ) → FrontOf told name 1048577 read
+gave_all_of : (told : Option Contents) (name read : Text) (before now : ℕ) → FrontIfTold told name 1048577 read
     → length read ≤ 1048576 → Gave before (length read) now → GaveAllOf told name before now
 gave_all_of None name read before now is few gave = tt
 gave_all_of (Some contents) name read before now is few gave = gave_all_in (contents name) read before now is few gave
 
 pub gave_all : {L : Type 0} (long : L) (told : Option Contents) (name read : Text) (r : Result L Fault) (before now : ℕ)
-    → FrontOf told name 1048577 read → Gave before (length read) now → IfOk r (λ l. l ≢ long → length read ≤ 1048576)
+    → FrontIfTold told name 1048577 read → Gave before (length read) now
+    → IfOk r (λ l. l ≢ long → length read ≤ 1048576)
     → IfOk r (λ l. l ≢ long → GaveAllOf told name before now)
 gave_all long told name read (Ok l) before now is gave few = λ other. gave_all_of told name read before now is
     (few other) gave
@@ -176,7 +178,7 @@ NoLineOf text lines (Some contents) before now = NoLineIn (text contents) (lines
 -- in no more bytes than a file has
 pub no_line_in_file : (text lines : Contents → ℕ → Text) (told : Option Contents) (name : Text) (before now : ℕ)
     → ((contents : Contents) (n : ℕ) → n ≤ length (bytes_of (contents name)) → (text contents n ≡ [])
-    × (lines contents n ≡ [])) → GaveOf told name before now → NoLineOf text lines told before now
+    × (lines contents n ≡ [])) → GaveIfTold told name before now → NoLineOf text lines told before now
 no_line_in_file text lines None name before now none gave = tt
 no_line_in_file text lines (Some contents) name before now none (n, le, gave) =
     (n, (none contents n le).0, (none contents n le).1, gave)
@@ -206,7 +208,7 @@ pub no_line_wrote_of : (e : Fault) (text lines : Contents → ℕ → Text) (s0 
 no_line_wrote_of e text lines s0 s1 o0 o1 none gained = by_told s0.contents none
   where
     by_told : (told : Option Contents) → NoLineOf text lines told s0.given s1.given
-        → WroteByOf e text lines told s0 s1 o0 o1
+        → WroteByIfTold e text lines told s0 s1 o0 o1
     by_told None none = tt
     by_told (Some contents) none = no_line_wrote_in e (text contents) (lines contents) s0 s1 o0 o1 none gained
 
@@ -246,7 +248,7 @@ none_so_far text none (Some file) script n le =
     (ap (loaded_so_far text (loaded_topology file)) first ∙ no_line text none (loaded_topology file), first)
 
 pub in_topology : (text : Plan → Text → Text) → IsNoneAtFirst text → (told : Option Contents) (topology script : Text)
-    (before now : ℕ) → GaveOf told topology before now
+    (before now : ℕ) → GaveIfTold told topology before now
     → NoLineOf (λ contents n. files_so_far text (contents topology) (contents script) n)
     (λ contents n. script_given (contents topology) (contents script) n) told before now
 in_topology text none told topology script before now gave =
@@ -262,8 +264,8 @@ pub ended_by : (text : Text → Text) (name : Text) (s0 s1 : ShelfSeen) (o0 o1 :
 ended_by text name s0 s1 o0 o1 (Ok e) wrote = tt
 ended_by text name s0 s1 o0 o1 (Err e) wrote = by_told s0.contents wrote
   where
-    by_told : (told : Option Contents) → WroteEndedOf e text told name s0 s1 o0 o1
-        → WroteByOf e (λ contents n. text (take n (bytes_of (contents name))))
+    by_told : (told : Option Contents) → WroteEndedIfTold e text told name s0 s1 o0 o1
+        → WroteByIfTold e (λ contents n. text (take n (bytes_of (contents name))))
         (λ contents n. take n (bytes_of (contents name))) told s0 s1 o0 o1
     by_told None wrote = tt
     by_told (Some contents) wrote = record {
@@ -304,7 +306,7 @@ run_ended_in due e (Some file) script plan s0 s1 s2 o0 o1 is all wrote =
 
 pub run_ended : (due : Plan → Text → Text) (topology script : Text) (plan : Plan) (s0 s1 s2 : ShelfSeen)
     (o0 o1 : SinkSeen) (r : Result End Fault)
-    → s1.contents ≡ s0.contents → LoadedOf loaded_topology s0.contents topology (Sound plan)
+    → s1.contents ≡ s0.contents → LoadedIfTold loaded_topology s0.contents topology (Sound plan)
     → GaveAllOf s0.contents topology
     s0.given s1.given
     → IfErr r (λ e. WroteEnded e (due plan) script s1 s2 o0 o1)
@@ -312,11 +314,11 @@ pub run_ended : (due : Plan → Text → Text) (topology script : Text) (plan : 
     (λ contents n. script_given (contents topology) (contents script) n) s0 s2 o0 o1)
 run_ended due topology script plan s0 s1 s2 o0 o1 (Ok e) same is all wrote = tt
 run_ended due topology script plan s0 s1 s2 o0 o1 (Err e) same is all wrote = by_told s0.contents is all
-    (subst (λ (told : Option Contents). WroteEndedOf e (due plan) told script s1 s2 o0 o1) same wrote)
+    (subst (λ (told : Option Contents). WroteEndedIfTold e (due plan) told script s1 s2 o0 o1) same wrote)
   where
-    by_told : (told : Option Contents) → LoadedOf loaded_topology told topology (Sound plan)
-        → GaveAllOf told topology s0.given s1.given → WroteEndedOf e (due plan) told script s1 s2 o0 o1
-        → WroteByOf e (λ contents n. files_so_far due (contents topology) (contents script) n)
+    by_told : (told : Option Contents) → LoadedIfTold loaded_topology told topology (Sound plan)
+        → GaveAllOf told topology s0.given s1.given → WroteEndedIfTold e (due plan) told script s1 s2 o0 o1
+        → WroteByIfTold e (λ contents n. files_so_far due (contents topology) (contents script) n)
         (λ contents n. script_given (contents topology) (contents script) n) told s0 s2 o0 o1
     by_told None is all wrote = tt
     by_told (Some contents) is all wrote = run_ended_in due e (contents topology) (contents script) plan s0 s1 s2 o0 o1

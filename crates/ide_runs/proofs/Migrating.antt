@@ -13,7 +13,7 @@ use Rattle.file_runs.specs.declared.ends.End.TheVariants as end
 use Rattle.file_runs.specs.declared.ends.Fault.{Fault}
 use Rattle.file_runs.specs.declared.ends.Fault.TheVariants as fault
 use Rattle.file_runs.specs.declared.front.Unread.{Unread}
-use Rattle.file_runs.specs.Front.{FrontOf, Gave, UnreadCause}
+use Rattle.file_runs.specs.Front.{FrontIfTold, Gave, UnreadCause}
 use Rattle.file_runs.specs.Gain.{Text, Gained}
 use Rattle.file_runs.proofs.WholeFiles.{fault_of, gained_nothing, ran_after, stopped}
 use Rattle.ide_runs.specs.declared.topologies.Loaded.TheVariants.{Sound, Long}
@@ -41,14 +41,14 @@ whole_sound bytes plan true over is = absurd (sound_long plan is)
 whole_sound bytes plan false over is = take_all 1048577 bytes (grind (arith, nat_tests))
 
 front_is : (file : Option Text) (front bytes : Text) → file ≡ Some bytes
-    → FrontOf (Some (λ (name : Text). file)) [] 1048577 front → front ≡ take 1048577 bytes
+    → FrontIfTold (Some (λ (name : Text). file)) [] 1048577 front → front ≡ take 1048577 bytes
 front_is None front bytes is read = absurd cc
 front_is (Some whole) front bytes is read =
     let same : whole ≡ bytes = cc in
     read ∙ ap (take 1048577) same
 
 migrates_file : (contents : Contents) (name front text : Text) (r : Result End Fault)
-    → FrontOf (Some contents) name 1048577 front
+    → FrontIfTold (Some contents) name 1048577 front
     → ((plan : Plan) → loaded_topology front ≡ Sound plan → IsMigrated front text ⊎ ((text ≡ []) × IsFailure r))
     → MigratesFile (Some contents) name text r
 migrates_file contents name front text r read migrates = λ bytes plan is sound.
@@ -57,14 +57,14 @@ migrates_file contents name front text r read migrates = λ bytes plan is sound.
     subst (λ (t : Text). IsMigrated t text ⊎ ((text ≡ []) × IsFailure r)) same
     (migrates plan (ap loaded_topology same ∙ sound))
 
-by_told : (told : Option Contents) (name front text : Text) (r : Result End Fault) → FrontOf told name 1048577 front
+by_told : (told : Option Contents) (name front text : Text) (r : Result End Fault) → FrontIfTold told name 1048577 front
     → ((plan : Plan) → loaded_topology front ≡ Sound plan → IsMigrated front text ⊎ ((text ≡ []) × IsFailure r))
     → MigratesFile told name text r
 by_told None name front text r read migrates = tt
 by_told (Some contents) name front text r read migrates = migrates_file contents name front text r read migrates
 
 pub migrated_file : (name front : Text) (s0 s1 : ShelfSeen) (o0 o1 : SinkSeen) (r : Result End Fault)
-    → FrontOf s0.contents name 1048577 front → s1.faults ≡ s0.faults → WritesMigrated front o0 o1 r
+    → FrontIfTold s0.contents name 1048577 front → s1.faults ≡ s0.faults → WritesMigrated front o0 o1 r
     → MigratedFor name s0 s1 o0 o1 r
 migrated_file name front s0 s1 o0 o1 r read quiet w =
     let text = w.migrated in

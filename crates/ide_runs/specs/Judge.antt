@@ -55,20 +55,20 @@ JudgedPast before now = RanPast before now
 
 -- A run that comes to the end of its script reads all of it, and then no more than the text that is judged; of any
 -- other the text that is judged is not read.
-abbrev pub FurtherAt : End → (topology script verdicts : Option Text) → (given ahead : ℕ) → Type 0
-FurtherAt end.Done topology script verdicts given ahead =
+abbrev pub EndNoFurther : End → (topology script verdicts : Option Text) → (given ahead : ℕ) → Type 0
+EndNoFurther end.Done topology script verdicts given ahead =
     given ≤ length (bytes_of topology) + length (bytes_of script) + length (bytes_of verdicts)
-FurtherAt end.Differs topology script verdicts given ahead = RunNoFurther topology script given ahead
-FurtherAt end.Usage topology script verdicts given ahead = RunNoFurther topology script given ahead
-FurtherAt end.Topology topology script verdicts given ahead = RunNoFurther topology script given ahead
-FurtherAt end.Script topology script verdicts given ahead = RunNoFurther topology script given ahead
-FurtherAt end.NoEvent topology script verdicts given ahead = RunNoFurther topology script given ahead
-FurtherAt end.TooLong topology script verdicts given ahead = RunNoFurther topology script given ahead
+EndNoFurther end.Differs topology script verdicts given ahead = RunNoFurther topology script given ahead
+EndNoFurther end.Usage topology script verdicts given ahead = RunNoFurther topology script given ahead
+EndNoFurther end.Topology topology script verdicts given ahead = RunNoFurther topology script given ahead
+EndNoFurther end.Script topology script verdicts given ahead = RunNoFurther topology script given ahead
+EndNoFurther end.NoEvent topology script verdicts given ahead = RunNoFurther topology script given ahead
+EndNoFurther end.TooLong topology script verdicts given ahead = RunNoFurther topology script given ahead
 
-abbrev pub FurtherBy : Option Due → (topology script verdicts : Option Text) → (given ahead : ℕ) → Type 0
-FurtherBy None topology script verdicts given ahead = RunNoFurther topology script given ahead
-FurtherBy (Some due) topology script verdicts given ahead = FurtherAt due.0 topology script verdicts given ahead
+abbrev pub DueNoFurther : Option Due → (topology script verdicts : Option Text) → (given ahead : ℕ) → Type 0
+DueNoFurther None topology script verdicts given ahead = RunNoFurther topology script given ahead
+DueNoFurther (Some due) topology script verdicts given ahead = EndNoFurther due.0 topology script verdicts given ahead
 
 abbrev pub JudgeNoFurther : (topology script verdicts : Option Text) → (given ahead : ℕ) → Type 0
 JudgeNoFurther topology script verdicts given ahead =
-    FurtherBy (run_due topology script) topology script verdicts given ahead
+    DueNoFurther (run_due topology script) topology script verdicts given ahead

@@ -19,12 +19,12 @@ abbrev pub LoadedIn : {L : Type 0} → (Text → L) → Option Text → L → Ty
 LoadedIn by None l = ⊥
 LoadedIn by (Some bytes) l = l ≡ by bytes
 
-abbrev pub LoadedOf : {L : Type 0} → (Text → L) → Option Contents → Text → L → Type 0
-LoadedOf by None name l = Unit {0}
-LoadedOf by (Some contents) name l = LoadedIn by (contents name) l
+abbrev pub LoadedIfTold : {L : Type 0} → (Text → L) → Option Contents → Text → L → Type 0
+LoadedIfTold by None name l = Unit {0}
+LoadedIfTold by (Some contents) name l = LoadedIn by (contents name) l
 
 abbrev pub Loads : {L : Type 0} → (Text → L) → Option Contents → Text → Result L Fault → Type 0
-Loads by told name (Ok l) = LoadedOf by told name l
+Loads by told name (Ok l) = LoadedIfTold by told name l
 Loads by told name (Err e) = Unit {0}
 
 -- a fault was counted, or the told contents lack the name; want of memory counts nothing

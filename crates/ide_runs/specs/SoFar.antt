@@ -51,12 +51,14 @@ pub record WroteByIn (e : Fault) (text lines : ℕ → Text) (shelf shelf_now : 
   pub short : length (open_line (lines ran)) ≤ line_limit
   pub gained : GainedAt e sink.held sink_now.held (text ran)
 
-abbrev pub WroteByOf : Fault → (text lines : Contents → ℕ → Text) → Option Contents → ShelfSeen → ShelfSeen → SinkSeen
+abbrev pub WroteByIfTold : Fault → (text lines : Contents → ℕ → Text) → Option Contents → ShelfSeen → ShelfSeen
+    → SinkSeen
     → SinkSeen → Type 0
-WroteByOf e text lines None shelf shelf_now sink sink_now = Unit {0}
-WroteByOf e text lines (Some contents) shelf shelf_now sink sink_now = WroteByIn e (text contents) (lines contents)
+WroteByIfTold e text lines None shelf shelf_now sink sink_now = Unit {0}
+WroteByIfTold e text lines (Some contents) shelf shelf_now sink sink_now = WroteByIn e (text contents) (lines contents)
     shelf shelf_now sink sink_now
 
 -- if the shelf tells its contents
 abbrev pub WroteBy : Fault → (text lines : Contents → ℕ → Text) → ShelfSeen → ShelfSeen → SinkSeen → SinkSeen → Type 0
-WroteBy e text lines shelf shelf_now sink sink_now = WroteByOf e text lines shelf.contents shelf shelf_now sink sink_now
+WroteBy e text lines shelf shelf_now sink sink_now = WroteByIfTold e text lines shelf.contents shelf shelf_now sink
+    sink_now

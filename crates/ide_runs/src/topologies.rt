@@ -2,7 +2,7 @@
 
 ghost use Rattle.std.specs.Prelude.{◌≡◌, ◌≢◌, ◌+◌, ◌<◌, ◌≤◌, IfOk, IfErr, length, option_map, []};
 ghost use Rattle.cli_files.specs.Outside.{AsksFor};
-ghost use Rattle.file_runs.specs.Front.{AskedPieces, Gave, GaveAtMost, GaveOf, bytes_of};
+ghost use Rattle.file_runs.specs.Front.{AskedPieces, Gave, GaveAtMost, GaveIfTold, bytes_of};
 ghost use Rattle.file_runs.specs.Gathering.{ReadAsFar};
 ghost use Rattle.file_runs.specs.Outcome.{Ran, RanOn};
 ghost use Rattle.ide_runs.specs.Loading.{GaveAllOf, LoadCause, Loads, topology_limit};
@@ -56,7 +56,7 @@ pub(crate) fn load<S: Shelf>(alloc: Global, shelf: &mut S, name: &str) -> Result
     ensures cause { LoadCause (S.seen shelf.old).faults (S.seen shelf.new).faults (S.seen shelf.old).contents name.now
         result }
     ensures fits { IfOk result HasFitting }
-    ensures within { GaveOf (S.seen shelf.old).contents name.now (S.seen shelf.old).given (S.seen shelf.new).given }
+    ensures within { GaveIfTold (S.seen shelf.old).contents name.now (S.seen shelf.old).given (S.seen shelf.new).given }
     ensures all { IfOk result (λ l. l ≢ Loaded.Long → GaveAllOf (S.seen shelf.old).contents name.now
         (S.seen shelf.old).given (S.seen shelf.new).given) }
     ensures names { AsksFor name.now (S.seen shelf.old).asked (S.seen shelf.new).asked }

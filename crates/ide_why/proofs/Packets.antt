@@ -18,7 +18,7 @@ use Rattle.tlp_layout.specs.declared.head.HeadView.{HeadView}
 use Rattle.spec_interfaces.specs.Cause.{owner_id, owners_link}
 use Rattle.spec_interfaces.specs.Sites.{sites}
 use Rattle.machine_whole.specs.Interfaces.{with_requester}
-use Rattle.spec_links.specs.History.{Arrival}
+use Rattle.spec_links.specs.History.{ArrivedBytes}
 use Rattle.spec_links.specs.Plan.{is_closed}
 use Rattle.spec_links.specs.Ports.{goes_through, port_of}
 use Rattle.machine_operations.specs.{LinkState, find}
@@ -117,7 +117,7 @@ module _ (plan : Plan) (s : WholeLinks) (h : History) (stood : WorldStandsFor (w
         (received_is port p (find plan (state_of_whole plan s) port p.prefix.stream)
         ∙ ap (λ (st : LinkState). received_by plan stood.whole port p (find plan st port p.prefix.stream)) state_is)
 
-    pub arrival_is : (unnamed : List Fact) (o : Option Arrival)
+    pub arrival_is : (unnamed : List Fact) (o : Option ArrivedBytes)
         → arrival_facts plan s unnamed o ≡ arrival_facts_in plan stood.whole unnamed o
     arrival_is unnamed None = refl
     arrival_is unnamed (Some a) =

@@ -14,12 +14,12 @@ use Rattle.sub_stream.specs.Facts.{stream_facts}
 use Rattle.interface_host.specs.declared.facts.InterfaceFacts.{InterfaceFacts}
 use Rattle.interface_host.specs.Facts.{interface_facts}
 use Rattle.interface_host.specs.Views.{HostTdi}
-use Rattle.interface_state.specs.{Tdi, state_code}
+use Rattle.interface_state.specs.{DeviceTdi, state_code}
 use Rattle.key_host.specs.Managers.{named_stream, op_named}
 use Rattle.world.specs.{AreLinks, LinkEnds, WholeLinks, interface_named, place_on_links, port_on, interface_of_ends}
 use Rattle.world.proofs.{closed_at, port_is, end_found, none_found, op_is, unnamed, get_there, IsLocated, located_read}
 use Rattle.ide_why.specs.Facts.{state_of_whole}
-use Rattle.ide_why.specs.Reading.{face_located, face_of, face_read, stream_read, tdi_read}
+use Rattle.ide_why.specs.Reading.{face_located, face_of, face_read, stream_read, device_interface_read}
 
 abbrev named_if : Bool → ℕ → ℕ → Option (ℕ × ℕ)
 named_if b line stream = if b then Some (line, stream) else None
@@ -100,7 +100,7 @@ named_face s number link place is =
 pub face_made : (s : WholeLinks) (number link place state : ℕ) (l : LinkEnds) (facts : InterfaceFacts)
     → interface_named s.links.keeper.interfaces s.links.ends.links number ≡ Some (link, place)
     → slice_get s.links.ends.links link ≡ Some l
-    → IfSome (slice_get l.device.interfaces.interfaces place) (λ (t : Tdi). state ≡ state_code t.state)
+    → IfSome (slice_get l.device.interfaces.interfaces place) (λ (t : DeviceTdi). state ≡ state_code t.state)
     → IfSome (slice_get s.links.keeper.interfaces.interfaces number) (λ (i : HostTdi). facts ≡ interface_facts i)
     → Some (record { number = number; state = state; manager = facts }) ≡ face_read s number
 face_made s number link place state l facts is there state_is facts_are =
@@ -110,7 +110,7 @@ face_made s number link place state l facts is there state_is facts_are =
     (subst (λ (y : LinkEnds). place < length y.device.interfaces.interfaces) same n.within) in
     let i = get_there s.links.keeper.interfaces.interfaces number n.managed in
     let code : state ≡ state_code t.0.state =
-    subst (λ o. IfSome o (λ (t : Tdi). state ≡ state_code t.state)) t.1 state_is in
+    subst (λ o. IfSome o (λ (t : DeviceTdi). state ≡ state_code t.state)) t.1 state_is in
     let kept : facts ≡ interface_facts i.0 =
     subst (λ o. IfSome o (λ (i : HostTdi). facts ≡ interface_facts i)) i.1 facts_are in
     let tdi : interface_of_ends s.links.ends.links (link, place) ≡ Some t.0 =
@@ -118,15 +118,15 @@ face_made s number link place state l facts is there state_is facts_are =
     (λ j. Some (record { number = number; state = code j; manager = kept j }))
     ∙ sym (ap (face_located s number) is ∙ (λ j. face_of number (tdi j) (i.1 j)))
   where
-    interface_at : {t : Tdi} → slice_get s.links.ends.links link ≡ Some l
+    interface_at : {t : DeviceTdi} → slice_get s.links.ends.links link ≡ Some l
         → slice_get l.device.interfaces.interfaces place ≡ Some t
         → interface_of_ends s.links.ends.links (link, place) ≡ Some t
     interface_at there at = rw there at
 
 -- the interface of a number at its device
-pub tdi_made : (s : WholeLinks) (number link place : ℕ) (l : LinkEnds) (t : Tdi)
+pub interface_made : (s : WholeLinks) (number link place : ℕ) (l : LinkEnds) (t : DeviceTdi)
     → interface_named s.links.keeper.interfaces s.links.ends.links number ≡ Some (link, place)
     → slice_get s.links.ends.links link ≡ Some l
-    → slice_get l.device.interfaces.interfaces place ≡ Some t → Some t ≡ tdi_read s number
-tdi_made s number link place l t is there at =
+    → slice_get l.device.interfaces.interfaces place ≡ Some t → Some t ≡ device_interface_read s number
+interface_made s number link place l t is there at =
     sym (ap (option_and_then (interface_of_ends s.links.ends.links)) is ∙ rw there at)

@@ -14,7 +14,7 @@ use Rattle.interface_host.specs.Facts.{interface_facts, reported_in}
 use Rattle.interface_host.specs.Managers.{interface_of_requester}
 use Rattle.interface_host.specs.Views.{HostTdi, Seen, IsUnlocked, IsLocked, IsRunning, IsDoubt, IsBroken, floor_of}
 use Rattle.interface_host.specs.Views.{grant_by, is_requester, view_of}
-use Rattle.interface_state.specs.{Tdi, state_code}
+use Rattle.interface_state.specs.{DeviceTdi, state_code}
 use Rattle.ide_types.specs.declared.view.View.{View}
 use Rattle.why_facts.specs.declared.fact.InterfaceFact.TheVariants as face
 use Rattle.why_facts.specs.declared.fact.Fact.TheVariants as fact
@@ -29,20 +29,21 @@ use Rattle.why_facts.specs.declared.appends.faces.FaceSeen.{FaceSeen}
 use Rattle.why_facts.specs.{face_seen, reported_seen}
 use Rattle.ide_why.specs.Facts.{known_read, shown_read, shown_seen}
 use Rattle.ide_why.specs.Faces.{AreFacesSeen, IsFaceSeen}
-use Rattle.ide_why.specs.Reading.{face_located, face_of, face_read, requester_read, tdi_read}
+use Rattle.ide_why.specs.Reading.{face_located, face_of, face_read, requester_read, device_interface_read}
 
 abbrev is_site_requester : ℕ → ℕ → Site → Bool
 is_site_requester link requester x = (x.link == link) && (x.plan.requester == requester)
 
 -- ---- the lines of an interface that is seen
 
-pub face_is : (draw : ℕ → ℕ → ℕ) (tdis : ℕ → Option Tdi) (y : Site × Face) (f : FaceSeen) → IsFaceSeen draw tdis y f
+pub face_is : (draw : ℕ → ℕ → ℕ) (tdis : ℕ → Option DeviceTdi) (y : Site × Face) (f : FaceSeen)
+    → IsFaceSeen draw tdis y f
     → face_seen f ≡ face_facts y.0 y.1.tdi y.1.managed
 face_is draw tdis y f is =
     (λ i. interface_fact (is.number i) (is.state i) ∷ fact.Interface (face.View (is.view i))
     ∷ fact.Interface (face.Needs (is.needs i)) ∷ bound_facts (is.bound i))
 
-pub known_is : (draw : ℕ → ℕ → ℕ) (tdis : ℕ → Option Tdi) (o : Option (Site × Face)) (f : Option FaceSeen)
+pub known_is : (draw : ℕ → ℕ → ℕ) (tdis : ℕ → Option DeviceTdi) (o : Option (Site × Face)) (f : Option FaceSeen)
     → AreFacesSeen draw tdis o f → known_read f ≡ known_facts o
 known_is draw tdis None None is = refl
 known_is draw tdis None (Some f) is = absurd is
@@ -65,21 +66,21 @@ module _ (plan : Plan) (s : WholeLinks) (links : AreLinks plan s.links.ends s.li
   Placed i x = IsPlaced plan s.links.ends.links s.links.keeper.interfaces stood.whole i x
 
   pub interface_at : (i : ℕ) (x : Site) (p : Placed i x) → slice_get (sites plan) i ≡ Some x
-      → tdi_read s i ≡ Some p.face.tdi
+      → device_interface_read s i ≡ Some p.face.tdi
   interface_at i x p at =
       ap (option_and_then (interface_of_ends s.links.ends.links)) (interface_there plan s.links.ends.links
       s.links.keeper.interfaces s.links.trusted.contents stood.whole i x p stood.is.beside links.fits at)
       ∙ (tdi_there plan s.links.ends.links s.links.keeper.interfaces s.links.trusted.contents stood.whole
       stood.is.beside links.fits links.many i x p
-      ∙ ap (λ (t : Tdi). Some t) p.keeps.tdi_is)
+      ∙ ap (λ (t : DeviceTdi). Some t) p.keeps.tdi_is)
 
   placed_seen : (i : ℕ) (x : Site) (p : Placed i x) → slice_get (sites plan) i ≡ Some x
-      → IsFaceSeen stood.whole.draw (tdi_read s) (x, p.face)
+      → IsFaceSeen stood.whole.draw (device_interface_read s) (x, p.face)
       (record { number = i; state = state_code p.tdi.state; manager = interface_facts p.interface })
   placed_seen i x p at =
       let kept = p.keeps.managed in record {
         number = sym (site_numbered plan i x at);
-        state = ap (λ (t : Tdi). state_code t.state) p.keeps.tdi_is;
+        state = ap (λ (t : DeviceTdi). state_code t.state) p.keeps.tdi_is;
         link = kept.laid_out.link;
         stream = kept.laid_out.stream;
         view = view_is p.interface.seen p.face.managed kept.seen;
@@ -121,28 +122,30 @@ module _ (plan : Plan) (s : WholeLinks) (links : AreLinks plan s.links.ends s.li
       stood.is.beside links.fits links.many i x p j) (p.interface_is j))
 
   pub face_read_is : (i : ℕ)
-      → AreFacesSeen stood.whole.draw (tdi_read s) (find_face (λ x. x.number == i) (sites plan) stood.whole.faces.list)
+      → AreFacesSeen stood.whole.draw (device_interface_read s)
+      (find_face (λ x. x.number == i) (sites plan) stood.whole.faces.list)
       (face_read s i)
   face_read_is i = ⊎_elim here nowhere (cases_lt i (length (sites plan)))
     where
-      here : i < length (sites plan) → AreFacesSeen stood.whole.draw (tdi_read s)
+      here : i < length (sites plan) → AreFacesSeen stood.whole.draw (device_interface_read s)
           (find_face (λ x. x.number == i) (sites plan) stood.whole.faces.list)
           (face_read s i)
       here lt =
           let x = get_there (sites plan) i lt in
           let p = stood.is.beside.placed i x.0 x.1 in
-          subst (λ o. AreFacesSeen stood.whole.draw (tdi_read s) o (face_read s i))
+          subst (λ o. AreFacesSeen stood.whole.draw (device_interface_read s) o (face_read s i))
           (sym (face_found plan stood.whole.faces.list i x.0 p.face x.1 p.face_is))
-          (subst (λ f. AreFacesSeen stood.whole.draw (tdi_read s) (Some (x.0, p.face)) f) (sym (face_there i x.0 p x.1))
+          (subst (λ f. AreFacesSeen stood.whole.draw (device_interface_read s) (Some (x.0, p.face)) f)
+          (sym (face_there i x.0 p x.1))
           (placed_seen i x.0 p x.1))
 
-      nowhere : length (sites plan) ≤ i → AreFacesSeen stood.whole.draw (tdi_read s)
+      nowhere : length (sites plan) ≤ i → AreFacesSeen stood.whole.draw (device_interface_read s)
           (find_face (λ x. x.number == i) (sites plan) stood.whole.faces.list)
           (face_read s i)
       nowhere le =
-          subst (λ o. AreFacesSeen stood.whole.draw (tdi_read s) o (face_read s i))
+          subst (λ o. AreFacesSeen stood.whole.draw (device_interface_read s) o (face_read s i))
           (sym (face_absent plan stood.whole.faces.list i le))
-          (subst (λ f. AreFacesSeen stood.whole.draw (tdi_read s) None f)
+          (subst (λ f. AreFacesSeen stood.whole.draw (device_interface_read s) None f)
           (sym (ap (face_located s i) (interface_absent plan s.links.ends.links
           s.links.keeper.interfaces s.links.trusted.contents stood.whole i stood.is.beside le))) tt)
 
@@ -238,37 +241,40 @@ module _ (plan : Plan) (s : WholeLinks) (links : AreLinks plan s.links.ends s.li
           (λ not_so. not_so) cases
 
   pub requester_read_is : (link requester : ℕ)
-      → AreFacesSeen stood.whole.draw (tdi_read s) (with_requester plan stood.whole.faces link requester)
+      → AreFacesSeen stood.whole.draw (device_interface_read s) (with_requester plan stood.whole.faces link requester)
       (requester_read s link requester)
   requester_read_is link requester =
       ⊎_elim here nowhere (site_or_none (is_site_requester link requester) (sites plan))
     where
       here : IsSomeSite (is_site_requester link requester) (sites plan)
-          → AreFacesSeen stood.whole.draw (tdi_read s) (with_requester plan stood.whole.faces link requester)
+          → AreFacesSeen stood.whole.draw (device_interface_read s)
+          (with_requester plan stood.whole.faces link requester)
           (requester_read s link requester)
       here t =
           let p = stood.is.beside.placed t.place t.site t.site_is in
-          subst (λ o. AreFacesSeen stood.whole.draw (tdi_read s) o (requester_read s link requester))
+          subst (λ o. AreFacesSeen stood.whole.draw (device_interface_read s) o (requester_read s link requester))
           (sym (requester_found plan s.links.ends.links s.links.keeper.interfaces s.links.trusted.contents stood.whole
           stood.is.beside
           links.fits links.many link requester t.place t.site p t.site_is t.passes))
-          (subst (λ f. AreFacesSeen stood.whole.draw (tdi_read s) (Some (t.site, p.face)) f)
+          (subst (λ f. AreFacesSeen stood.whole.draw (device_interface_read s) (Some (t.site, p.face)) f)
           (sym (ap (option_and_then (face_read s)) (reader_known link requester t.place t.site t.site_is t.passes)
           ∙ face_there t.place t.site p t.site_is))
           (placed_seen t.place t.site p t.site_is))
 
       nowhere : ((k : ℕ) (y : Site) → slice_get (sites plan) k ≡ Some y → is_site_requester link requester y ≡ false)
-          → AreFacesSeen stood.whole.draw (tdi_read s) (with_requester plan stood.whole.faces link requester)
+          → AreFacesSeen stood.whole.draw (device_interface_read s)
+          (with_requester plan stood.whole.faces link requester)
           (requester_read s link requester)
       nowhere fails =
-          subst (λ o. AreFacesSeen stood.whole.draw (tdi_read s) o (requester_read s link requester))
+          subst (λ o. AreFacesSeen stood.whole.draw (device_interface_read s) o (requester_read s link requester))
           (sym (requester_nowhere plan s.links.ends.links s.links.keeper.interfaces s.links.trusted.contents stood.whole
           stood.is.beside
           links.fits links.many link requester fails))
-          (subst (λ f. AreFacesSeen stood.whole.draw (tdi_read s) None f)
+          (subst (λ f. AreFacesSeen stood.whole.draw (device_interface_read s) None f)
           (sym (ap (option_and_then (face_read s)) (reader_unknown link requester fails))) tt)
 
   pub known : (link requester : ℕ) → known_read (requester_read s link requester) ≡ known_facts
       (with_requester plan stood.whole.faces link requester)
-  known link requester = known_is stood.whole.draw (tdi_read s) (with_requester plan stood.whole.faces link requester)
+  known link requester = known_is stood.whole.draw (device_interface_read s)
+      (with_requester plan stood.whole.faces link requester)
       (requester_read s link requester) (requester_read_is link requester)

@@ -14,7 +14,7 @@ use Rattle.machine_whole.specs.Interfaces.{Face, asked_state_of_face, find_face,
 use Rattle.spec_interfaces.specs.Sites.{Site, sites}
 use Rattle.spec_interfaces.specs.Peers.{has_peer, live_by_id}
 use Rattle.spec_interfaces.specs.Views.{number_in, peer_of}
-use Rattle.interface_state.specs.{Tdi}
+use Rattle.interface_state.specs.{DeviceTdi}
 use Rattle.script_events.specs.declared.event.InterfaceEvent.{InterfaceEvent}
 use Rattle.script_events.specs.declared.event.InterfaceEvent.TheVariants as ie
 use Rattle.spec_links.specs.{HopTlp, has_hop, leaving_end}
@@ -40,7 +40,7 @@ use Rattle.why_facts.specs.declared.appends.faces.FaceSeen.{FaceSeen}
 use Rattle.ide_why.specs.Facts.{answer_read, asked_by_face, asked_by_number, besides_read, bind_read, completion_read}
 use Rattle.ide_why.specs.Facts.{first_read, forward_read, oldest_read, reader_read, state_of_whole}
 use Rattle.ide_why.specs.Faces.{AreFacesSeen, IsFaceSeen}
-use Rattle.ide_why.specs.Reading.{bindings_read, face_read, requester_read, stream_read, tdi_read}
+use Rattle.ide_why.specs.Reading.{bindings_read, face_read, requester_read, stream_read, device_interface_read}
 use Rattle.ide_why.proofs.SeenFaces.{face_is, face_read_is, known, requester_read_is}
 use Rattle.ide_why.proofs.SeenStatuses.{stand}
 use Rattle.ide_why.proofs.Packets.{sending_is, state_is}
@@ -54,9 +54,9 @@ module _ (plan : Plan) (s : WholeLinks) (links : AreLinks plan s.links.ends s.li
 
     -- ---- events on interfaces
 
-    bindings_are : (y : Site × Face) (f : FaceSeen) → IsFaceSeen stood.whole.draw (tdi_read s) y f
+    bindings_are : (y : Site × Face) (f : FaceSeen) → IsFaceSeen stood.whole.draw (device_interface_read s) y f
         → bindings_read s f.number ≡ y.1.tdi.bindings
-    bindings_are y f seen = ap (λ (o : Option Tdi). option_map_or (λ (t : Tdi). t.bindings) o []) seen.tdi
+    bindings_are y f seen = ap (λ (o : Option DeviceTdi). option_map_or (λ (t : DeviceTdi). t.bindings) o []) seen.tdi
 
     -- of a stream between devices that the device has
     peer_draw_is : (link line stream : ℕ) → has_peer plan.peers link line stream ≡ true
@@ -73,7 +73,8 @@ module _ (plan : Plan) (s : WholeLinks) (links : AreLinks plan s.links.ends s.li
         sym (live_is plan s.links.ends s.links.keeper.keys s.links.packets.packets links link stream)
         ∙ ap (λ (st : LinkState). live_by_id (live_draw_at_end plan st) plan.peers link stream) st_is
 
-    bind_is : (y : Site × Face) (f : FaceSeen) (line stream : ℕ) → IsFaceSeen stood.whole.draw (tdi_read s) y f
+    bind_is : (y : Site × Face) (f : FaceSeen) (line stream : ℕ)
+        → IsFaceSeen stood.whole.draw (device_interface_read s) y f
         → has_peer plan.peers y.0.link line stream ≡ true
         → bind_read plan s f line stream
         ≡ bind_facts (asked_state_of_face plan (whole_streams plan stood.whole) stood.whole.faces.used y.0 y.1) line
@@ -85,7 +86,7 @@ module _ (plan : Plan) (s : WholeLinks) (links : AreLinks plan s.links.ends s.li
 
     -- if the device has the stream
     if_peer : (y : Site × Face) (f : FaceSeen) (line stream : ℕ) (mine due : List Fact)
-        → IsFaceSeen stood.whole.draw (tdi_read s) y f
+        → IsFaceSeen stood.whole.draw (device_interface_read s) y f
         → (has_peer plan.peers y.0.link line stream ≡ true → mine ≡ due)
         → (if has_peer plan.peers f.manager.link line stream then mine else [])
         ≡ (if has_peer plan.peers y.0.link line stream then due else [])
@@ -97,7 +98,8 @@ module _ (plan : Plan) (s : WholeLinks) (links : AreLinks plan s.links.ends s.li
         by true same = same refl
         by false same = refl
 
-    besides_are : (e : InterfaceEvent) (y : Site × Face) (f : FaceSeen) → IsFaceSeen stood.whole.draw (tdi_read s) y f
+    besides_are : (e : InterfaceEvent) (y : Site × Face) (f : FaceSeen)
+        → IsFaceSeen stood.whole.draw (device_interface_read s) y f
         → besides_read plan s f e
         ≡ asked_besides plan y.0 (asked_state_of_face plan (whole_streams plan stood.whole) stood.whole.faces.used y.0
         y.1) e
@@ -121,13 +123,13 @@ module _ (plan : Plan) (s : WholeLinks) (links : AreLinks plan s.links.ends s.li
     besides_are (ie.Memory at len) y f seen = refl
 
     face_asked : (e : InterfaceEvent) (o : Option (Site × Face)) (f : Option FaceSeen)
-        → AreFacesSeen stood.whole.draw (tdi_read s) o f
+        → AreFacesSeen stood.whole.draw (device_interface_read s) o f
         → asked_by_face plan s e f ≡ asked_face plan stood.whole e o
     face_asked e None None are = refl
     face_asked e None (Some f) are = absurd are
     face_asked e (Some y) None are = absurd are
     face_asked e (Some y) (Some f) are =
-        (λ j. face_is stood.whole.draw (tdi_read s) y f are j ++ are.reported j ++ besides_are e y f are j)
+        (λ j. face_is stood.whole.draw (device_interface_read s) y f are j ++ are.reported j ++ besides_are e y f are j)
 
     number_asked : (e : InterfaceEvent) (n : Option ℕ) → asked_by_number plan s e n
         ≡ asked_facts_in plan stood.whole e n
@@ -149,13 +151,14 @@ module _ (plan : Plan) (s : WholeLinks) (links : AreLinks plan s.links.ends s.li
     completion_is link stream (Some x) =
         ap (λ (fs : List Fact). state_fact (stream_status x) ∷ fs) (sender_is (is_closed plan link stream) x Cpl)
 
-    reader_is : (o : Option (Site × Face)) (f : Option FaceSeen) → AreFacesSeen stood.whole.draw (tdi_read s) o f
+    reader_is : (o : Option (Site × Face)) (f : Option FaceSeen)
+        → AreFacesSeen stood.whole.draw (device_interface_read s) o f
         → reader_read plan s f ≡ reader_in plan stood.whole o
     reader_is None None are = refl
     reader_is None (Some f) are = absurd are
     reader_is (Some y) None are = absurd are
     reader_is (Some y) (Some f) are =
-        (λ j. face_is stood.whole.draw (tdi_read s) y f are j
+        (λ j. face_is stood.whole.draw (device_interface_read s) y f are j
         ++ completion_read (stream_read plan s (host_port (are.link j)) (are.stream j)))
         ∙ ap (λ (fs : List Fact). face_facts y.0 y.1.tdi y.1.managed ++ fs)
         (completion_is y.0.link y.0.plan.stream

@@ -3,14 +3,14 @@ use Rattle.std.specs.Prelude.{ℕ, ◌≡◌, Option, Some, None}
 use Rattle.machine_whole.specs.Interfaces.{Face}
 use Rattle.spec_interfaces.specs.Sites.{Site}
 use Rattle.spec_interfaces.specs.Views.{bound_if}
-use Rattle.interface_state.specs.{Tdi, state_code}
+use Rattle.interface_state.specs.{DeviceTdi, state_code}
 use Rattle.why_facts.specs.Forms.{reported_facts}
 use Rattle.why_facts.specs.declared.appends.faces.FaceSeen.{FaceSeen}
 use Rattle.why_facts.specs.{grant_seen, reported_seen}
 
 -- it is this interface, of which the machine keeps this; `draw` is that of its stream, and `tdis` are the interfaces at
 -- devices by their numbers
-pub record IsFaceSeen (draw : ℕ → ℕ → ℕ) (tdis : ℕ → Option Tdi) (y : Site × Face) (f : FaceSeen) : Type 0 where
+pub record IsFaceSeen (draw : ℕ → ℕ → ℕ) (tdis : ℕ → Option DeviceTdi) (y : Site × Face) (f : FaceSeen) : Type 0 where
   pub number : f.number ≡ y.0.number
   pub state : f.state ≡ state_code y.1.tdi.state
   pub link : f.manager.link ≡ y.0.link
@@ -24,7 +24,7 @@ pub record IsFaceSeen (draw : ℕ → ℕ → ℕ) (tdis : ℕ → Option Tdi) (
   pub reported : reported_seen f.manager.reported ≡ reported_facts y.1.managed.view y.1.managed.reported
 
 -- the interface that is looked for, or none
-abbrev pub AreFacesSeen : (ℕ → ℕ → ℕ) → (ℕ → Option Tdi) → Option (Site × Face) → Option FaceSeen → Type 0
+abbrev pub AreFacesSeen : (ℕ → ℕ → ℕ) → (ℕ → Option DeviceTdi) → Option (Site × Face) → Option FaceSeen → Type 0
 AreFacesSeen draw tdis None None = Unit {0}
 AreFacesSeen draw tdis (Some y) (Some f) = IsFaceSeen draw tdis y f
 AreFacesSeen draw tdis _ _ = ⊥

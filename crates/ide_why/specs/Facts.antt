@@ -18,7 +18,7 @@ use Rattle.tlp_layout.specs.Class.{class_of}
 use Rattle.tlp_layout.specs.Tlp.{header}
 use Rattle.tlp_layout.specs.declared.head.HeadView.{HeadView}
 use Rattle.trusted_memory.specs.declared.queue.WaitingRead.{WaitingRead}
-use Rattle.interface_state.specs.{Tdi}
+use Rattle.interface_state.specs.{DeviceTdi}
 use Rattle.spec_interfaces.specs.Cause.{owners_link}
 use Rattle.spec_interfaces.specs.Peers.{has_peer}
 use Rattle.spec_interfaces.specs.Views.{number_in, peer_of}
@@ -32,7 +32,7 @@ use Rattle.script_events.specs.declared.event.AccessEvent.TheVariants as ae
 use Rattle.script_events.specs.declared.event.InterfaceEvent.{InterfaceEvent}
 use Rattle.script_events.specs.declared.event.InterfaceEvent.TheVariants as ie
 use Rattle.spec_links.specs.{HopTlp, has_hop, leaving_end}
-use Rattle.spec_links.specs.History.{Arrival}
+use Rattle.spec_links.specs.History.{ArrivedBytes}
 use Rattle.spec_links.specs.Plan.{has_link, streams_of}
 use Rattle.spec_links.specs.Ports.{goes_through, may_send, outgoing_at, port_of, sealing_end}
 use Rattle.machine_operations.specs.{LinkState, find_op, machine_status}
@@ -55,7 +55,7 @@ use Rattle.why_facts.specs.{face_seen, is_live_seen, key_place, open_seen, recei
 use Rattle.why_facts.specs.{sender_seen, senders_seen, set_seen}
 use Rattle.ide_why.specs.Places.{refusing_on}
 use Rattle.ide_why.specs.Reading.{bindings_read, face_read, held_read, owner_face, requester_read, statuses_read}
-use Rattle.ide_why.specs.Reading.{stream_read, tdi_read}
+use Rattle.ide_why.specs.Reading.{stream_read, device_interface_read}
 
 abbrev pub state_of_whole : Plan → WholeLinks → LinkState
 state_of_whole plan s = links_state plan s.links
@@ -122,7 +122,7 @@ met_facts plan s end (Ok (IdePacket p)) =
     ∷ received_read plan s end (held_read plan s end p.prefix.stream p.prefix.sub p.prefix.k) p
     (stream_read plan s end p.prefix.stream)
 
-abbrev pub arrival_facts : Plan → WholeLinks → List Fact → Option Arrival → List Fact
+abbrev pub arrival_facts : Plan → WholeLinks → List Fact → Option ArrivedBytes → List Fact
 arrival_facts plan s unnamed None = unnamed
 arrival_facts plan s unnamed (Some a) =
     if goes_through plan a.port a.bytes then at_port plan a.port ∷ [] else met_facts plan s a.port (cut_of a.bytes)
@@ -254,12 +254,12 @@ forward_read plan s link d =
 
 -- ---- the memory of interfaces
 
-abbrev pub shown_seen : ℕ → ℕ → Option Tdi → List Fact
+abbrev pub shown_seen : ℕ → ℕ → Option DeviceTdi → List Fact
 shown_seen number bar None = []
 shown_seen number bar (Some t) = shown_facts number t bar
 
 abbrev pub shown_read : WholeLinks → ℕ → ℕ → List Fact
-shown_read s number bar = shown_seen number bar (tdi_read s number)
+shown_read s number bar = shown_seen number bar (device_interface_read s number)
 
 -- ---- resets
 

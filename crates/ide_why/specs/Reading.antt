@@ -16,7 +16,7 @@ use Rattle.sub_stream.specs.Facts.{stream_facts}
 use Rattle.interface_host.specs.Facts.{interface_facts}
 use Rattle.interface_host.specs.Managers.{interface_of_requester}
 use Rattle.interface_host.specs.Views.{HostTdi}
-use Rattle.interface_state.specs.{Tdi, state_code}
+use Rattle.interface_state.specs.{DeviceTdi, state_code}
 use Rattle.ide_types.specs.declared.binding.Binding.{Binding}
 use Rattle.world.specs.{WholeLinks, interface_named, links_state, statuses_of_ends, interface_of_ends}
 use Rattle.why_facts.specs.declared.appends.faces.FaceSeen.{FaceSeen}
@@ -27,7 +27,7 @@ stream_read plan s end stream =
     option_map (stream_facts (is_closed plan end.line stream)) (find plan (links_state plan s.links) end stream)
 
 -- an interface, by its number, at this device and at the manager
-abbrev pub face_of : ℕ → Option Tdi → Option HostTdi → Option FaceSeen
+abbrev pub face_of : ℕ → Option DeviceTdi → Option HostTdi → Option FaceSeen
 face_of number (Some t) (Some i) =
     Some (record { number = number; state = state_code t.state; manager = interface_facts i })
 face_of number _ _ = None
@@ -51,13 +51,13 @@ abbrev pub owner_face : WholeLinks → ℕ → HeadView → Option FaceSeen
 owner_face s link head = option_and_then (requester_read s link) (owner_id head)
 
 -- an interface of a number at its device
-abbrev pub tdi_read : WholeLinks → ℕ → Option Tdi
-tdi_read s number = option_and_then (interface_of_ends s.links.ends.links)
+abbrev pub device_interface_read : WholeLinks → ℕ → Option DeviceTdi
+device_interface_read s number = option_and_then (interface_of_ends s.links.ends.links)
     (interface_named s.links.keeper.interfaces s.links.ends.links number)
 
 -- the streams between devices that it is bound to
 abbrev pub bindings_read : WholeLinks → ℕ → List Binding
-bindings_read s number = option_map_or (λ (t : Tdi). t.bindings) (tdi_read s number) []
+bindings_read s number = option_map_or (λ (t : DeviceTdi). t.bindings) (device_interface_read s number) []
 
 -- how the interfaces of a link's device stand
 abbrev pub statuses_read : WholeLinks → ℕ → List InterfaceStatus

@@ -9,7 +9,7 @@ ghost use Rattle.machine_whole.specs.Machine.{op_or_idle};
 ghost use Rattle.why_facts.specs.Forms.{manager_state, takes_facts};
 ghost use Rattle.world.specs.{IsWorld};
 ghost use Rattle.ide_why.specs.Facts.{bind_read, shown_read, state_of_whole};
-ghost use Rattle.ide_why.specs.Reading.{bindings_read, tdi_read};
+ghost use Rattle.ide_why.specs.Reading.{bindings_read, device_interface_read};
 
 use crate::reader::Reader;
 use ide_types::{FIRST_PEER_LINE, OutOfMemory};
@@ -23,7 +23,7 @@ impl Reader<'_> {
     // The interface of a number as its device keeps it; `None` if there is none.
     fn device(&self, number: u64) -> Option<&Interface>
         requires { IsWorld self.now.plan.now self.now.links.now }
-        ensures { option_map (λ i. i.now) result ≡ tdi_read self.now.links.now number }
+        ensures { option_map (λ i. i.now) result ≡ device_interface_read self.now.links.now number }
     {
         match self.links.links.interface(number) {
             None => None,

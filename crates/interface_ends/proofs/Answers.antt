@@ -7,16 +7,17 @@ use Rattle.tdisp_codec.specs.declared.request.RequestView.TheVariants.{GetDevice
 use Rattle.tdisp_codec.specs.declared.request.RequestView.TheVariants.{GetDeviceInterfaceState, StartInterface}
 use Rattle.tdisp_codec.specs.declared.request.RequestView.TheVariants.{StopInterface, BindP2p, UnbindP2p}
 use Rattle.tdisp_codec.specs.Replies.{reply_spelling}
-use Rattle.interface_state.specs.Machine.{Tdi, lock_answer}
+use Rattle.interface_state.specs.Machine.{DeviceTdi, lock_answer}
 use Rattle.interface_ends.specs.declared.said.StreamSaid.{StreamSaid}
 use Rattle.interface_ends.specs.Replies.{DeviceTdis, next_nonce, interface_call, interface_called, interface_reply}
 use Rattle.interface_ends.specs.Replies.{takes_nonce, used_after, interfaces_after_call}
 
 -- a lock that is accepted had a nonce
-given_some : (tdi : Tdi) (flags offset : ℕ) (secure : Bool) → is_ok (lock_answer tdi flags offset secure None) ≡ false
+given_some : (tdi : DeviceTdi) (flags offset : ℕ) (secure : Bool) → is_ok (lock_answer tdi flags offset secure None)
+    ≡ false
 given_some tdi flags offset secure = grind arith
 
-pub taken_some : (tdi : Tdi) (request : RequestView) (said : StreamSaid) (drawn : Option (List ℕ))
+pub taken_some : (tdi : DeviceTdi) (request : RequestView) (said : StreamSaid) (drawn : Option (List ℕ))
     → takes_nonce tdi request said drawn ≡ true → IsSome drawn
 taken_some tdi request said (Some nonce) e = refl
 taken_some tdi (LockInterface function flags stream offset mask) said None e =
@@ -31,7 +32,7 @@ taken_some tdi (StopInterface function) said None e = absurd cc
 taken_some tdi (BindP2p function stream) said None e = absurd cc
 taken_some tdi (UnbindP2p function stream) said None e = absurd cc
 
-pub reply_now : (d : DeviceTdis) (place : ℕ) (tdi : Tdi) (request : RequestView) (said : StreamSaid)
+pub reply_now : (d : DeviceTdis) (place : ℕ) (tdi : DeviceTdi) (request : RequestView) (said : StreamSaid)
     (drawn : Option (List ℕ)) (before after : List ℕ)
     → slice_get d.interfaces place ≡ Some tdi → drawn ≡ next_nonce d → after ≡ before
     ++ reply_spelling (interface_reply tdi request said drawn)
@@ -39,8 +40,9 @@ pub reply_now : (d : DeviceTdis) (place : ℕ) (tdi : Tdi) (request : RequestVie
     (λ t. after ≡ before ++ reply_spelling (interface_reply t request said (next_nonce d)))
 reply_now d place tdi request said drawn before after is next reply = rw (is, ← next) reply
 
-pub device_now : (d : DeviceTdis) (place : ℕ) (tdi new : Tdi) (request : RequestView) (said : StreamSaid) (takes : Bool)
-    (drawn : Option (List ℕ)) (interfaces : List Tdi) (nonces : List (List ℕ)) (used : ℕ)
+pub device_now : (d : DeviceTdis) (place : ℕ) (tdi new : DeviceTdi) (request : RequestView) (said : StreamSaid)
+    (takes : Bool)
+    (drawn : Option (List ℕ)) (interfaces : List DeviceTdi) (nonces : List (List ℕ)) (used : ℕ)
     → slice_get d.interfaces place ≡ Some tdi → drawn ≡ next_nonce d → new
     ≡ interface_called tdi (interface_call request said drawn) → takes ≡ takes_nonce tdi request said drawn
     → interfaces ≡ d.interfaces → nonces ≡ d.nonces → used ≡ used_after takes d.used

@@ -6,7 +6,7 @@ use Rattle.script_events.specs.declared.event.Lost.{Lost}
 use Rattle.tdisp_codec.specs.Requests.{request_spelling}
 use Rattle.tdisp_codec.specs.Replies.{reply_reading}
 use Rattle.interface_host.specs.declared.operation.InterfaceOutcome.{InterfaceOutcome}
-use Rattle.interface_host.specs.Judging.{Judged, interface_reply_judged}
+use Rattle.interface_host.specs.Judging.{JudgedAnswer, interface_reply_judged}
 use Rattle.interface_host.specs.Managers.{InterfaceManagerView, CurrentInterface, current_exchange, interface_request}
 use Rattle.interface_host.specs.Managers.{outcome_by, taken_interface_manager}
 use Rattle.interface_ends.specs.declared.said.StreamSaid.{StreamSaid}
@@ -20,11 +20,11 @@ pub some_map : {A : Type 0} {P Q : A → Type 0} (o : Option A) → ((a : A) →
 some_map None f p = tt
 some_map (Some a) f p = f a p
 
-abbrev judged_bytes : InterfaceManagerView → CurrentInterface → List ℕ → Judged
+abbrev judged_bytes : InterfaceManagerView → CurrentInterface → List ℕ → JudgedAnswer
 judged_bytes m c bytes = interface_reply_judged c.asking.step c.interface.requester m.portion (length m.read.bytes)
     (reply_reading bytes)
 
-abbrev ended_by : InterfaceManagerView → CurrentInterface → DeviceTdis → Option Lost → Judged → DeviceTdis → Ended
+abbrev ended_by : InterfaceManagerView → CurrentInterface → DeviceTdis → Option Lost → JudgedAnswer → DeviceTdis → Ended
 ended_by m c d l j after = record {
   outcome = outcome_by m c (judgment_if_carried l j);
   manager = taken_interface_manager m c (judgment_if_carried l j);

@@ -7,10 +7,10 @@ use Rattle.spec_keys.proofs.Tests.{le-true, same-true, neither-true, false-le}
 use Rattle.interface_state.specs.declared.error_codes.ErrorCode.TheVariants.{InvalidRequest}
 use Rattle.interface_state.specs.declared.states.Lock.{Lock}
 use Rattle.interface_state.specs.Kept.{kept_report}
-use Rattle.interface_state.specs.Machine.{Tdi, lock_of, error_code, portion_of, is_answered}
+use Rattle.interface_state.specs.Machine.{DeviceTdi, lock_of, error_code, portion_of, is_answered}
 use Rattle.interface_host.specs.declared.step.Step.{Step}
 use Rattle.interface_host.specs.declared.step.Step.TheVariants as step
-use Rattle.interface_host.specs.Judging.{Judged, if_same, is_portion, judged_nonce, portion_in, start_in, bind_in}
+use Rattle.interface_host.specs.Judging.{JudgedAnswer, if_same, is_portion, judged_nonce, portion_in, start_in, bind_in}
 use Rattle.interface_host.specs.Judging.{unbind_in, step_judged}
 use Rattle.interface_host.specs.Views.{HostTdi, step_request}
 use Rattle.interface_ends.specs.declared.said.StreamSaid.{StreamSaid}
@@ -20,7 +20,7 @@ use Rattle.interface_ends.specs.Exchanges.{nonce_due, portion_due, start_judged,
 use Rattle.interface_ends.specs.Exchanges.{IsReport, Meets}
 
 -- a reply that gives back the function ID
-same_function : (f : ℕ) (j : Judged) → if_same f f j ≡ j
+same_function : (f : ℕ) (j : JudgedAnswer) → if_same f f j ≡ j
 same_function f j = rw (same-true f) refl
 
 lock_read : (f : ℕ) (answer : Result (List ℕ) ℕ) → judged_nonce f (lock_reply f answer) ≡ nonce_due answer
@@ -78,7 +78,7 @@ report_read : (f : ℕ) (report : Option (List ℕ)) (offset size : ℕ) → IfS
 report_read f None offset size is some = refl
 report_read f (Some report) offset size is some = part_read f report offset size _ is some refl
 
-kept_read : (f : ℕ) (tdi : Tdi) (lock : Option Lock) (offset size : ℕ)
+kept_read : (f : ℕ) (tdi : DeviceTdi) (lock : Option Lock) (offset size : ℕ)
     → IfSome lock (λ l. IsReport (kept_report tdi.plan l)) → 1 ≤ size
     → portion_in size offset f (portion_reply f (portion_of (option_map (kept_report tdi.plan) lock) offset size))
     ≡ portion_due (portion_of (option_map (kept_report tdi.plan) lock) offset size)

@@ -14,7 +14,8 @@ use Rattle.tdisp_codec.specs.Replies as reply
 use Rattle.interface_state.specs.declared.error_codes.ErrorCode.{ErrorCode}
 use Rattle.interface_state.specs.declared.states.TdiState.{TdiState}
 use Rattle.interface_state.specs.declared.states.TdiState.TheVariants.{ConfigUnlocked, ConfigLocked, Run, Error}
-use Rattle.interface_state.specs.Machine.{Tdi, with_state, new_lock, interface_after_lock, lock_answer, start_answer}
+use Rattle.interface_state.specs.Machine.{DeviceTdi, with_state, new_lock, interface_after_lock, lock_answer}
+use Rattle.interface_state.specs.Machine.{start_answer}
 use Rattle.interface_state.specs.Machine.{after_start}
 use Rattle.interface_state.specs.Machine.{bind_answer, is_answered, interface_after_bind, unbind_answer, unbound_with}
 use Rattle.interface_state.proofs.Bound.{entered_same}
@@ -28,14 +29,14 @@ use Rattle.interface_ends.specs.Laws.{ErrorsChangeNothing}
 
 -- ---- the interface that is meant
 
-at_place : (xs : List Tdi) (p : ℕ) (t : Option Tdi) (n : NamedTdi) → slice_get xs p ≡ t
+at_place : (xs : List DeviceTdi) (p : ℕ) (t : Option DeviceTdi) (n : NamedTdi) → slice_get xs p ≡ t
     → named_interface_if_there p t ≡ Some n → slice_get xs n.place ≡ Some n.tdi
 at_place xs p None n g e = absurd cc
 at_place xs p (Some t) n g e =
     let same : (let k : NamedTdi = record { place = p; tdi = t } in k) ≡ n = cc in
     subst (λ (k : NamedTdi). slice_get xs k.place ≡ Some k.tdi) same g
 
-pub in_list : (xs : List Tdi) (place : Option ℕ) (n : NamedTdi) → named_interface_in xs place ≡ Some n
+pub in_list : (xs : List DeviceTdi) (place : Option ℕ) (n : NamedTdi) → named_interface_in xs place ≡ Some n
     → slice_get xs n.place ≡ Some n.tdi
 in_list xs None n e = absurd cc
 in_list xs (Some p) n e = at_place xs p (slice_get xs p) n refl e
@@ -43,11 +44,11 @@ in_list xs (Some p) n e = at_place xs p (slice_get xs p) n refl e
 -- ---- requests that are refused
 
 -- what is there after a request: the interface, and whether a nonce was given
-record Unchanged (tdi : Tdi) (request : RequestView) (said : StreamSaid) (drawn : Option (List ℕ)) : Type 0 where
+record Unchanged (tdi : DeviceTdi) (request : RequestView) (said : StreamSaid) (drawn : Option (List ℕ)) : Type 0 where
   same : interface_called tdi (interface_call request said drawn) ≡ tdi
   kept : takes_nonce tdi request said drawn ≡ false
 
-lock_same : (tdi : Tdi) (function flags stream offset mask f code value : ℕ) (said : StreamSaid)
+lock_same : (tdi : DeviceTdi) (function flags stream offset mask f code value : ℕ) (said : StreamSaid)
     (drawn : Option (List ℕ))
     (answer : Result (List ℕ) ℕ) → lock_answer tdi flags offset said.secure drawn ≡ answer
     → lock_reply function answer ≡ reply.Error f code value → Unchanged tdi
@@ -58,7 +59,7 @@ lock_same tdi function flags stream offset mask f code value said drawn (Err c) 
   kept = ap is_ok is;
 }
 
-start_by : (tdi : Tdi) (function f code value : ℕ) (nonce : List ℕ) (said : StreamSaid) (drawn : Option (List ℕ))
+start_by : (tdi : DeviceTdi) (function f code value : ℕ) (nonce : List ℕ) (said : StreamSaid) (drawn : Option (List ℕ))
     (state : TdiState) → tdi.state ≡ state
     → start_reply function (start_answer state nonce) ≡ reply.Error f code value → after_start state nonce ≡ state
 start_by tdi function f code value nonce said drawn ConfigUnlocked is e = refl
@@ -71,17 +72,17 @@ start_by tdi function f code value nonce said drawn (ConfigLocked lock held) is 
     tested true e = absurd cc
     tested false e = refl
 
-bind_same : (tdi : Tdi) (stream function f code value : ℕ) (answer : Result ℕ ℕ)
+bind_same : (tdi : DeviceTdi) (stream function f code value : ℕ) (answer : Result ℕ ℕ)
     → bind_reply function (is_answered answer) ≡ reply.Error f code value → interface_after_bind tdi stream answer ≡ tdi
 bind_same tdi stream function f code value (Ok draw) e = absurd cc
 bind_same tdi stream function f code value (Err c) e = refl
 
-unbind_same : (tdi : Tdi) (stream function f code value : ℕ) (answer : Result (Unit {0}) ℕ)
+unbind_same : (tdi : DeviceTdi) (stream function f code value : ℕ) (answer : Result (Unit {0}) ℕ)
     → unbind_reply function answer ≡ reply.Error f code value → unbound_with tdi stream answer ≡ tdi
 unbind_same tdi stream function f code value (Ok done) e = absurd cc
 unbind_same tdi stream function f code value (Err c) e = refl
 
-unchanged : (tdi : Tdi) (request : RequestView) (said : StreamSaid) (drawn : Option (List ℕ)) (f code value : ℕ)
+unchanged : (tdi : DeviceTdi) (request : RequestView) (said : StreamSaid) (drawn : Option (List ℕ)) (f code value : ℕ)
     → interface_reply tdi request said drawn ≡ reply.Error f code value → Unchanged tdi request said drawn
 unchanged tdi (GetVersion function) said drawn f code value e = record { same = refl; kept = refl }
 unchanged tdi (GetCapabilities function) said drawn f code value e = record { same = refl; kept = refl }

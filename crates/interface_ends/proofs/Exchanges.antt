@@ -6,7 +6,7 @@ use Rattle.tdisp_codec.specs.declared.request.RequestView.{RequestView}
 use Rattle.tdisp_codec.specs.Messages.{message_spelling}
 use Rattle.tdisp_codec.specs.Requests.{request_function, request_type, request_spelling, FitsRequest, request_reading}
 use Rattle.tdisp_codec.specs.Replies.{Reply, reply_spelling, FitsReply, reply_reading}
-use Rattle.interface_state.specs.Machine.{Tdi}
+use Rattle.interface_state.specs.Machine.{DeviceTdi}
 use Rattle.interface_host.specs.declared.step.Step.{Step}
 use Rattle.interface_host.specs.declared.step.Step.TheVariants as step
 use Rattle.interface_host.specs.Judging.{Bad, interface_reply_judged}
@@ -14,7 +14,7 @@ use Rattle.interface_host.specs.Views.{HostTdi, step_request}
 use Rattle.interface_ends.specs.declared.said.StreamSaid.{StreamSaid}
 use Rattle.interface_ends.specs.Replies.{DeviceTdis, NamedTdi, named_interface, next_nonce, interfaces_after_call}
 use Rattle.interface_ends.specs.Replies.{interfaces_asked_by, named_reply, request_checked, interfaces_after_answer}
-use Rattle.interface_ends.specs.Replies.{tdi_answer, answer_bytes, interface_reply, function_or_none, interfaces_by}
+use Rattle.interface_ends.specs.Replies.{device_reply, answer_bytes, interface_reply, function_or_none, interfaces_by}
 use Rattle.interface_ends.specs.Replies.{interface_reply_from}
 use Rattle.interface_ends.specs.Exchanges.{judged_due, nonce_due, portion_due, start_judged, bind_judged, unbind_judged}
 use Rattle.interface_ends.specs.Exchanges.{ExchangesAreDue, RepliesAreNeverBad}
@@ -42,7 +42,7 @@ device d n r bytes said is found = ap (interfaces_by d said) is ∙ ap (interfac
 
 replied : (d : DeviceTdis) (n : NamedTdi) (r : RequestView) (bytes : List ℕ) (said : StreamSaid)
     → request_checked bytes ≡ Ok r → named_interface d (request_function r) ≡ Some n
-    → tdi_answer d bytes said ≡ interface_reply n.tdi r said (next_nonce d)
+    → device_reply d bytes said ≡ interface_reply n.tdi r said (next_nonce d)
 replied d n r bytes said is found = ap (interface_reply_from d said (function_or_none bytes)) is ∙ ap
     (named_reply d r said)
     found
@@ -55,7 +55,7 @@ exchange_due requests replies s portion read i d n said short id m =
     let found : named_interface d (request_function r) ≡ Some n = ap (named_interface d) (function_of s portion read i)
     ∙
     m.named_is in
-    let reply : tdi_answer d (request_spelling r) said ≡ interface_reply n.tdi r said (next_nonce d) = replied d n r
+    let reply : device_reply d (request_spelling r) said ≡ interface_reply n.tdi r said (next_nonce d) = replied d n r
     (request_spelling r) said is found in
     let back : reply_reading (answer_bytes d (request_spelling r) said)
     ≡ Ok (interface_reply n.tdi r said (next_nonce d))
@@ -87,7 +87,7 @@ unbind_good : (answer : Result (Unit {0}) ℕ) → unbind_judged answer ≢ Bad
 unbind_good (Ok done) e = absurd cc
 unbind_good (Err code) e = absurd cc
 
-due_good : (s : Step) (portion read : ℕ) (i : HostTdi) (tdi : Tdi) (said : StreamSaid) (drawn : Option (List ℕ))
+due_good : (s : Step) (portion read : ℕ) (i : HostTdi) (tdi : DeviceTdi) (said : StreamSaid) (drawn : Option (List ℕ))
     → judged_due s portion read i tdi said drawn ≢ Bad
 due_good step.Version portion read i tdi said drawn e = absurd cc
 due_good step.Capabilities portion read i tdi said drawn e = absurd cc

@@ -10,7 +10,7 @@ use Rattle.interface_host.specs.declared.operation.InterfaceOutcome.{InterfaceOu
 use Rattle.interface_host.specs.declared.operation.InterfaceOutcome.TheVariants as outcome
 use Rattle.interface_host.specs.declared.step.Step.{Step}
 use Rattle.interface_host.specs.declared.step.Step.TheVariants as step
-use Rattle.interface_host.specs.Judging.{Judged, Passed, Nonce, Portion, State, Refused, Lost as NotCarried, Bad}
+use Rattle.interface_host.specs.Judging.{JudgedAnswer, Passed, Nonce, Portion, State, Refused, Lost as NotCarried, Bad}
 use Rattle.interface_host.specs.Views.{HostTdi, start_outcome, halt_outcome, state_outcome, lock_outcome, bind_outcome}
 use Rattle.interface_host.specs.Views.{unbind_outcome}
 use Rattle.interface_ends.specs.declared.said.StreamSaid.{StreamSaid}
@@ -65,7 +65,7 @@ stops outcome.Next now rest over = absurd over
 stops (outcome.Done shown) now rest over = refl
 stops (outcome.Refused refusal) now rest over = refl
 
-lock_over : (e : ℕ) (j : Judged) → IsOver (lock_outcome e j)
+lock_over : (e : ℕ) (j : JudgedAnswer) → IsOver (lock_outcome e j)
 lock_over e Passed = tt
 lock_over e (Nonce nonce) = tt
 lock_over e (Portion bytes remainder) = tt
@@ -74,7 +74,7 @@ lock_over e (Refused code) = tt
 lock_over e NotCarried = tt
 lock_over e Bad = tt
 
-start_over : (e draw : ℕ) (j : Judged) → IsOver (start_outcome e draw j)
+start_over : (e draw : ℕ) (j : JudgedAnswer) → IsOver (start_outcome e draw j)
 start_over e draw Passed = tt
 start_over e draw (Nonce nonce) = tt
 start_over e draw (Portion bytes remainder) = tt
@@ -83,7 +83,7 @@ start_over e draw (Refused code) = tt
 start_over e draw NotCarried = tt
 start_over e draw Bad = tt
 
-halt_over : (e needs : ℕ) (j : Judged) → IsOver (halt_outcome e needs j)
+halt_over : (e needs : ℕ) (j : JudgedAnswer) → IsOver (halt_outcome e needs j)
 halt_over e needs Passed = tt
 halt_over e needs (Nonce nonce) = tt
 halt_over e needs (Portion bytes remainder) = tt
@@ -92,7 +92,7 @@ halt_over e needs (Refused code) = tt
 halt_over e needs NotCarried = tt
 halt_over e needs Bad = tt
 
-state_over : (e : ℕ) (j : Judged) → IsOver (state_outcome e j)
+state_over : (e : ℕ) (j : JudgedAnswer) → IsOver (state_outcome e j)
 state_over e Passed = tt
 state_over e (Nonce nonce) = tt
 state_over e (Portion bytes remainder) = tt
@@ -101,7 +101,7 @@ state_over e (Refused code) = tt
 state_over e NotCarried = tt
 state_over e Bad = tt
 
-bind_over : (e number : ℕ) (j : Judged) → IsOver (bind_outcome e number j)
+bind_over : (e number : ℕ) (j : JudgedAnswer) → IsOver (bind_outcome e number j)
 bind_over e number Passed = tt
 bind_over e number (Nonce nonce) = tt
 bind_over e number (Portion bytes remainder) = tt
@@ -110,7 +110,7 @@ bind_over e number (Refused code) = tt
 bind_over e number NotCarried = tt
 bind_over e number Bad = tt
 
-unbind_over : (e number : ℕ) (j : Judged) → IsOver (unbind_outcome e number j)
+unbind_over : (e number : ℕ) (j : JudgedAnswer) → IsOver (unbind_outcome e number j)
 unbind_over e number Passed = tt
 unbind_over e number (Nonce nonce) = tt
 unbind_over e number (Portion bytes remainder) = tt

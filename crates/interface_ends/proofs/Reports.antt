@@ -11,7 +11,7 @@ use Rattle.script_events.specs.declared.event.Lost.{Lost}
 use Rattle.script_events.specs.declared.event.Lost.TheVariants.{Request, Reply}
 use Rattle.interface_state.specs.declared.states.Lock.{Lock}
 use Rattle.interface_state.specs.Kept.{kept_report}
-use Rattle.interface_state.specs.Machine.{Tdi, lock_of, portion_of}
+use Rattle.interface_state.specs.Machine.{DeviceTdi, lock_of, portion_of}
 use Rattle.interface_host.specs.declared.operation.InterfaceOperation.TheVariants as op
 use Rattle.interface_host.specs.declared.step.Step.TheVariants as step
 use Rattle.interface_host.specs.Judging.{Portion}
@@ -84,7 +84,8 @@ tested : (r : List ℕ) (portion off : ℕ) → 1 ≤ portion → off < length r
     ≡ false
 tested r portion off some lt = grind (arith, nat_tests)
 
-interfaces_after_answer : (tdi : Tdi) (lock : Option Lock) (l : Lock) (portion off : ℕ) → lock ≡ Some l → 1 ≤ portion
+interfaces_after_answer : (tdi : DeviceTdi) (lock : Option Lock) (l : Lock) (portion off : ℕ) → lock ≡ Some l
+    → 1 ≤ portion
     → off < length (kept_report tdi.plan l)
     → portion_due (portion_of (option_map (kept_report tdi.plan) lock) off portion)
     ≡ Portion (part (kept_report tdi.plan l) portion off) (behind (kept_report tdi.plan l) portion off)
@@ -272,7 +273,7 @@ reads due (suc more) portion draws said loss i d n lock off q m is report lt fue
     let many : portion < length r - off = false-le (length r - off) portion several in
     reads due more portion draws said loss i d n lock (off + portion) (q + 1) m is report (omega arith) (omega arith))
 
-kept : (tdi : Tdi) (lock : Option Lock) (l : Lock) → lock ≡ Some l
+kept : (tdi : DeviceTdi) (lock : Option Lock) (l : Lock) → lock ≡ Some l
     → Rattle.std.specs.Prelude.IfSome lock (λ k. IsReport (kept_report tdi.plan k)) → IsReport (kept_report tdi.plan l)
 kept tdi lock l is report = subst (λ o. Rattle.std.specs.Prelude.IfSome o (λ k. IsReport (kept_report tdi.plan k))) is
     report
@@ -289,7 +290,8 @@ reports_read due more portion draws said loss i d n lock m is fuel =
 
 -- ---- no report
 
-refused_over : (tdi : Tdi) (lock : Option Lock) (loss : Option Loss) (l : Option Lost) (off portion : ℕ) → lock ≡ None
+refused_over : (tdi : DeviceTdi) (lock : Option Lock) (loss : Option Loss) (l : Option Lost) (off portion : ℕ) → lock
+    ≡ None
     → IsOver (report_outcome 1
     (judgment_if_carried l (portion_due (portion_of (option_map (kept_report tdi.plan) lock) off portion))))
 refused_over tdi lock loss None off portion is = subst

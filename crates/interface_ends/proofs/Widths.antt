@@ -8,7 +8,8 @@ use Rattle.tdisp_codec.specs.Replies.{FitsReply}
 use Rattle.interface_state.specs.Kept.{kept_report}
 use Rattle.std.specs.Str.{bytes_eq}
 use Rattle.interface_state.specs.Bars.{any_overlap, bars_of}
-use Rattle.interface_state.specs.Machine.{Tdi, is_unlocked, are_lock_flags, is_page, lock_of, state_code, lock_answer}
+use Rattle.interface_state.specs.Machine.{DeviceTdi, is_unlocked, are_lock_flags, is_page, lock_of, state_code}
+use Rattle.interface_state.specs.Machine.{lock_answer}
 use Rattle.interface_state.specs.Machine.{portion_of, portion_answer, start_answer, is_locked, lock_flags, draw_answer}
 use Rattle.interface_state.specs.Machine.{bind_answer, is_answered, unbind_answer}
 use Rattle.interface_state.specs.Bindings.{binds}
@@ -69,7 +70,7 @@ drawn_fits : (drawn : Option (List ℕ)) → IfSome drawn IsNonce
 drawn_fits None h = omega arith
 drawn_fits (Some nonce) h = h
 
-pub lock_fits : (tdi : Tdi) (flags offset : ℕ) (secure : Bool) (drawn : Option (List ℕ)) → IfSome drawn IsNonce
+pub lock_fits : (tdi : DeviceTdi) (flags offset : ℕ) (secure : Bool) (drawn : Option (List ℕ)) → IfSome drawn IsNonce
     → NonceFits (lock_answer tdi flags offset secure drawn)
 lock_fits tdi flags offset secure drawn h =
     either (not (is_unlocked tdi.state)) _ _ (omega arith)
@@ -124,13 +125,13 @@ draw_fits : (bs : List Binding) (live : Option ℕ) → DrawFits (draw_answer bs
 draw_fits bs None = omega arith
 draw_fits bs (Some draw) = drawn_by (nat_lt (length bs) 8) _ _ tt (omega arith)
 
-pub bind_fits : (tdi : Tdi) (stream : ℕ) (live : Option ℕ) → DrawFits (bind_answer tdi stream live)
+pub bind_fits : (tdi : DeviceTdi) (stream : ℕ) (live : Option ℕ) → DrawFits (bind_answer tdi stream live)
 bind_fits tdi stream live =
     drawn_by (not (is_locked tdi.state)) _ _ (omega arith)
     (drawn_by (not (has_bit 3 (lock_flags tdi.state) && not (binds stream tdi.bindings))) _ _ (omega arith)
     (draw_fits tdi.bindings live))
 
-pub unbind_fits : (tdi : Tdi) (stream : ℕ) → StartFits (unbind_answer tdi stream)
+pub unbind_fits : (tdi : DeviceTdi) (stream : ℕ) → StartFits (unbind_answer tdi stream)
 unbind_fits tdi stream =
     begun (not (is_locked tdi.state)) _ _ (omega arith) (begun (binds stream tdi.bindings) _ _ tt (omega arith))
 
@@ -169,11 +170,12 @@ state_fits (ConfigLocked lock nonce) = omega arith
 state_fits (Run lock) = omega arith
 state_fits Error = omega arith
 
-kept_fits : (tdi : Tdi) → IfSome (lock_of tdi.state) (λ lock. IsReport (kept_report tdi.plan lock)) → (offset size : ℕ)
+kept_fits : (tdi : DeviceTdi) → IfSome (lock_of tdi.state) (λ lock. IsReport (kept_report tdi.plan lock))
+    → (offset size : ℕ)
     → PortionFits (portion_answer tdi offset size)
 kept_fits tdi is offset size = kept_by tdi (lock_of tdi.state) is
   where
-    kept_by : (t : Tdi) (lock : Option Rattle.interface_state.specs.declared.states.Lock.Lock)
+    kept_by : (t : DeviceTdi) (lock : Option Rattle.interface_state.specs.declared.states.Lock.Lock)
         → IfSome lock (λ l. IsReport (kept_report t.plan l)) → PortionFits
         (portion_of (Rattle.std.specs.Option.option_map (kept_report t.plan) lock) offset size)
     kept_by t None h = omega arith

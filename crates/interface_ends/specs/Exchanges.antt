@@ -7,11 +7,12 @@ use Rattle.ide_types.specs.Fits.{AreBytes}
 use Rattle.interface_state.specs.declared.states.Lock.{Lock}
 use Rattle.interface_state.specs.Held.{FitsTdi}
 use Rattle.interface_state.specs.Kept.{kept_report}
-use Rattle.interface_state.specs.Machine.{Tdi, lock_of, state_code, lock_answer, portion_answer, start_answer}
+use Rattle.interface_state.specs.Machine.{DeviceTdi, lock_of, state_code, lock_answer, portion_answer, start_answer}
 use Rattle.interface_state.specs.Machine.{bind_answer, unbind_answer}
 use Rattle.interface_host.specs.declared.step.Step.{Step}
 use Rattle.interface_host.specs.declared.step.Step.TheVariants as step
-use Rattle.interface_host.specs.Judging.{Judged, Passed, Nonce, Portion, State, Refused, Bad, interface_reply_judged}
+use Rattle.interface_host.specs.Judging.{JudgedAnswer, Passed, Nonce, Portion, State, Refused, Bad}
+use Rattle.interface_host.specs.Judging.{interface_reply_judged}
 use Rattle.interface_host.specs.Views.{HostTdi, nonce_of, step_request}
 use Rattle.interface_ends.specs.declared.said.StreamSaid.{StreamSaid}
 use Rattle.interface_ends.specs.Replies.{DeviceTdis, NamedTdi, named_interface, next_nonce, interfaces_after_call}
@@ -24,7 +25,7 @@ abbrev pub asked_bytes : Step → ℕ → ℕ → HostTdi → List ℕ
 asked_bytes s portion read i = request_spelling (step_request s portion read i)
 
 -- the manager's judgement of the device's reply
-abbrev pub judged_by_manager : Step → ℕ → ℕ → HostTdi → DeviceTdis → StreamSaid → Judged
+abbrev pub judged_by_manager : Step → ℕ → ℕ → HostTdi → DeviceTdis → StreamSaid → JudgedAnswer
 judged_by_manager s portion read i d said =
     interface_reply_judged s i.requester portion read
     (reply_reading (answer_bytes d (asked_bytes s portion read i) said))
@@ -35,29 +36,29 @@ device_after_step s portion read i d said = interfaces_after_answer d (asked_byt
 
 -- ---- what is due
 
-abbrev pub nonce_due : Result (List ℕ) ℕ → Judged
+abbrev pub nonce_due : Result (List ℕ) ℕ → JudgedAnswer
 nonce_due (Ok nonce) = Nonce nonce
 nonce_due (Err code) = Refused code
 
-abbrev pub portion_due : Result (List ℕ × ℕ) ℕ → Judged
+abbrev pub portion_due : Result (List ℕ × ℕ) ℕ → JudgedAnswer
 portion_due (Ok portion) = Portion portion.0 portion.1
 portion_due (Err code) = Refused code
 
-abbrev pub start_judged : Result (Unit {0}) ℕ → Judged
+abbrev pub start_judged : Result (Unit {0}) ℕ → JudgedAnswer
 start_judged (Ok done) = Passed
 start_judged (Err code) = Refused code
 
-abbrev pub bind_judged : Result ℕ ℕ → Judged
+abbrev pub bind_judged : Result ℕ ℕ → JudgedAnswer
 bind_judged (Ok draw) = Passed
 bind_judged (Err code) = Refused code
 
-abbrev pub unbind_judged : Result (Unit {0}) ℕ → Judged
+abbrev pub unbind_judged : Result (Unit {0}) ℕ → JudgedAnswer
 unbind_judged (Ok done) = Passed
 unbind_judged (Err code) = Refused code
 
 -- by the device's interface alone; `said` is what the device says of the stream that a request names, and `drawn` is
 -- the device's next nonce
-abbrev pub judged_due : Step → ℕ → ℕ → HostTdi → Tdi → StreamSaid → Option (List ℕ) → Judged
+abbrev pub judged_due : Step → ℕ → ℕ → HostTdi → DeviceTdi → StreamSaid → Option (List ℕ) → JudgedAnswer
 judged_due step.Version portion read i tdi said drawn = Passed
 judged_due step.Capabilities portion read i tdi said drawn = Passed
 judged_due step.Lock portion read i tdi said drawn = nonce_due (lock_answer tdi i.flags i.offset said.secure drawn)

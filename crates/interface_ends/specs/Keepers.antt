@@ -7,7 +7,7 @@ use Rattle.interface_host.specs.declared.operation.InterfaceOperation.{Interface
 use Rattle.interface_host.specs.declared.operation.InterfaceOutcome.{InterfaceOutcome}
 use Rattle.interface_host.specs.declared.operation.InterfaceOutcome.TheVariants as outcome
 use Rattle.interface_host.specs.declared.operation.InterfaceRefusal.{InterfaceRefusal}
-use Rattle.interface_host.specs.Judging.{Judged}
+use Rattle.interface_host.specs.Judging.{JudgedAnswer}
 use Rattle.interface_host.specs.Views.{HostTdi, interface_refusal_of}
 use Rattle.interface_host.specs.Managers.{InterfaceManagerView, CurrentInterface, current_interface, current_exchange}
 use Rattle.interface_host.specs.Managers.{begun_interface_manager, outcome_by, taken_interface_manager}
@@ -30,7 +30,8 @@ abbrev pub current_lost : Option Loss → InterfaceManagerView → CurrentInterf
 current_lost loss m c = lost_message loss (current_exchange m c)
 
 -- the judgement of what is carried
-abbrev pub current_judged : StreamSaid → Option Loss → InterfaceManagerView → DeviceTdis → CurrentInterface → Judged
+abbrev pub current_judged : StreamSaid → Option Loss → InterfaceManagerView → DeviceTdis → CurrentInterface
+    → JudgedAnswer
 current_judged said loss m d c =
     judgment_if_carried (current_lost loss m c)
     (judged_by_manager c.asking.step m.portion (length m.read.bytes) c.interface d said)

@@ -13,7 +13,7 @@ use Rattle.interface_host.specs.declared.operation.InterfaceRefusal.TheVariants.
 use Rattle.interface_host.specs.declared.step.Step.{Step}
 use Rattle.interface_host.specs.declared.step.Step.TheVariants as step
 use Rattle.interface_host.specs.Steps.{Read, first_step, next_step, exchange_number}
-use Rattle.interface_host.specs.Judging.{Judged, Lost as NotCarried}
+use Rattle.interface_host.specs.Judging.{JudgedAnswer, Lost as NotCarried}
 use Rattle.interface_host.specs.Views.{HostTdi, step_request, taken_interface, interface_outcome}
 use Rattle.interface_host.specs.Managers.{nothing_read, report_after_reply}
 use Rattle.interface_ends.specs.declared.said.StreamSaid.{StreamSaid}
@@ -22,7 +22,7 @@ use Rattle.interface_ends.specs.Exchanges.{judged_by_manager, device_after_step,
 
 -- ---- an exchange that may be lost
 
-abbrev pub judgment_if_carried : Option Lost → Judged → Judged
+abbrev pub judgment_if_carried : Option Lost → JudgedAnswer → JudgedAnswer
 judgment_if_carried None judged = judged
 judgment_if_carried (Some lost) judged = NotCarried
 
@@ -50,7 +50,7 @@ pub record WalkedInterface : Type 0 where
 abbrev pub walking_exchange : Walking → ℕ
 walking_exchange w = exchange_number w.step w.read
 
-abbrev pub walking_judged : ℕ → StreamSaid → Option Loss → Walking → Judged
+abbrev pub walking_judged : ℕ → StreamSaid → Option Loss → Walking → JudgedAnswer
 walking_judged portion said loss w = judgment_if_carried (lost_message loss (walking_exchange w))
     (judged_by_manager w.step portion (length w.read.bytes) w.interface w.device said)
 
@@ -59,7 +59,7 @@ walked_device portion said loss w = interfaces_after_request (lost_message loss 
     (device_after_step w.step portion (length w.read.bytes) w.interface w.device said)
 
 -- both ends after an exchange whose reply is judged so
-abbrev pub walked_by : ℕ → Walking → Judged → DeviceTdis → WalkedInterface
+abbrev pub walked_by : ℕ → Walking → JudgedAnswer → DeviceTdis → WalkedInterface
 walked_by draws w judged device =
     let after = taken_interface w.step draws judged w.interface in
     record {

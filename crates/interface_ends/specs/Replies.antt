@@ -22,8 +22,10 @@ use Rattle.interface_state.specs.declared.error_codes.ErrorCode.TheVariants.{Inv
 use Rattle.interface_state.specs.declared.error_codes.ErrorCode.TheVariants.{VersionMismatch, InvalidInterface}
 use Rattle.interface_state.specs.declared.states.TdiState.{TdiState}
 use Rattle.interface_state.specs.declared.states.TdiState.TheVariants.{Run}
-use Rattle.interface_state.specs.Machine.{Tdi, new_tdi, error_code, state_code, lock_answer, portion_answer}
-use Rattle.interface_state.specs.Machine.{start_answer, Call, LinkReset, StreamLeft, tdi_after, bound_link_stream}
+use Rattle.interface_state.specs.Machine.{DeviceTdi, new_device_interface, error_code, state_code, lock_answer}
+use Rattle.interface_state.specs.Machine.{portion_answer}
+use Rattle.interface_state.specs.Machine.{start_answer, Call, LinkReset, StreamLeft, interface_after_call}
+use Rattle.interface_state.specs.Machine.{bound_link_stream}
 use Rattle.interface_state.specs.Machine.{bind_answer, is_answered, unbind_answer}
 use Rattle.ide_types.specs.declared.binding.Binding.{Binding}
 use Rattle.interface_state.specs.Bindings.{binds}
@@ -34,12 +36,12 @@ use Rattle.interface_state.specs.Machine as call
 
 -- the interfaces of a link's device, its nonces, and how many of them were given
 pub record DeviceTdis : Type 0 where
-  pub interfaces : List Tdi
+  pub interfaces : List DeviceTdi
   pub nonces : List (List ℕ)
   pub used : ℕ
 
-abbrev pub new_tdis : List InterfacePlan → List (List ℕ) → DeviceTdis
-new_tdis plans nonces = record { interfaces = map new_tdi plans; nonces = nonces; used = 0 }
+abbrev pub new_device_interfaces : List InterfacePlan → List (List ℕ) → DeviceTdis
+new_device_interfaces plans nonces = record { interfaces = map new_device_interface plans; nonces = nonces; used = 0 }
 
 -- the nonce that is given next
 abbrev pub next_nonce : DeviceTdis → Option (List ℕ)
@@ -54,7 +56,7 @@ requester_in function = function % 65536
 abbrev pub is_elsewhere : ℕ → Bool
 is_elsewhere function = (function / 2 ^ 24 % 2 == 1) && not (function / 2 ^ 16 % 256 == 0)
 
-abbrev pub has_requester : ℕ → Tdi → Bool
+abbrev pub has_requester : ℕ → DeviceTdi → Bool
 has_requester requester tdi = requester == tdi.plan.requester
 
 abbrev pub interface_place : DeviceTdis → ℕ → Option ℕ
@@ -64,13 +66,13 @@ interface_place d function =
 -- an interface and its place
 pub record NamedTdi : Type 0 where
   pub place : ℕ
-  pub tdi : Tdi
+  pub tdi : DeviceTdi
 
-abbrev pub named_interface_if_there : ℕ → Option Tdi → Option NamedTdi
+abbrev pub named_interface_if_there : ℕ → Option DeviceTdi → Option NamedTdi
 named_interface_if_there place None = None
 named_interface_if_there place (Some tdi) = Some (record { place = place; tdi = tdi })
 
-abbrev pub named_interface_in : List Tdi → Option ℕ → Option NamedTdi
+abbrev pub named_interface_in : List DeviceTdi → Option ℕ → Option NamedTdi
 named_interface_in interfaces None = None
 named_interface_in interfaces (Some place) = named_interface_if_there place (slice_get interfaces place)
 
@@ -89,9 +91,9 @@ interface_call (BindP2p function stream) said drawn = Some (call.BindStream stre
 interface_call (UnbindP2p function stream) said drawn = Some (call.UnbindStream stream)
 interface_call request said drawn = None
 
-abbrev pub interface_called : Tdi → Option Call → Tdi
+abbrev pub interface_called : DeviceTdi → Option Call → DeviceTdi
 interface_called tdi None = tdi
-interface_called tdi (Some c) = tdi_after tdi c
+interface_called tdi (Some c) = interface_after_call tdi c
 
 -- ---- replies
 
@@ -127,7 +129,7 @@ abbrev pub capabilities_reply : ℕ → Reply
 capabilities_reply function = reply.Capabilities function 0 (0xfe ∷ 0x03 ∷ replicate 14 0) 0x001f 64 1 1
 
 -- of the interface that is meant
-abbrev pub interface_reply : Tdi → RequestView → StreamSaid → Option (List ℕ) → Reply
+abbrev pub interface_reply : DeviceTdi → RequestView → StreamSaid → Option (List ℕ) → Reply
 interface_reply tdi (GetVersion function) said drawn = version_reply function
 interface_reply tdi (GetCapabilities function) said drawn = capabilities_reply function
 interface_reply tdi (LockInterface function flags stream offset mask) said drawn =
@@ -153,7 +155,7 @@ IsShortReply r = Unit {0}
 -- ---- a request that is read
 
 -- a lock that is accepted takes the nonce
-abbrev pub takes_nonce : Tdi → RequestView → StreamSaid → Option (List ℕ) → Bool
+abbrev pub takes_nonce : DeviceTdi → RequestView → StreamSaid → Option (List ℕ) → Bool
 takes_nonce tdi (LockInterface function flags stream offset mask) said drawn =
     is_ok (lock_answer tdi flags offset said.secure drawn)
 takes_nonce tdi request said drawn = false
@@ -214,11 +216,11 @@ interface_reply_from d said function (Err code) = refused_reply function (error_
 abbrev pub interfaces_after_answer : DeviceTdis → List ℕ → StreamSaid → DeviceTdis
 interfaces_after_answer d bytes said = interfaces_by d said (request_checked bytes)
 
-abbrev pub tdi_answer : DeviceTdis → List ℕ → StreamSaid → Reply
-tdi_answer d bytes said = interface_reply_from d said (function_or_none bytes) (request_checked bytes)
+abbrev pub device_reply : DeviceTdis → List ℕ → StreamSaid → Reply
+device_reply d bytes said = interface_reply_from d said (function_or_none bytes) (request_checked bytes)
 
 abbrev pub answer_bytes : DeviceTdis → List ℕ → StreamSaid → List ℕ
-answer_bytes d bytes said = reply_spelling (tdi_answer d bytes said)
+answer_bytes d bytes said = reply_spelling (device_reply d bytes said)
 
 -- ---- streams that are left, and a reset of the link
 
@@ -232,21 +234,22 @@ abbrev pub any_left : (ℕ → Bool) → List Binding → Bool
 any_left is_secure bs = list_any (λ b. not (is_secure b.stream)) bs
 
 -- in CONFIG_LOCKED and RUN an interface goes to ERROR if a stream that it is bound to is not Secure at the device
-abbrev pub settled_interface : (ℕ → Bool) → Tdi → Tdi
+abbrev pub settled_interface : (ℕ → Bool) → DeviceTdi → DeviceTdi
 settled_interface is_secure tdi =
-    if is_left is_secure (bound_link_stream tdi.state) || any_left is_secure tdi.bindings then tdi_after tdi StreamLeft
+    if is_left is_secure (bound_link_stream tdi.state) || any_left is_secure tdi.bindings then interface_after_call tdi
+    StreamLeft
     else tdi
 
 abbrev pub settled_interfaces : (ℕ → Bool) → DeviceTdis → DeviceTdis
 settled_interfaces is_secure d = record d { interfaces = map (settled_interface is_secure) d.interfaces }
 
-abbrev pub reset_tdis : DeviceTdis → DeviceTdis
-reset_tdis d = record d { interfaces = map (λ tdi. tdi_after tdi LinkReset) d.interfaces }
+abbrev pub reset_device_interfaces : DeviceTdis → DeviceTdis
+reset_device_interfaces d = record d { interfaces = map (λ tdi. interface_after_call tdi LinkReset) d.interfaces }
 
 -- ---- calls of one interface that no request makes
 
-abbrev pub called_at : DeviceTdis → ℕ → Tdi → Call → DeviceTdis
-called_at d place tdi c = record d { interfaces = slice_set d.interfaces place (tdi_after tdi c) }
+abbrev pub called_at : DeviceTdis → ℕ → DeviceTdi → Call → DeviceTdis
+called_at d place tdi c = record d { interfaces = slice_set d.interfaces place (interface_after_call tdi c) }
 
 -- ---- the T bit of what the device sends
 
@@ -255,7 +258,7 @@ abbrev pub runs_on : ℕ → TdiState → Bool
 runs_on stream (Run lock) = lock.stream == stream
 runs_on stream state = false
 
-abbrev pub is_owner : ℕ → ℕ → Tdi → Bool
+abbrev pub is_owner : ℕ → ℕ → DeviceTdi → Bool
 is_owner requester stream tdi = (requester == tdi.plan.requester) && runs_on stream tdi.state
 
 -- T is set of a TLP whose owner, its requester or its completer, is an interface that runs, on the stream of the link
@@ -268,7 +271,7 @@ abbrev pub runs_bound : ℕ → TdiState → List Binding → Bool
 runs_bound stream (Run lock) bs = binds stream bs
 runs_bound stream state bs = false
 
-abbrev pub is_bound_owner : ℕ → ℕ → Tdi → Bool
+abbrev pub is_bound_owner : ℕ → ℕ → DeviceTdi → Bool
 is_bound_owner requester stream tdi =
     (requester == tdi.plan.requester) && runs_bound stream tdi.state tdi.bindings
 

@@ -6,9 +6,11 @@ ghost use Rattle.tdisp_codec.specs.Requests.{request_function};
 ghost use Rattle.tdisp_codec.specs.Replies.{reply_spelling};
 ghost use Rattle.interface_state.specs.Held.{FitsTdi};
 ghost use Rattle.ide_types.specs.RegisterNames.{has_register, width_of};
-ghost use Rattle.interface_state.specs.Machine.{new_tdi, tdi_after, LinkReset, state_code, LevelReset, FirmwareUpdate};
+ghost use Rattle.interface_state.specs.Machine.{new_device_interface, interface_after_call, LinkReset, state_code};
+ghost use Rattle.interface_state.specs.Machine.{LevelReset, FirmwareUpdate};
 ghost use Rattle.interface_state.specs.Machine.{WriteRegister};
-ghost use Rattle.interface_ends.specs.Replies.{new_tdis, is_elsewhere, is_left, any_left, settled_interface, is_owner};
+ghost use Rattle.interface_ends.specs.Replies.{new_device_interfaces, is_elsewhere, is_left, any_left};
+ghost use Rattle.interface_ends.specs.Replies.{settled_interface, is_owner};
 ghost use Rattle.interface_ends.specs.Replies.{runs_on, runs_bound, is_bound_owner};
 
 use crate::StreamSaid;
@@ -51,7 +53,7 @@ fn is_elsewhere(function: u32) -> bool
 // The interfaces that are laid out.
 fn made(alloc: Global, plans: &[InterfacePlan]) -> Result<Vec<Interface>, OutOfMemory>
     requires { All FitsTdi plans.now }
-    ensures { IfOk result (λ interfaces. interfaces.items ≡ map new_tdi plans.now) }
+    ensures { IfOk result (λ interfaces. interfaces.items ≡ map new_device_interface plans.now) }
 {
     let mut interfaces = Vec::new(alloc);
     for plan in plans {
@@ -140,7 +142,7 @@ fn runs_bound(state: &TdiState, peers: &Bindings, stream: u8) -> bool
 }
 
 fn reset_all(interfaces: &mut Vec<Interface>)
-    ensures { interfaces.new.items ≡ map (λ tdi. tdi_after tdi LinkReset) interfaces.old.items }
+    ensures { interfaces.new.items ≡ map (λ tdi. interface_after_call tdi LinkReset) interfaces.old.items }
 {
     for interface in interfaces.iter_mut() {
         interface.reset();
@@ -151,7 +153,8 @@ impl DeviceInterfaces {
     ghost use Rattle.interface_ends.specs.Replies.{interface_place, has_requester, requester_in, next_nonce};
     ghost use Rattle.interface_ends.specs.Replies.{interface_reply, interfaces_after_call, asked_interfaces};
     ghost use Rattle.interface_ends.specs.Replies.{request_reply, interfaces_after_answer, answer_bytes};
-    ghost use Rattle.interface_ends.specs.Replies.{settled_interfaces, reset_tdis, called_at, interfaces_set_t};
+    ghost use Rattle.interface_ends.specs.Replies.{settled_interfaces, reset_device_interfaces, called_at};
+    ghost use Rattle.interface_ends.specs.Replies.{interfaces_set_t};
     ghost use Rattle.interface_ends.specs.Replies.{interfaces_set_peer_t};
 
     /// The interfaces of a link's device in CONFIG_UNLOCKED, and its nonces, none of them given.
@@ -161,7 +164,7 @@ impl DeviceInterfaces {
         nonces: &Items<[u8; 32]>,
     ) -> Result<DeviceInterfaces, OutOfMemory>
         requires { All FitsTdi plans.now }
-        ensures { IfOk result (λ d. d ≡ new_tdis plans.now nonces.now) }
+        ensures { IfOk result (λ d. d ≡ new_device_interfaces plans.now nonces.now) }
     {
         let interfaces = made(alloc, plans.as_slice())?;
         let nonces = Vec::from_slice(alloc, nonces.as_slice())?;
@@ -362,7 +365,7 @@ impl DeviceInterfaces {
     /// Resets all interfaces, as a reset of the link does: each is in CONFIG_UNLOCKED, with the topology's registers.
     /// No nonce that was given is given again.
     pub fn reset(&mut self)
-        ensures { self.new ≡ reset_tdis self.old }
+        ensures { self.new ≡ reset_device_interfaces self.old }
     {
         reset_all(&mut self.interfaces);
     }

@@ -6,7 +6,8 @@ use Rattle.tdisp_codec.specs.Replies.{Reply, Version, Capabilities, LockInterfac
 use Rattle.tdisp_codec.specs.Replies.{DeviceInterfaceState, StartInterface, StopInterface, BindP2p, UnbindP2p, Error}
 use Rattle.interface_host.specs.declared.step.Step.{Step}
 use Rattle.interface_host.specs.declared.step.Step.TheVariants as step
-use Rattle.interface_host.specs.Judging.{Judged, Passed, Nonce, State, Bad, HasRoom, is_portion, if_portion, version_in}
+use Rattle.interface_host.specs.Judging.{JudgedAnswer, Passed, Nonce, State, Bad, HasRoom, is_portion, if_portion}
+use Rattle.interface_host.specs.Judging.{version_in}
 use Rattle.interface_host.specs.Judging.{capabilities_in, judged_nonce, portion_in, start_in, halt_in, state_in}
 use Rattle.interface_host.specs.Judging.{bind_in, unbind_in, step_judged, interface_reply_judged}
 
@@ -16,7 +17,7 @@ fitting asked read bytes remainder true e = grind arith
 fitting asked read bytes remainder false e = tt
 
 -- a test that is true or false
-chosen : (read : ℕ) (b : Bool) (x : Judged) → HasRoom read x → HasRoom read (if b then x else Bad)
+chosen : (read : ℕ) (b : Bool) (x : JudgedAnswer) → HasRoom read x → HasRoom read (if b then x else Bad)
 chosen read true x h = h
 chosen read false x h = tt
 

@@ -5,7 +5,7 @@ use Rattle.key_host.specs.declared.operation.ExchangeReply.{ExchangeReply}
 use Rattle.interface_host.specs.declared.interfaces.Asking.{Asking}
 use Rattle.interface_host.specs.declared.operation.InterfaceOutcome.{InterfaceOutcome}
 use Rattle.interface_host.specs.Steps.{Read, exchange_number}
-use Rattle.interface_host.specs.Judging.{Judged, interface_judged}
+use Rattle.interface_host.specs.Judging.{JudgedAnswer, interface_judged}
 use Rattle.interface_host.specs.Views.{HostTdi, taken_interface, interface_outcome}
 use Rattle.interface_host.specs.Managers.{InterfaceManagerView, CurrentInterface, current_interface}
 use Rattle.interface_host.specs.Managers.{current_interface_in, current_by, judged_now, outcome_by}
@@ -33,7 +33,7 @@ asked_now m a i asked is some = asked_in m.interfaces m.asking a i asked is some
 
 pub outcome_now : (m : InterfaceManagerView) (a : Asking) (i new : HostTdi) (carried : ExchangeReply)
     (exchange read : ℕ)
-    (j : Judged)
+    (j : JudgedAnswer)
     (o : InterfaceOutcome)
     → current_interface m ≡ Some (asked_as a i) → exchange ≡ exchange_number a.step m.read → read ≡ length m.read.bytes
     → j ≡ interface_judged a.step i.requester m.portion read carried → new ≡ taken_interface a.step a.draws j i
@@ -44,7 +44,7 @@ outcome_now m a i new carried exchange read j o is number size reply taken comes
 
 pub manager_now : (m : InterfaceManagerView) (a : Asking) (i new : HostTdi) (carried : ExchangeReply)
     (exchange read : ℕ)
-    (j : Judged)
+    (j : JudgedAnswer)
     (o : InterfaceOutcome) (next : Option Asking) (after : Read) (interfaces : List HostTdi) (portion : ℕ)
     → current_interface m ≡ Some (asked_as a i) → exchange ≡ exchange_number a.step m.read → read ≡ length m.read.bytes
     → j ≡ interface_judged a.step i.requester m.portion read carried → new ≡ taken_interface a.step a.draws j i

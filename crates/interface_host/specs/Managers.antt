@@ -13,7 +13,7 @@ use Rattle.interface_host.specs.declared.operation.InterfaceOperation.{Interface
 use Rattle.interface_host.specs.declared.operation.InterfaceOutcome.{InterfaceOutcome}
 use Rattle.interface_host.specs.declared.operation.InterfaceOutcome.TheVariants.{Next}
 use Rattle.interface_host.specs.Steps.{Read, first_step, next_step, exchange_number}
-use Rattle.interface_host.specs.Judging.{Judged, Portion, interface_judged}
+use Rattle.interface_host.specs.Judging.{JudgedAnswer, Portion, interface_judged}
 use Rattle.interface_host.specs.Views.{HostTdi, new_interface, interface_refusal_of, interface_unless, step_request}
 use Rattle.interface_host.specs.Views.{taken_interface, interface_outcome, left_by_stop, left_by_peer_stop}
 use Rattle.interface_host.specs.Views.{left_by_reset, keyed_by, is_requester, is_granted, interface_grant}
@@ -82,17 +82,17 @@ interface_request m c = step_request c.asking.step m.portion (length m.read.byte
 
 -- ---- take
 
-abbrev pub report_after_reply : Judged → Read → Read
+abbrev pub report_after_reply : JudgedAnswer → Read → Read
 report_after_reply (Portion bytes remainder) read = record { bytes = read.bytes ++ bytes; portions = read.portions + 1 }
 report_after_reply judged read = read
 
-abbrev pub judged_now : InterfaceManagerView → CurrentInterface → ExchangeReply → Judged
+abbrev pub judged_now : InterfaceManagerView → CurrentInterface → ExchangeReply → JudgedAnswer
 judged_now m c carried = interface_judged c.asking.step c.interface.requester m.portion (length m.read.bytes) carried
 
-abbrev pub interface_by : CurrentInterface → Judged → HostTdi
+abbrev pub interface_by : CurrentInterface → JudgedAnswer → HostTdi
 interface_by c judged = taken_interface c.asking.step c.asking.draws judged c.interface
 
-abbrev pub outcome_by : InterfaceManagerView → CurrentInterface → Judged → InterfaceOutcome
+abbrev pub outcome_by : InterfaceManagerView → CurrentInterface → JudgedAnswer → InterfaceOutcome
 outcome_by m c judged = interface_outcome c.asking.step (current_exchange m c) judged (interface_by c judged)
 
 -- an operation that goes on is asked again
@@ -100,7 +100,7 @@ abbrev pub interface_asking_after : Asking → InterfaceOutcome → Option Askin
 interface_asking_after asking Next = Some (record asking { step = next_step asking.step })
 interface_asking_after asking outcome = None
 
-abbrev pub taken_interface_manager : InterfaceManagerView → CurrentInterface → Judged → InterfaceManagerView
+abbrev pub taken_interface_manager : InterfaceManagerView → CurrentInterface → JudgedAnswer → InterfaceManagerView
 taken_interface_manager m c judged = record {
   interfaces = slice_set m.interfaces c.asking.place (interface_by c judged);
   portion = m.portion;

@@ -22,7 +22,7 @@ use Rattle.interface_host.specs.declared.managed.ManagedTdi.{ManagedTdi}
 use Rattle.interface_host.specs.declared.managed.ManagedTdi.TheVariants as managed
 use Rattle.interface_host.specs.declared.step.Step.{Step}
 use Rattle.interface_host.specs.declared.step.Step.TheVariants as step
-use Rattle.interface_host.specs.Judging.{Judged, Passed, Nonce, Portion, State, Refused, Lost}
+use Rattle.interface_host.specs.Judging.{JudgedAnswer, Passed, Nonce, Portion, State, Refused, Lost}
 
 -- ---- what is kept of a view: of a lock its nonce and whether its report was read, of a run its floor
 
@@ -172,31 +172,31 @@ compared_view code (IsRunning floor) = if code == 2 then IsRunning floor else Is
 compared_view code v = v
 
 -- a loss leaves Doubt, a refusal the view
-abbrev pub after_lock : Judged → Seen → Seen
+abbrev pub after_lock : JudgedAnswer → Seen → Seen
 after_lock (Nonce nonce) v = seen_after_lock nonce v
 after_lock (Refused code) v = v
 after_lock judged v = IsDoubt
 
 -- the last portion has no remainder
-abbrev pub after_report : Judged → Seen → Seen
+abbrev pub after_report : JudgedAnswer → Seen → Seen
 after_report (Portion bytes remainder) v = if remainder == 0 then reported_view v else v
 after_report judged v = v
 
-abbrev pub seen_after_start : ℕ → Judged → Seen → Seen
+abbrev pub seen_after_start : ℕ → JudgedAnswer → Seen → Seen
 seen_after_start draw Passed v = started_view draw v
 seen_after_start draw (Refused code) v = IsBroken
 seen_after_start draw judged v = IsDoubt
 
-abbrev pub after_halt : Judged → Seen → Seen
+abbrev pub after_halt : JudgedAnswer → Seen → Seen
 after_halt Passed v = IsUnlocked
 after_halt (Refused code) v = v
 after_halt judged v = IsDoubt
 
-abbrev pub after_state : Judged → Seen → Seen
+abbrev pub after_state : JudgedAnswer → Seen → Seen
 after_state (State code) v = compared_view code v
 after_state judged v = v
 
-abbrev pub seen_after_step : Step → ℕ → Judged → Seen → Seen
+abbrev pub seen_after_step : Step → ℕ → JudgedAnswer → Seen → Seen
 seen_after_step step.Version draw judged v = v
 seen_after_step step.Capabilities draw judged v = v
 seen_after_step step.Lock draw judged v = after_lock judged v
@@ -216,7 +216,7 @@ was_started_after step.Start was_started = true
 was_started_after s was_started = was_started
 
 -- a halt that ends after a start wants a key that was not drawn yet; `draws` were
-abbrev pub needs_after : Step → ℕ → Judged → Bool → ℕ → ℕ
+abbrev pub needs_after : Step → ℕ → JudgedAnswer → Bool → ℕ → ℕ
 needs_after step.Halt draws Passed was_started needs = if was_started then draws else needs
 needs_after s draws judged was_started needs = needs
 
@@ -231,7 +231,7 @@ asked_peers step.Lock asked = replicate 8 false
 asked_peers (step.Bind peer) asked = slice_set asked (peer_number peer.line) true
 asked_peers s asked = asked
 
-abbrev pub taken_interface : Step → ℕ → Judged → HostTdi → HostTdi
+abbrev pub taken_interface : Step → ℕ → JudgedAnswer → HostTdi → HostTdi
 taken_interface s draws judged i = record i {
   needs = needs_after s draws judged i.was_started i.needs;
   was_started = was_started_after s i.was_started;
@@ -242,48 +242,48 @@ taken_interface s draws judged i = record i {
 -- ---- take: its outcome
 
 -- the operation is over; what is neither expected nor a refusal is a bad reply
-abbrev pub cut_outcome : ℕ → Judged → InterfaceOutcome
-cut_outcome exchange Lost = outcome.Refused (SessionLost exchange)
-cut_outcome exchange (Refused code) = outcome.Refused (DeviceRefused exchange code)
-cut_outcome exchange judged = outcome.Refused (BadReply exchange)
+abbrev pub refused_outcome : ℕ → JudgedAnswer → InterfaceOutcome
+refused_outcome exchange Lost = outcome.Refused (SessionLost exchange)
+refused_outcome exchange (Refused code) = outcome.Refused (DeviceRefused exchange code)
+refused_outcome exchange judged = outcome.Refused (BadReply exchange)
 
-abbrev pub next_or_cut : ℕ → Judged → InterfaceOutcome
-next_or_cut exchange Passed = outcome.Next
-next_or_cut exchange judged = cut_outcome exchange judged
+abbrev pub next_or_refused : ℕ → JudgedAnswer → InterfaceOutcome
+next_or_refused exchange Passed = outcome.Next
+next_or_refused exchange judged = refused_outcome exchange judged
 
-abbrev pub lock_outcome : ℕ → Judged → InterfaceOutcome
+abbrev pub lock_outcome : ℕ → JudgedAnswer → InterfaceOutcome
 lock_outcome exchange (Nonce nonce) = outcome.Done (shown.Nonce nonce)
-lock_outcome exchange judged = cut_outcome exchange judged
+lock_outcome exchange judged = refused_outcome exchange judged
 
-abbrev pub report_outcome : ℕ → Judged → InterfaceOutcome
+abbrev pub report_outcome : ℕ → JudgedAnswer → InterfaceOutcome
 report_outcome exchange (Portion bytes remainder) =
     if remainder == 0 then outcome.Done shown.Report else outcome.Next
-report_outcome exchange judged = cut_outcome exchange judged
+report_outcome exchange judged = refused_outcome exchange judged
 
-abbrev pub start_outcome : ℕ → ℕ → Judged → InterfaceOutcome
+abbrev pub start_outcome : ℕ → ℕ → JudgedAnswer → InterfaceOutcome
 start_outcome exchange draw Passed = outcome.Done (shown.Draw draw)
-start_outcome exchange draw judged = cut_outcome exchange judged
+start_outcome exchange draw judged = refused_outcome exchange judged
 
-abbrev pub halt_outcome : ℕ → ℕ → Judged → InterfaceOutcome
+abbrev pub halt_outcome : ℕ → ℕ → JudgedAnswer → InterfaceOutcome
 halt_outcome exchange needs Passed = outcome.Done (shown.Needs needs)
-halt_outcome exchange needs judged = cut_outcome exchange judged
+halt_outcome exchange needs judged = refused_outcome exchange judged
 
-abbrev pub state_outcome : ℕ → Judged → InterfaceOutcome
+abbrev pub state_outcome : ℕ → JudgedAnswer → InterfaceOutcome
 state_outcome exchange (State code) = outcome.Done (shown.State code)
-state_outcome exchange judged = cut_outcome exchange judged
+state_outcome exchange judged = refused_outcome exchange judged
 
-abbrev pub bind_outcome : ℕ → ℕ → Judged → InterfaceOutcome
+abbrev pub bind_outcome : ℕ → ℕ → JudgedAnswer → InterfaceOutcome
 bind_outcome exchange line Passed = outcome.Done (shown.Bound line)
-bind_outcome exchange line judged = cut_outcome exchange judged
+bind_outcome exchange line judged = refused_outcome exchange judged
 
-abbrev pub unbind_outcome : ℕ → ℕ → Judged → InterfaceOutcome
+abbrev pub unbind_outcome : ℕ → ℕ → JudgedAnswer → InterfaceOutcome
 unbind_outcome exchange line Passed = outcome.Done (shown.Unbound line)
-unbind_outcome exchange line judged = cut_outcome exchange judged
+unbind_outcome exchange line judged = refused_outcome exchange judged
 
 -- `after` is the interface after the exchange
-abbrev pub interface_outcome : Step → ℕ → Judged → HostTdi → InterfaceOutcome
-interface_outcome step.Version exchange judged after = next_or_cut exchange judged
-interface_outcome step.Capabilities exchange judged after = next_or_cut exchange judged
+abbrev pub interface_outcome : Step → ℕ → JudgedAnswer → HostTdi → InterfaceOutcome
+interface_outcome step.Version exchange judged after = next_or_refused exchange judged
+interface_outcome step.Capabilities exchange judged after = next_or_refused exchange judged
 interface_outcome step.Lock exchange judged after = lock_outcome exchange judged
 interface_outcome step.Report exchange judged after = report_outcome exchange judged
 interface_outcome step.Start exchange judged after = start_outcome exchange after.draw judged

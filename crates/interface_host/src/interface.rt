@@ -3,7 +3,7 @@
 ghost use Rattle.std.specs.Prelude.{◌≡◌, Some, None, slice_set, true};
 ghost use Rattle.interface_host.specs.Facts.{interface_facts};
 ghost use Rattle.interface_host.specs.Judging.{answer_shown};
-ghost use Rattle.interface_host.specs.Views.{interface_unless_secure, key_refusal, cut_outcome, peer_number};
+ghost use Rattle.interface_host.specs.Views.{interface_unless_secure, key_refusal, refused_outcome, peer_number};
 ghost use Rattle.interface_host.specs.Views.{asked_peers, was_started_after, needs_after};
 
 use crate::facts::InterfaceFacts;
@@ -74,8 +74,8 @@ fn key_refusal(draw: u32, needs: u32) -> Option<InterfaceRefusal>
 }
 
 // The operation is over at this exchange.
-fn cut(exchange: u32, answer: Answer) -> InterfaceOutcome
-    ensures { result ≡ cut_outcome exchange (answer_shown answer.entry) }
+fn refused_outcome(exchange: u32, answer: Answer) -> InterfaceOutcome
+    ensures { result ≡ refused_outcome exchange (answer_shown answer.entry) }
 {
     match answer {
         Answer::Lost => InterfaceOutcome::Refused(InterfaceRefusal::SessionLost(exchange)),
@@ -274,7 +274,7 @@ impl HostInterface {
             (Step::Unbind(peer), Answer::Passed) => InterfaceOutcome::Done(InterfaceResult::Unbound(
                 peer.line,
             )),
-            (_, answer) => cut(exchange, answer),
+            (_, answer) => refused_outcome(exchange, answer),
         }
     }
 

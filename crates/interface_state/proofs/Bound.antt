@@ -6,22 +6,22 @@ use Rattle.ide_types.specs.declared.binding.Binding.{Binding}
 use Rattle.interface_state.specs.declared.states.TdiState.{TdiState}
 use Rattle.interface_state.specs.declared.states.TdiState.TheVariants.{ConfigUnlocked, ConfigLocked, Run, Error}
 use Rattle.interface_state.specs.Bindings.{is_binding_on, without}
-use Rattle.interface_state.specs.Machine.{Tdi, is_locked, bindings_left, with_state, with_bindings, new_lock}
+use Rattle.interface_state.specs.Machine.{DeviceTdi, is_locked, bindings_left, with_state, with_bindings, new_lock}
 use Rattle.interface_state.specs.Machine.{interface_after_lock, lock_answer, bind_answer, interface_after_bind}
 use Rattle.interface_state.specs.Machine.{unbind_answer, unbound_with, Call, LockInterface, StartInterface}
 use Rattle.interface_state.specs.Machine.{StopInterface, BindStream, UnbindStream, WriteRegister, LevelReset}
-use Rattle.interface_state.specs.Machine.{FirmwareUpdate, StreamLeft, LinkReset, tdi_after}
+use Rattle.interface_state.specs.Machine.{FirmwareUpdate, StreamLeft, LinkReset, interface_after_call}
 use Rattle.interface_state.specs.Held.{IsBound}
 use Rattle.interface_state.specs.Laws.{BindingsEnd}
 
 -- ---- bindings leave the state
 
-pub bound_state : (tdi : Tdi) (stream : ℕ) (answer : Result ℕ ℕ) → (interface_after_bind tdi stream answer).state
+pub bound_state : (tdi : DeviceTdi) (stream : ℕ) (answer : Result ℕ ℕ) → (interface_after_bind tdi stream answer).state
     ≡ tdi.state
 bound_state tdi stream (Ok draw) = refl
 bound_state tdi stream (Err code) = refl
 
-pub unbound_state : (tdi : Tdi) (stream : ℕ) (answer : Result (Unit {0}) ℕ)
+pub unbound_state : (tdi : DeviceTdi) (stream : ℕ) (answer : Result (Unit {0}) ℕ)
     → (unbound_with tdi stream answer).state ≡ tdi.state
 unbound_state tdi stream (Ok done) = refl
 unbound_state tdi stream (Err code) = refl
@@ -35,7 +35,7 @@ left_same (Run lock) bs = refl
 left_same Error bs = refl
 
 -- the state that it is in already
-pub entered_same : (tdi : Tdi) → with_state tdi tdi.state ≡ tdi
+pub entered_same : (tdi : DeviceTdi) → with_state tdi tdi.state ≡ tdi
 entered_same tdi = ap (with_bindings tdi) (left_same tdi.state tdi.bindings)
 
 -- without a lock no binding is left, if there was none without a lock before
@@ -54,12 +54,12 @@ left_bound state next bs b =
 -- ---- a stream that is bound, or no longer bound
 
 -- only where a lock stands, and with room for it
-pub may_bind : (tdi : Tdi) (stream draw : ℕ) (live : Option ℕ) → bind_answer tdi stream live ≡ Ok draw
+pub may_bind : (tdi : DeviceTdi) (stream draw : ℕ) (live : Option ℕ) → bind_answer tdi stream live ≡ Ok draw
     → (is_locked tdi.state ≡ true) × (nat_lt (length tdi.bindings) 8 ≡ true)
 may_bind tdi stream draw None e = grind (arith, nat_tests)
 may_bind tdi stream draw (Some live) e = grind (arith, nat_tests)
 
-one_more : (tdi : Tdi) (stream : ℕ) (live : Option ℕ) (answer : Result ℕ ℕ) → bind_answer tdi stream live ≡ answer
+one_more : (tdi : DeviceTdi) (stream : ℕ) (live : Option ℕ) (answer : Result ℕ ℕ) → bind_answer tdi stream live ≡ answer
     → IsBound tdi.state tdi.bindings
     → IsBound (interface_after_bind tdi stream answer).state (interface_after_bind tdi stream answer).bindings
 one_more tdi stream live (Ok draw) e b =
@@ -82,21 +82,21 @@ bound_without state bs stream b =
     let few = b.few in
     record { locked = λ none. none_without stream bs (b.locked none); few = omega arith }
 
-one_less : (tdi : Tdi) (stream : ℕ) (answer : Result (Unit {0}) ℕ) → IsBound tdi.state tdi.bindings
+one_less : (tdi : DeviceTdi) (stream : ℕ) (answer : Result (Unit {0}) ℕ) → IsBound tdi.state tdi.bindings
     → IsBound (unbound_with tdi stream answer).state (unbound_with tdi stream answer).bindings
 one_less tdi stream (Ok done) b = bound_without tdi.state tdi.bindings stream b
 one_less tdi stream (Err code) b = b
 
 -- ---- each call
 
-locked_bound : (tdi : Tdi) (flags stream offset : ℕ) (answer : Result (List ℕ) ℕ) → IsBound tdi.state tdi.bindings
+locked_bound : (tdi : DeviceTdi) (flags stream offset : ℕ) (answer : Result (List ℕ) ℕ) → IsBound tdi.state tdi.bindings
     → IsBound (interface_after_lock tdi (new_lock tdi flags stream offset) answer).state
     (interface_after_lock tdi (new_lock tdi flags stream offset) answer).bindings
 locked_bound tdi flags stream offset (Ok nonce) b = left_bound tdi.state _ tdi.bindings b
 locked_bound tdi flags stream offset (Err code) b = b
 
-later : (tdi : Tdi) (call : Call) → IsBound tdi.state tdi.bindings
-    → IsBound (tdi_after tdi call).state (tdi_after tdi call).bindings
+later : (tdi : DeviceTdi) (call : Call) → IsBound tdi.state tdi.bindings
+    → IsBound (interface_after_call tdi call).state (interface_after_call tdi call).bindings
 later tdi (LockInterface flags stream offset secure drawn) b =
     locked_bound tdi flags stream offset (lock_answer tdi flags offset secure drawn) b
 later tdi (StartInterface nonce) b = left_bound tdi.state _ tdi.bindings b

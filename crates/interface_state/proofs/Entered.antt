@@ -9,7 +9,8 @@ use Rattle.interface_state.specs.declared.states.TdiState.{TdiState}
 use Rattle.interface_state.specs.declared.states.TdiState.TheVariants.{ConfigUnlocked, ConfigLocked, Run, Error}
 use Rattle.interface_state.specs.RegisterValues.{has_bit, changes_listed}
 use Rattle.interface_state.specs.Bars.{any_overlap, bars_of}
-use Rattle.interface_state.specs.Machine.{lock_of, Tdi, is_unlocked, lock_flags, are_lock_flags, is_page, nonce_answer}
+use Rattle.interface_state.specs.Machine.{lock_of, DeviceTdi, is_unlocked, lock_flags, are_lock_flags, is_page}
+use Rattle.interface_state.specs.Machine.{nonce_answer}
 use Rattle.interface_state.specs.Machine.{lock_answer, new_lock, interface_after_lock, after_start, after_change}
 use Rattle.interface_state.specs.Machine.{LockInterface, StartInterface, StopInterface, WriteRegister, LevelReset}
 use Rattle.interface_state.specs.Machine.{FirmwareUpdate, StreamLeft, LinkReset, BindStream, UnbindStream, bind_answer}
@@ -36,7 +37,7 @@ stood b state next lock is e = grind (arith, nat_tests)
 
 -- ---- CONFIG_LOCKED
 
-locked_state : (tdi : Tdi) (lock new : Lock) (nonce : List ℕ) (answer : Result (List ℕ) ℕ)
+locked_state : (tdi : DeviceTdi) (lock new : Lock) (nonce : List ℕ) (answer : Result (List ℕ) ℕ)
     → (interface_after_lock tdi new answer).state ≡ ConfigLocked lock nonce
     → (tdi.state ≡ ConfigLocked lock nonce) ⊎ ((answer ≡ Ok nonce) × (new ≡ lock))
 locked_state tdi lock new nonce answer e = grind (arith, nat_tests)
@@ -46,7 +47,8 @@ started_locked : (state : TdiState) (asked nonce : List ℕ) (lock : Lock) → a
 started_locked state asked nonce lock e = grind (arith, nat_tests)
 
 -- only the answer Ok enters the lock, and it comes if every refusal fails, the state among them
-enters : (tdi : Tdi) (flags stream offset : ℕ) (secure : Bool) (drawn : Option (List ℕ)) (lock : Lock) (nonce : List ℕ)
+enters : (tdi : DeviceTdi) (flags stream offset : ℕ) (secure : Bool) (drawn : Option (List ℕ)) (lock : Lock)
+    (nonce : List ℕ)
     → lock_answer tdi flags offset secure drawn ≡ Ok nonce → new_lock tdi flags stream offset ≡ lock
     → EntersLock tdi (LockInterface flags stream offset secure drawn) lock nonce
 enters tdi flags stream offset secure drawn lock nonce is new =
@@ -89,7 +91,7 @@ lock_is_entered tdi LinkReset lock nonce e = cc
 
 -- ---- RUN
 
-locked_run : (tdi : Tdi) (lock new : Lock) (answer : Result (List ℕ) ℕ)
+locked_run : (tdi : DeviceTdi) (lock new : Lock) (answer : Result (List ℕ) ℕ)
     → (interface_after_lock tdi new answer).state ≡ Run lock → tdi.state ≡ Run lock
 locked_run tdi lock new answer e = grind (arith, nat_tests)
 
@@ -97,7 +99,7 @@ runs : (lock held : Lock) (nonce asked : List ℕ) (b : Bool) → bytes_eq asked
     → (if b then Run held else ConfigLocked held nonce) ≡ Run lock → ConfigLocked held nonce ≡ ConfigLocked lock asked
 runs lock held nonce asked b same e = grind (arith, nat_tests, bytes_eq-Decides asked nonce)
 
-started_run : (tdi : Tdi) (state : TdiState) (nonce : List ℕ) (lock : Lock) → tdi.state ≡ state
+started_run : (tdi : DeviceTdi) (state : TdiState) (nonce : List ℕ) (lock : Lock) → tdi.state ≡ state
     → after_start state nonce ≡ Run lock → (tdi.state ≡ Run lock) ⊎ EntersRun tdi (StartInterface nonce) lock
 started_run tdi ConfigUnlocked nonce lock is e = cc
 started_run tdi (ConfigLocked held kept) nonce lock is e = inr

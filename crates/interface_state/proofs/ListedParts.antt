@@ -13,7 +13,7 @@ use Rattle.interface_state.specs.declared.states.TdiState.{TdiState}
 use Rattle.interface_state.specs.declared.states.TdiState.TheVariants.{ConfigUnlocked, ConfigLocked, Run, Error}
 use Rattle.interface_state.specs.RegisterValues.{IsAmongSix, planned_registers, with_value, has_bit, Listed}
 use Rattle.interface_state.specs.RegisterValues.{listed_registers, changes_listed}
-use Rattle.interface_state.specs.Machine.{Tdi, KeepsListed, lock_of, lock_flags, after_change, after_failure}
+use Rattle.interface_state.specs.Machine.{DeviceTdi, KeepsListed, lock_of, lock_flags, after_change, after_failure}
 use Rattle.interface_state.specs.Machine.{after_start, lock_answer, new_lock, interface_after_lock, LockInterface}
 use Rattle.interface_state.specs.Machine.{StartInterface, StopInterface, WriteRegister, LevelReset, FirmwareUpdate}
 use Rattle.interface_state.specs.Machine.{StreamLeft, LinkReset, BindStream, UnbindStream, bind_answer}
@@ -86,7 +86,7 @@ kept_written registers (ConfigLocked lock nonce) register value false e kept = u
 kept_written registers (Run lock) register value false e kept = unchanged lock.flags registers register value e ∙ kept
 kept_written registers Error register value false e kept = tt
 
-kept_locked : (tdi : Tdi) (lock : Lock) (answer : Result (List ℕ) ℕ) → lock.registers ≡ tdi.registers
+kept_locked : (tdi : DeviceTdi) (lock : Lock) (answer : Result (List ℕ) ℕ) → lock.registers ≡ tdi.registers
     → KeepsListed tdi.registers tdi.state
     → KeepsListed (interface_after_lock tdi lock answer).registers (interface_after_lock tdi lock answer).state
 kept_locked tdi lock (Ok nonce) same kept = ap (λ (x : Registers). listed_registers lock.flags x) (sym same)
@@ -110,12 +110,12 @@ kept_changed : (registers : Registers) (state : TdiState) (b : Bool) → KeepsLi
 kept_changed registers state true kept = lost registers state
 kept_changed registers state false kept = kept
 
-kept_bound : (tdi : Tdi) (stream : ℕ) (answer : Result ℕ ℕ) → KeepsListed tdi.registers tdi.state
+kept_bound : (tdi : DeviceTdi) (stream : ℕ) (answer : Result ℕ ℕ) → KeepsListed tdi.registers tdi.state
     → KeepsListed (interface_after_bind tdi stream answer).registers (interface_after_bind tdi stream answer).state
 kept_bound tdi stream (Ok draw) kept = kept
 kept_bound tdi stream (Err code) kept = kept
 
-kept_unbound : (tdi : Tdi) (stream : ℕ) (answer : Result (Unit {0}) ℕ) → KeepsListed tdi.registers tdi.state
+kept_unbound : (tdi : DeviceTdi) (stream : ℕ) (answer : Result (Unit {0}) ℕ) → KeepsListed tdi.registers tdi.state
     → KeepsListed (unbound_with tdi stream answer).registers (unbound_with tdi stream answer).state
 kept_unbound tdi stream (Ok done) kept = kept
 kept_unbound tdi stream (Err code) kept = kept

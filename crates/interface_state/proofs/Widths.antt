@@ -11,11 +11,11 @@ use Rattle.interface_state.specs.declared.states.Lock.{Lock}
 use Rattle.interface_state.specs.declared.states.TdiState.{TdiState}
 use Rattle.interface_state.specs.declared.states.TdiState.TheVariants.{ConfigUnlocked, ConfigLocked, Run, Error}
 use Rattle.interface_state.specs.RegisterValues.{with_value, planned_registers}
-use Rattle.interface_state.specs.Machine.{Tdi, lock_of, lock_answer, new_lock, interface_after_lock, after_start}
+use Rattle.interface_state.specs.Machine.{DeviceTdi, lock_of, lock_answer, new_lock, interface_after_lock, after_start}
 use Rattle.interface_state.specs.Machine.{after_failure, after_change, Call, LockInterface, StartInterface}
 use Rattle.interface_state.specs.Machine.{StopInterface, WriteRegister, LevelReset, FirmwareUpdate, StreamLeft}
 use Rattle.interface_state.specs.Machine.{LinkReset, BindStream, UnbindStream, bind_answer, interface_after_bind}
-use Rattle.interface_state.specs.Machine.{unbind_answer, unbound_with, tdi_after}
+use Rattle.interface_state.specs.Machine.{unbind_answer, unbound_with, interface_after_call}
 use Rattle.interface_state.specs.Laws.{FitsRegisters, FitsWidths, FitsCall, WidthsAreKept}
 
 written_fits : (registers : Registers) (register : Register) (value : ℕ) → value < 2 ^ width_of register
@@ -61,23 +61,24 @@ started_fits (ConfigLocked lock held) nonce fits = grind arith
 started_fits (Run lock) nonce fits = fits
 started_fits Error nonce fits = tt
 
-locked_fits : (tdi : Tdi) (lock : Lock) (answer : Result (List ℕ) ℕ) → FitsWidths tdi → FitsRegisters lock.registers
+locked_fits : (tdi : DeviceTdi) (lock : Lock) (answer : Result (List ℕ) ℕ) → FitsWidths tdi
+    → FitsRegisters lock.registers
     → FitsWidths (interface_after_lock tdi lock answer)
 locked_fits tdi lock (Ok nonce) fits kept = record { registers = fits.registers; locked = kept }
 locked_fits tdi lock (Err code) fits kept = fits
 
-bound_fits : (tdi : Tdi) (stream : ℕ) (answer : Result ℕ ℕ) → FitsWidths tdi
+bound_fits : (tdi : DeviceTdi) (stream : ℕ) (answer : Result ℕ ℕ) → FitsWidths tdi
     → FitsWidths (interface_after_bind tdi stream answer)
 bound_fits tdi stream (Ok draw) fits = record { registers = fits.registers; locked = fits.locked }
 bound_fits tdi stream (Err code) fits = fits
 
-unbound_fits : (tdi : Tdi) (stream : ℕ) (answer : Result (Unit {0}) ℕ) → FitsWidths tdi
+unbound_fits : (tdi : DeviceTdi) (stream : ℕ) (answer : Result (Unit {0}) ℕ) → FitsWidths tdi
     → FitsWidths (unbound_with tdi stream answer)
 unbound_fits tdi stream (Ok done) fits = record { registers = fits.registers; locked = fits.locked }
 unbound_fits tdi stream (Err code) fits = fits
 
-later : (tdi : Tdi) (call : Call) → FitsRegisters (planned_registers tdi.plan) → FitsWidths tdi → FitsCall call
-    → FitsWidths (tdi_after tdi call)
+later : (tdi : DeviceTdi) (call : Call) → FitsRegisters (planned_registers tdi.plan) → FitsWidths tdi → FitsCall call
+    → FitsWidths (interface_after_call tdi call)
 later tdi (LockInterface flags stream offset secure drawn) planned_fits fits room =
     locked_fits tdi (new_lock tdi flags stream offset) (lock_answer tdi flags offset secure drawn) fits fits.registers
 later tdi (StartInterface nonce) planned_fits fits room =

@@ -13,8 +13,9 @@ use Rattle.interface_state.specs.RegisterValues.{IsAmongSix, with_value, planned
 use Rattle.interface_state.specs.RegisterValues.{changes_listed}
 use Rattle.interface_state.specs.Bars.{bar_end, bars_overlap, any_overlap}
 use Rattle.interface_state.specs.Kept.{interface_report, kept_report, IsShortReport}
-use Rattle.interface_state.specs.Machine.{Tdi, new_tdi, KeepsListed, lock_of, after_write, Call, LockInterface}
-use Rattle.interface_state.specs.Machine.{StartInterface, WriteRegister, tdi_after}
+use Rattle.interface_state.specs.Machine.{DeviceTdi, new_device_interface, KeepsListed, lock_of, after_write, Call}
+use Rattle.interface_state.specs.Machine.{LockInterface}
+use Rattle.interface_state.specs.Machine.{StartInterface, WriteRegister, interface_after_call}
 use Rattle.interface_state.specs.Held.{FitsTdi, FitsShown, IsBound}
 
 -- a write changes the listed part exactly if it is a listed change
@@ -25,7 +26,7 @@ ChangesAreListed = (flags : ℕ) (registers : Registers) (register : Register) (
 
 -- in CONFIG_LOCKED and RUN a write that changes the listed part leads to ERROR
 abbrev pub ChangeIsError : Type 0
-ChangeIsError = (tdi : Tdi) (lock : Lock) (register : Register) (value : ℕ) → length tdi.registers.bars ≡ 6
+ChangeIsError = (tdi : DeviceTdi) (lock : Lock) (register : Register) (value : ℕ) → length tdi.registers.bars ≡ 6
     → IsAmongSix register
     → lock_of tdi.state ≡ Some lock → listed_registers lock.flags (with_value tdi.registers register value)
     ≢ listed_registers lock.flags
@@ -38,7 +39,7 @@ pub record FitsRegisters (registers : Registers) : Type 0 where
   pub shown : FitsShown registers
 
 -- the registers as they stand, and as the lock that stands kept them
-pub record FitsWidths (tdi : Tdi) : Type 0 where
+pub record FitsWidths (tdi : DeviceTdi) : Type 0 where
   pub registers : FitsRegisters tdi.registers
   pub locked : IfSome (lock_of tdi.state) (λ lock. FitsRegisters lock.registers)
 
@@ -50,9 +51,10 @@ FitsCall call = Unit {0}
 -- what the laws on reports and on listed changes suppose holds of an interface from its beginning on, and each call
 -- keeps it
 pub record WidthsAreKept : Type 0 where
-  pub first : (plan : InterfacePlan) → FitsRegisters (planned_registers plan) → FitsWidths (new_tdi plan)
-  pub later : (tdi : Tdi) (call : Call) → FitsRegisters (planned_registers tdi.plan) → FitsWidths tdi → FitsCall call
-      → FitsWidths (tdi_after tdi call)
+  pub first : (plan : InterfacePlan) → FitsRegisters (planned_registers plan) → FitsWidths (new_device_interface plan)
+  pub later : (tdi : DeviceTdi) (call : Call) → FitsRegisters (planned_registers tdi.plan) → FitsWidths tdi
+      → FitsCall call
+      → FitsWidths (interface_after_call tdi call)
 
 -- a byte of a BAR's range
 abbrev pub HasByte : BarPlan → ℕ → Type 0
@@ -68,35 +70,35 @@ OverlapsArePairs = (bars : List BarPlan) → (any_overlap bars ≡ false)
 
 -- no call takes the listed registers away from those that the lock kept, while it stands
 abbrev pub ListedIsKept : Type 0
-ListedIsKept = (tdi : Tdi) (call : Call) → KeepsListed tdi.registers tdi.state
-    → KeepsListed (tdi_after tdi call).registers (tdi_after tdi call).state
+ListedIsKept = (tdi : DeviceTdi) (call : Call) → KeepsListed tdi.registers tdi.state
+    → KeepsListed (interface_after_call tdi call).registers (interface_after_call tdi call).state
 
 -- an interface is bound to streams between two devices in CONFIG_LOCKED and RUN alone
 pub record BindingsEnd : Type 0 where
-  pub first : (plan : InterfacePlan) → IsBound (new_tdi plan).state (new_tdi plan).bindings
-  pub later : (tdi : Tdi) (call : Call) → IsBound tdi.state tdi.bindings
-      → IsBound (tdi_after tdi call).state (tdi_after tdi call).bindings
+  pub first : (plan : InterfacePlan) → IsBound (new_device_interface plan).state (new_device_interface plan).bindings
+  pub later : (tdi : DeviceTdi) (call : Call) → IsBound tdi.state tdi.bindings
+      → IsBound (interface_after_call tdi call).state (interface_after_call tdi call).bindings
 
 -- CONFIG_LOCKED was just entered: from CONFIG_UNLOCKED, by a request with the lock's flags, stream and offset that was
 -- answered with this nonce; the lock kept the registers as they stood
-pub record EntersLock (tdi : Tdi) (call : Call) (lock : Lock) (nonce : List ℕ) : Type 0 where
+pub record EntersLock (tdi : DeviceTdi) (call : Call) (lock : Lock) (nonce : List ℕ) : Type 0 where
   pub from : tdi.state ≡ ConfigUnlocked
   pub asked : call ≡ LockInterface lock.flags lock.stream lock.offset true (Some nonce)
   pub kept : lock.registers ≡ tdi.registers
 
 abbrev pub LockIsEntered : Type 0
-LockIsEntered = (tdi : Tdi) (call : Call) (lock : Lock) (nonce : List ℕ) → (tdi_after tdi call).state
+LockIsEntered = (tdi : DeviceTdi) (call : Call) (lock : Lock) (nonce : List ℕ) → (interface_after_call tdi call).state
     ≡ ConfigLocked lock nonce
     → (tdi.state ≡ ConfigLocked lock nonce) ⊎ EntersLock tdi call lock nonce
 
 -- RUN was just entered: from CONFIG_LOCKED, by START_INTERFACE with the nonce of its lock
-pub record EntersRun (tdi : Tdi) (call : Call) (lock : Lock) : Type 0 where
+pub record EntersRun (tdi : DeviceTdi) (call : Call) (lock : Lock) : Type 0 where
   pub nonce : List ℕ
   pub from : tdi.state ≡ ConfigLocked lock nonce
   pub asked : call ≡ StartInterface nonce
 
 abbrev pub RunIsEntered : Type 0
-RunIsEntered = (tdi : Tdi) (call : Call) (lock : Lock) → (tdi_after tdi call).state ≡ Run lock
+RunIsEntered = (tdi : DeviceTdi) (call : Call) (lock : Lock) → (interface_after_call tdi call).state ≡ Run lock
     → (tdi.state ≡ Run lock) ⊎ EntersRun tdi call lock
 
 -- a report has at most 1,140 bytes

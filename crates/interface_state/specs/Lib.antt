@@ -19,14 +19,15 @@ pub use Rattle.interface_state.specs.Bars.{bar_at, bars_of, bar_end, bars_overla
 pub use Rattle.interface_state.specs.Bars.{reported_range, reported_ranges}
 pub use Rattle.interface_state.specs.Kept.{interface_info, interface_report, interface_report_bytes, kept_report}
 pub use Rattle.interface_state.specs.Kept.{IsShortReport}
-pub use Rattle.interface_state.specs.Machine.{error_code, state_code, Tdi, new_tdi, with_state, is_unlocked, lock_of}
+pub use Rattle.interface_state.specs.Machine.{error_code, state_code, DeviceTdi, new_device_interface, with_state}
+pub use Rattle.interface_state.specs.Machine.{is_unlocked, lock_of}
 pub use Rattle.interface_state.specs.Machine.{bound_link_stream, lock_flags, KeepsListed, are_lock_flags, is_page}
 pub use Rattle.interface_state.specs.Machine.{nonce_answer, lock_answer, new_lock, interface_after_lock}
 pub use Rattle.interface_state.specs.Machine.{locked_interface, portion_of, portion_shown, portion_answer, start_answer}
 pub use Rattle.interface_state.specs.Machine.{after_start, after_failure, after_change, after_write, level_reset}
 pub use Rattle.interface_state.specs.Machine.{firmware_updated, Call, LockInterface, StartInterface, StopInterface}
 pub use Rattle.interface_state.specs.Machine.{WriteRegister, LevelReset, FirmwareUpdate, StreamLeft, LinkReset}
-pub use Rattle.interface_state.specs.Machine.{BindStream, UnbindStream, tdi_after, is_locked, bindings_left}
+pub use Rattle.interface_state.specs.Machine.{BindStream, UnbindStream, interface_after_call, is_locked, bindings_left}
 pub use Rattle.interface_state.specs.Machine.{draw_answer, bindings_after, bind_answer, is_answered}
 pub use Rattle.interface_state.specs.Machine.{interface_after_bind, bound_interface, unbind_answer, unbound_with}
 pub use Rattle.interface_state.specs.Machine.{interface_after_unbind, own_binding, all_bindings}

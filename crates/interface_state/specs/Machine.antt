@@ -48,14 +48,15 @@ state_code Error = 3
 
 -- the layout of the interface, its registers, its state with what the lock that stands kept, and the streams between
 -- two devices that it is bound to
-pub record Tdi : Type 0 where
+pub record DeviceTdi : Type 0 where
   pub plan : InterfacePlan
   pub registers : Registers
   pub state : TdiState
   pub bindings : List Binding
 
-abbrev pub new_tdi : InterfacePlan → Tdi
-new_tdi plan = record { plan = plan; registers = planned_registers plan; state = ConfigUnlocked; bindings = [] }
+abbrev pub new_device_interface : InterfacePlan → DeviceTdi
+new_device_interface plan = record
+    { plan = plan; registers = planned_registers plan; state = ConfigUnlocked; bindings = [] }
 
 abbrev pub is_unlocked : TdiState → Bool
 is_unlocked ConfigUnlocked = true
@@ -74,10 +75,10 @@ is_locked state = is_some (lock_of state)
 abbrev pub bindings_left : TdiState → TdiState → List Binding → List Binding
 bindings_left state next bs = if not (is_locked next) && is_locked state then [] else bs
 
-abbrev pub bindings_after : Tdi → TdiState → List Binding
+abbrev pub bindings_after : DeviceTdi → TdiState → List Binding
 bindings_after tdi next = bindings_left tdi.state next tdi.bindings
 
-abbrev pub with_state : Tdi → TdiState → Tdi
+abbrev pub with_state : DeviceTdi → TdiState → DeviceTdi
 with_state tdi state =
     record { plan = tdi.plan; registers = tdi.registers; state = state; bindings = bindings_after tdi state }
 
@@ -111,7 +112,7 @@ nonce_answer (Some nonce) = Ok nonce
 nonce_answer None = Err (error_code InsufficientEntropy)
 
 -- `secure` says that the stream is known and Secure at the device; `drawn` is the next nonce of its list
-abbrev pub lock_answer : Tdi → ℕ → ℕ → Bool → Option (List ℕ) → Result (List ℕ) ℕ
+abbrev pub lock_answer : DeviceTdi → ℕ → ℕ → Bool → Option (List ℕ) → Result (List ℕ) ℕ
 lock_answer tdi flags offset secure drawn =
     if not (is_unlocked tdi.state) then Err (error_code InvalidInterfaceState)
     else if not (are_lock_flags flags && is_page offset) then Err (error_code InvalidRequest)
@@ -120,15 +121,15 @@ lock_answer tdi flags offset secure drawn =
     else nonce_answer drawn
 
 -- what a lock keeps: its flags, stream and offset, and the registers as they stand
-abbrev pub new_lock : Tdi → ℕ → ℕ → ℕ → Lock
+abbrev pub new_lock : DeviceTdi → ℕ → ℕ → ℕ → Lock
 new_lock tdi flags stream offset = record { flags = flags; stream = stream; offset = offset; registers = tdi.registers }
 
 -- CONFIG_LOCKED with this nonce, or as before after a refusal
-abbrev pub interface_after_lock : Tdi → Lock → Result (List ℕ) ℕ → Tdi
+abbrev pub interface_after_lock : DeviceTdi → Lock → Result (List ℕ) ℕ → DeviceTdi
 interface_after_lock tdi lock (Ok nonce) = with_state tdi (ConfigLocked lock nonce)
 interface_after_lock tdi lock (Err code) = tdi
 
-abbrev pub locked_interface : Tdi → ℕ → ℕ → ℕ → Bool → Option (List ℕ) → Tdi
+abbrev pub locked_interface : DeviceTdi → ℕ → ℕ → ℕ → Bool → Option (List ℕ) → DeviceTdi
 locked_interface tdi flags stream offset secure drawn = interface_after_lock tdi (new_lock tdi flags stream offset)
     (lock_answer tdi flags offset secure drawn)
 
@@ -147,7 +148,7 @@ portion_shown (Ok portion) = Ok (portion.0.now, portion.1)
 portion_shown (Err code) = Err code
 
 -- of the report that the lock kept
-abbrev pub portion_answer : Tdi → ℕ → ℕ → Result (List ℕ × ℕ) ℕ
+abbrev pub portion_answer : DeviceTdi → ℕ → ℕ → Result (List ℕ × ℕ) ℕ
 portion_answer tdi offset size = portion_of (option_map (kept_report tdi.plan) (lock_of tdi.state)) offset size
 
 -- ---- START_INTERFACE and STOP_INTERFACE
@@ -175,7 +176,7 @@ after_change true state = after_failure state
 after_change false state = state
 
 -- a register is written: in CONFIG_LOCKED and RUN a listed change sends the interface to ERROR
-abbrev pub after_write : Tdi → Register → ℕ → Tdi
+abbrev pub after_write : DeviceTdi → Register → ℕ → DeviceTdi
 after_write tdi register value = record {
   plan = tdi.plan;
   registers = with_value tdi.registers register value;
@@ -186,7 +187,7 @@ after_write tdi register value = record {
 }
 
 -- a function level reset
-abbrev pub level_reset : Tdi → Tdi
+abbrev pub level_reset : DeviceTdi → DeviceTdi
 level_reset tdi = record {
   plan = tdi.plan;
   registers = planned_registers tdi.plan;
@@ -209,7 +210,7 @@ draw_answer bs (Some draw) =
 
 -- `live` is the draw that is Live where the device receives posted requests on the stream, if that is between this
 -- device and another, and Secure here
-abbrev pub bind_answer : Tdi → ℕ → Option ℕ → Result ℕ ℕ
+abbrev pub bind_answer : DeviceTdi → ℕ → Option ℕ → Result ℕ ℕ
 bind_answer tdi stream live =
     if not (is_locked tdi.state) then Err (error_code InvalidInterfaceState)
     else if not (has_bit 3 (lock_flags tdi.state) && not (binds stream tdi.bindings))
@@ -221,28 +222,28 @@ abbrev pub is_answered : Result ℕ ℕ → Result (Unit {0}) ℕ
 is_answered (Ok value) = Ok tt
 is_answered (Err code) = Err code
 
-abbrev pub with_bindings : Tdi → List Binding → Tdi
+abbrev pub with_bindings : DeviceTdi → List Binding → DeviceTdi
 with_bindings tdi bs = record { plan = tdi.plan; registers = tdi.registers; state = tdi.state; bindings = bs }
 
-abbrev pub interface_after_bind : Tdi → ℕ → Result ℕ ℕ → Tdi
+abbrev pub interface_after_bind : DeviceTdi → ℕ → Result ℕ ℕ → DeviceTdi
 interface_after_bind tdi stream (Ok draw) =
     with_bindings tdi (tdi.bindings ++ record { stream = stream; floor = draw } ∷ [])
 interface_after_bind tdi stream (Err code) = tdi
 
-abbrev pub bound_interface : Tdi → ℕ → Option ℕ → Tdi
+abbrev pub bound_interface : DeviceTdi → ℕ → Option ℕ → DeviceTdi
 bound_interface tdi stream live = interface_after_bind tdi stream (bind_answer tdi stream live)
 
-abbrev pub unbind_answer : Tdi → ℕ → Result (Unit {0}) ℕ
+abbrev pub unbind_answer : DeviceTdi → ℕ → Result (Unit {0}) ℕ
 unbind_answer tdi stream =
     if not (is_locked tdi.state) then Err (error_code InvalidInterfaceState)
     else if binds stream tdi.bindings then Ok tt
     else Err (error_code InvalidRequest)
 
-abbrev pub unbound_with : Tdi → ℕ → Result (Unit {0}) ℕ → Tdi
+abbrev pub unbound_with : DeviceTdi → ℕ → Result (Unit {0}) ℕ → DeviceTdi
 unbound_with tdi stream (Ok done) = with_bindings tdi (without stream tdi.bindings)
 unbound_with tdi stream (Err code) = tdi
 
-abbrev pub interface_after_unbind : Tdi → ℕ → Tdi
+abbrev pub interface_after_unbind : DeviceTdi → ℕ → DeviceTdi
 interface_after_unbind tdi stream = unbound_with tdi stream (unbind_answer tdi stream)
 
 -- ---- all streams that it is bound to
@@ -253,7 +254,7 @@ own_binding floor None = []
 own_binding floor (Some stream) = record { stream = stream; floor = floor } ∷ []
 
 -- first that of a link, with this floor; then those between two devices
-abbrev pub all_bindings : ℕ → Tdi → List Binding
+abbrev pub all_bindings : ℕ → DeviceTdi → List Binding
 all_bindings floor tdi = own_binding floor (bound_link_stream tdi.state) ++ tdi.bindings
 
 -- ---- all calls
@@ -270,14 +271,15 @@ pub data Call : Type 0 where
   StreamLeft : Call
   LinkReset : Call
 
-abbrev pub tdi_after : Tdi → Call → Tdi
-tdi_after tdi (LockInterface flags stream offset secure drawn) = locked_interface tdi flags stream offset secure drawn
-tdi_after tdi (StartInterface nonce) = with_state tdi (after_start tdi.state nonce)
-tdi_after tdi StopInterface = with_state tdi ConfigUnlocked
-tdi_after tdi (BindStream stream live) = bound_interface tdi stream live
-tdi_after tdi (UnbindStream stream) = interface_after_unbind tdi stream
-tdi_after tdi (WriteRegister register value) = after_write tdi register value
-tdi_after tdi LevelReset = level_reset tdi
-tdi_after tdi FirmwareUpdate = with_state tdi (firmware_updated tdi.state)
-tdi_after tdi StreamLeft = with_state tdi (after_failure tdi.state)
-tdi_after tdi LinkReset = new_tdi tdi.plan
+abbrev pub interface_after_call : DeviceTdi → Call → DeviceTdi
+interface_after_call tdi (LockInterface flags stream offset secure drawn) = locked_interface tdi flags stream offset
+    secure drawn
+interface_after_call tdi (StartInterface nonce) = with_state tdi (after_start tdi.state nonce)
+interface_after_call tdi StopInterface = with_state tdi ConfigUnlocked
+interface_after_call tdi (BindStream stream live) = bound_interface tdi stream live
+interface_after_call tdi (UnbindStream stream) = interface_after_unbind tdi stream
+interface_after_call tdi (WriteRegister register value) = after_write tdi register value
+interface_after_call tdi LevelReset = level_reset tdi
+interface_after_call tdi FirmwareUpdate = with_state tdi (firmware_updated tdi.state)
+interface_after_call tdi StreamLeft = with_state tdi (after_failure tdi.state)
+interface_after_call tdi LinkReset = new_device_interface tdi.plan

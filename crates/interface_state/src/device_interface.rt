@@ -41,10 +41,10 @@ pub struct Interface {
 }
 
 impl Model for Interface {
-    ghost use Rattle.interface_state.specs.Machine.{Tdi};
+    ghost use Rattle.interface_state.specs.Machine.{DeviceTdi};
     ghost use Rattle.interface_state.specs.Held.{IsHeld};
 
-    ghost Value = { Tdi };
+    ghost Value = { DeviceTdi };
 
     ghost view = { λ i. record {
       plan = i.plan;
@@ -155,7 +155,8 @@ fn portion(report: &[u8], offset: u16, size: u16) -> Result<(&[u8], u16), u32>
 
 impl Interface {
     ghost use Rattle.interface_state.specs.declared.states.TdiState.TheVariants.{ConfigUnlocked, ConfigLocked};
-    ghost use Rattle.interface_state.specs.Machine.{Tdi, new_tdi, with_state, lock_of, bound_link_stream, state_code};
+    ghost use Rattle.interface_state.specs.Machine.{DeviceTdi, new_device_interface, with_state, lock_of};
+    ghost use Rattle.interface_state.specs.Machine.{bound_link_stream, state_code};
     ghost use Rattle.interface_state.specs.Machine.{KeepsListed, lock_answer, locked_interface, new_lock};
     ghost use Rattle.interface_state.specs.Machine.{portion_answer};
     ghost use Rattle.interface_state.specs.Machine.{all_bindings, bind_answer, bound_interface, is_answered, is_locked};
@@ -166,7 +167,7 @@ impl Interface {
     /// reports.
     pub fn make(alloc: Global, plan: &InterfacePlan) -> Result<Interface, OutOfMemory>
         requires { FitsTdi plan.now }
-        ensures { IfOk result (λ i. i ≡ new_tdi plan.now) }
+        ensures { IfOk result (λ i. i ≡ new_device_interface plan.now) }
     {
         let registers = Registers::planned(plan);
         let plan = copied(alloc, plan)?;
@@ -405,7 +406,7 @@ impl Interface {
 
     /// A reset of the link: CONFIG_UNLOCKED, with the topology's registers.
     pub fn reset(&mut self)
-        ensures { self.new ≡ new_tdi self.old.plan }
+        ensures { self.new ≡ new_device_interface self.old.plan }
     {
         self.registers = Registers::planned(&self.plan);
         self.state = TdiState::ConfigUnlocked;

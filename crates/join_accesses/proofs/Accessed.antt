@@ -15,7 +15,7 @@ use Rattle.ide_types.specs.declared.plan.LinkPlan.{LinkPlan}
 use Rattle.ide_types.specs.declared.plan.Plan.{Plan}
 use Rattle.event_verdicts.specs.declared.verdict.Verdict.{Verdict}
 use Rattle.event_verdicts.specs.declared.verdict.Verdict.TheVariants as v
-use Rattle.interface_state.specs.Machine.{Tdi}
+use Rattle.interface_state.specs.Machine.{DeviceTdi}
 use Rattle.interface_host.specs.Managers.{interface_of_requester}
 use Rattle.interface_host.specs.Views.{HostTdi, is_requester as is_reader}
 use Rattle.guarded_memory.specs.declared.status.InterfaceStatus.{InterfaceStatus}
@@ -170,7 +170,7 @@ module _ (plan : Plan) (ends : List LinkEnds) (m : InterfacesView) (memory : Mem
   before_is link = held_interfaces_before ends plan.links link many each_many
 
   -- what the machine keeps of the interface at a place of a device
-  kept_at : (link k : ℕ) (l : LinkEnds) (t : Tdi) → slice_get ends link ≡ Some l
+  kept_at : (link k : ℕ) (l : LinkEnds) (t : DeviceTdi) → slice_get ends link ≡ Some l
       → slice_get l.device.interfaces.interfaces k ≡ Some t
       → (f : Face) × (slice_get w.faces.list (interfaces_before plan.links link + k) ≡ Some f) × (t ≡ f.tdi)
   kept_at link k l t is there =

@@ -22,7 +22,7 @@ use Rattle.script_events.specs.declared.event.Loss.{Loss}
 use Rattle.event_verdicts.specs.declared.verdict.Verdict.{Verdict}
 use Rattle.event_verdicts.specs.declared.verdict.Verdict.TheVariants as v
 use Rattle.spec_keys.specs.History.{History}
-use Rattle.interface_state.specs.Machine.{Tdi}
+use Rattle.interface_state.specs.Machine.{DeviceTdi}
 use Rattle.ide_prefix.specs.Packet.{Packet}
 use Rattle.trusted_memory.specs.declared.queue.WaitingRead.{WaitingRead}
 use Rattle.guarded_memory.specs.declared.status.InterfaceStatus.{InterfaceStatus}
@@ -43,7 +43,8 @@ use Rattle.join_world.specs.{AccessesAnswer, AccessesForward, AccessesReset, Acc
 use Rattle.join_world.specs.{AccessesInterface, AccessesTurn, AreLeftBy, arrival_in_state, bars_named, carried_on_link}
 use Rattle.join_world.specs.{carried_after_event, device_draw, floors_at, floors_set, floors_started, flr_at, halted_in}
 use Rattle.join_world.specs.{happens_at, interface_named, LinkEnds, links_state, mmio_at, nothing_happens, reads_at}
-use Rattle.join_world.specs.{reset_happens, runs_in, same_carried, same_floors, same_reads, sizes_at, tdi_named}
+use Rattle.join_world.specs.{reset_happens, runs_in, same_carried, same_floors, same_reads, sizes_at}
+use Rattle.join_world.specs.{named_device_interface}
 use Rattle.join_world.specs.{interface_of_ends, WholeLinks}
 use Rattle.spec_links.specs.Hops.{HopTlp}
 use Rattle.law_reads.specs.Waiting.{waiting_next}
@@ -274,7 +275,7 @@ module _ (plan : Plan) (old new : WholeLinks) (w : Whole) (verdict : Verdict)
 
   named_before : (i : ℕ) (x : Site) → slice_get (sites plan) i ≡ Some x
       → (p : IsPlaced plan old.links.ends.links old.links.keeper.interfaces w i x)
-      → tdi_named old.links.keeper.interfaces old.links.ends.links i ≡ Some p.tdi
+      → named_device_interface old.links.keeper.interfaces old.links.ends.links i ≡ Some p.tdi
   named_before i x at p =
       ap (option_and_then (interface_of_ends old.links.ends.links))
       (interface_there plan old.links.ends.links old.links.keeper.interfaces old.links.trusted.contents w i x p
@@ -296,7 +297,7 @@ module _ (plan : Plan) (old new : WholeLinks) (w : Whole) (verdict : Verdict)
 
     named_now : (i : ℕ) (x : Site) → slice_get (sites plan) i ≡ Some x
         → (p : IsPlaced plan new.links.ends.links new.links.keeper.interfaces whole_now i x)
-        → tdi_named new.links.keeper.interfaces new.links.ends.links i ≡ Some p.tdi
+        → named_device_interface new.links.keeper.interfaces new.links.ends.links i ≡ Some p.tdi
     named_now i x at p =
         ap (option_and_then (interface_of_ends new.links.ends.links)) (interface_now i x at p)
         ∙ tdi_there plan new.links.ends.links new.links.keeper.interfaces new.links.trusted.contents whole_now after
@@ -312,7 +313,7 @@ module _ (plan : Plan) (old new : WholeLinks) (w : Whole) (verdict : Verdict)
         → (p : IsPlaced plan new.links.ends.links new.links.keeper.interfaces whole_now i x)
         → bars_named new.links i ≡ x.plan.bars
     bars_now i x at p =
-        ap (λ (o : Option Tdi). option_map_or (λ (t : Tdi). t.plan.bars) o []) (named_now i x at p)
+        ap (λ (o : Option DeviceTdi). option_map_or (λ (t : DeviceTdi). t.plan.bars) o []) (named_now i x at p)
         ∙ ap (λ y. y.bars) p.keeps.layout
 
     nowhere_now : (i : ℕ) → length (sites plan) ≤ i
@@ -424,8 +425,8 @@ module _ (plan : Plan) (old new : WholeLinks) (w : Whole) (verdict : Verdict)
 
         came_is : (not (runs_in old.links i) && runs_in new.links i) ≡ came_in
         came_is =
-            (λ j. not (option_map_or (λ (t : Tdi). is_run t.state) (named_before i x at p j) false)
-            && option_map_or (λ (t : Tdi). is_run t.state) (named_now e_start after i x at q j) false)
+            (λ j. not (option_map_or (λ (t : DeviceTdi). is_run t.state) (named_before i x at p j) false)
+            && option_map_or (λ (t : DeviceTdi). is_run t.state) (named_now e_start after i x at q j) false)
             ∙ (λ j. not (is_run (p.keeps.tdi_is j).state) && is_run (q.keeps.tdi_is j).state)
 
         draw_is : device_draw new.links i x.link ≡ device_draw_at plan w.links x

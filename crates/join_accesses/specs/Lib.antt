@@ -19,5 +19,6 @@ pub use Rattle.join_world.specs.{operated_on, ops_by_line, line_ops, managed_pee
 pub use Rattle.join_world.specs.{port_on, reader_of, reads_at, completion_with_bytes, reply_at_ends, reply_numbered}
 pub use Rattle.join_world.specs.{reply_oldest, reset_happens, runs_in, same_carried, same_floors, same_reads}
 pub use Rattle.join_world.specs.{says_by_ports, sizes_at, small_number, statuses_of_ends, state_of, stopped_if}
-pub use Rattle.join_world.specs.{tdi_named, interface_of_ends, told_on_line, trusting_on, unit_tlps, views_after}
+pub use Rattle.join_world.specs.{named_device_interface, interface_of_ends, told_on_line, trusting_on, unit_tlps}
+pub use Rattle.join_world.specs.{views_after}
 pub use Rattle.join_world.specs.{waiting_reads_after, writes_by, reset_if, stream_named, told_by_link, told_by_peer}

@@ -10,7 +10,8 @@ use Rattle.ide_types.specs.declared.plan.Plan.{Plan}
 use Rattle.machine_ports.specs.Machine.{BesidePorts, LinkPacket, LinkState, Stepped, packet_numbered, packet_verdict}
 use Rattle.machine_ports.specs.Machine.{stepped_cut, stepped_packet, verdict_of_taken}
 unfoldable use Rattle.machine_ports.specs.Machine.{with_stream_state, step_of}
-use Rattle.spec_stream.specs.Stream.{unit_name, Accepted, LiveKey, StreamState, Taken, state_after, stream_outcome}
+use Rattle.spec_stream.specs.Stream.{unit_name, Accepted, LiveKey, StreamState, PacketOutcome, state_after}
+use Rattle.spec_stream.specs.Stream.{stream_outcome}
 use Rattle.link_stores.specs.declared.link.LinkAccesses.{LinkAccesses}
 use Rattle.std.proofs.Common.{Bool, List, [], ap, arith, false, length, refl, sym, ℕ, ◌+◌, ◌==◌, ◌∙◌, ◌∷◌, ◌≡◌}
 use Rattle.std.specs.Prelude.{Err, None, Ok, Option, Result, Some, if◌then◌else◌, option_map}
@@ -110,11 +111,11 @@ effects_at regions m port l a unit ps =
 
 module _ (b : BesidePorts) (plan : Plan) (end port : PortName) (at : port_of plan end ≡ port)
     (effects : UnitName → List Packet → List Effect) (opens : Opens b end effects) where
-  abbrev Says : Packet → StreamState → Taken → Type 0
+  abbrev Says : Packet → StreamState → PacketOutcome → Type 0
   Says p x t = verdict_of_taken b end p t ≡ arrival_verdict end port (port_arrival p t)
       (λ unit. effects unit (opened_if_accepted x p t))
 
-  taken_says : (p : Packet) (x : StreamState) (t : Taken) → IsTaken x p t → Says p x t
+  taken_says : (p : Packet) (x : StreamState) (t : PacketOutcome) → IsTaken x p t → Says p x t
   taken_says p x (Accepted draw n ps) under =
       let unit : UnitName = unit_name p draw n in
       ap (λ (es : List Effect). v.Accepted end unit es)
@@ -151,7 +152,7 @@ module _ (b : BesidePorts) (plan : Plan) (end port : PortName) (at : port_of pla
         let closed : is_closed plan end.line p.prefix.stream ≡ f.plan.closed = closed_at plan end e p.prefix.stream f
         at_port here in
         let id : f.plan.id ≡ p.prefix.stream = found_id e.plans e.states p.prefix.stream f here in
-        let t : Taken = stream_outcome f.plan.aggregation f.plan.closed f.state p in
+        let t : PacketOutcome = stream_outcome f.plan.aggregation f.plan.closed f.state p in
         let one : stepped_packet plan b st end p (Some f.state)
         ≡ (verdict_of_taken b end p t, with_stream_state plan st end p.prefix.stream (state_after f.state p t)) =
         (λ i. (

@@ -5,7 +5,7 @@ use Rattle.join_ends.specs.{AreLinks, IsLink, IsPair, StreamKept, KeptBy, name_o
 use Rattle.join_ends.specs.{IsOperated, IsWalked, KeeperView, Operates, ends_found, IsJoined, KeysKept, OperationsJoin}
 use Rattle.join_ends.specs.{host_of, pool_by, verdict_due, LinkEnds, PairEnds, StreamEnds, WalkedEnds, begun_ends}
 use Rattle.join_ends.specs.{event_walk, walk_on, EndsView, port_on, line_place, pair_port, port_at_place, settled_place}
-use Rattle.join_ends.specs.{OperatesAt, OperatesIn, LinePlace, Link}
+use Rattle.join_ends.specs.{OperatesAt, OperatesByPlace, LinePlace, Link}
 use Rattle.join_ends.specs.{Near, Pair, port_in, IsAtBoth, IsPairOperated, IsPairWalked, PairOperates, pair_found}
 use Rattle.join_ends.proofs.{IsNamed, named_stands, is_asked, changed_is, each_set, Grows, KeepsEnds}
 use Rattle.join_ends.proofs.{KeepsPair, grows_then, keeper_kept, links_grow, links_kept, near_grow, near_kept}
@@ -14,7 +14,7 @@ use Rattle.join_ends.proofs.Operated.{BothHave, IsDone, both_at, names_set, pool
 use Rattle.join_ends.proofs.Operated.{rows_near, rows_pair, state_by, with_both}
 use Rattle.join_ends.proofs.Streams.{op_is, planned, port_found}
 use Rattle.join_keys.specs.Paired.{IsPairJoined, PairKeysKeptIn, PairOperationsJoin, PairWalked, begun_pair, pair_event}
-use Rattle.join_keys.specs.Paired.{PairEnds as PairStreams, pair_walk}
+use Rattle.join_keys.specs.Paired.{PairStreams, pair_walk}
 use Rattle.key_host.specs.Walk.{IsAsked, verdict_of}
 use Rattle.machine_ports.specs.Machine.{BesidePorts, LinkPacket, LinkState, Stepped, port_at, stepped_operation}
 use Rattle.std.proofs.Common.{Bool, List, ap, arith, refl, subst, sym, true, false, ℕ, ◌+◌, ◌-◌, ◌∙◌, ◌≡◌}
@@ -450,7 +450,7 @@ pub operates_grow : (ends ends' : EndsView) (line : ℕ) (k k' : KeeperView) (ca
 operates_grow ends ends' line k k' call loss result some operates = by (line_place line) some operates
   where
     by : (place : LinePlace) → IsSome (port_at_place ends Host place)
-        → OperatesIn ends place k call loss result ends' k' → Grows 0 ends ends'
+        → OperatesByPlace ends place k call loss result ends' k' → Grows 0 ends ends'
     by (Link i) some operates =
         let f = mapped_from (λ (l : LinkEnds). port_in Host l) (slice_get ends.links i) some in
         let x = operates f.0 f.1 in
@@ -484,7 +484,7 @@ module _ (plan : Plan) (ends : EndsView) (k : KeeperView) (packets : List LinkPa
   this = at_place line id n0.place n0.stream.op n0.stream.keys
 
   on_link : OperationsJoin → line_place line ≡ Link line → is_hosted line ≡ true
-      → IsSome (port_at_place ends Host (Link line)) → OperatesIn ends (Link line) k call loss result ends' k'
+      → IsSome (port_at_place ends Host (Link line)) → OperatesByPlace ends (Link line) k call loss result ends' k'
       → Comes ends'
   on_link joins place hosted some operates =
       let at = mapped_from (λ (l : LinkEnds). port_in Host l) (slice_get ends.links line) some in
@@ -513,7 +513,7 @@ module _ (plan : Plan) (ends : EndsView) (k : KeeperView) (packets : List LinkPa
       })
 
   on_near : OperationsJoin → (i : ℕ) → line ≡ 8 + i → line_place line ≡ Near i → is_hosted line ≡ true
-      → IsSome (port_at_place ends Host (Near i)) → OperatesIn ends (Near i) k call loss result ends' k'
+      → IsSome (port_at_place ends Host (Near i)) → OperatesByPlace ends (Near i) k call loss result ends' k'
       → Comes ends'
   on_near joins i line_is place hosted some operates =
       let at = mapped_from (λ (l : LinkEnds). port_in Host l) (slice_get ends.near i) some in
@@ -544,7 +544,7 @@ module _ (plan : Plan) (ends : EndsView) (k : KeeperView) (packets : List LinkPa
 
   on_pair : PairOperationsJoin → (i : ℕ) → line ≡ 16 + i → line_place line ≡ Pair i → is_hosted line ≡ false
       → is_link_line line ≡ false
-      → IsSome (port_at_place ends Host (Pair i)) → OperatesIn ends (Pair i) k call loss result ends' k'
+      → IsSome (port_at_place ends Host (Pair i)) → OperatesByPlace ends (Pair i) k call loss result ends' k'
       → Comes ends'
   on_pair joins i line_is place paired late some operates =
       let at = mapped_from (λ (l : PairEnds). pair_port Host l) (slice_get ends.pairs i) some in
@@ -581,10 +581,10 @@ module _ (plan : Plan) (ends : EndsView) (k : KeeperView) (packets : List LinkPa
   operated joins pairs some operates = by (place_is line)
     where
       moved : (place : LinePlace) → line_place line ≡ place
-          → IsSome (port_at_place ends Host place) × OperatesIn ends place k call loss result ends' k'
+          → IsSome (port_at_place ends Host place) × OperatesByPlace ends place k call loss result ends' k'
       moved place is = (
         subst (λ (p : LinePlace). IsSome (port_at_place ends Host p)) is some,
-        subst (λ (p : LinePlace). OperatesIn ends p k call loss result ends' k') is operates,
+        subst (λ (p : LinePlace). OperatesByPlace ends p k call loss result ends' k') is operates,
       )
 
       by : PlaceIs line → Comes ends'

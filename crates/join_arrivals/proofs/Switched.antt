@@ -30,7 +30,7 @@ use Rattle.spec_links.specs.Sent.{reads_by}
 use Rattle.machine_ports.specs.Machine.{LinkState}
 unfoldable use Rattle.machine_ports.specs.Machine.{find}
 use Rattle.machine_ports.specs.Stands.{PortsStandFor, stream_state_due}
-use Rattle.spec_stream.specs.Stream.{StreamState, LiveKey, Taken, Accepted, stream_outcome, unit_name, live_in}
+use Rattle.spec_stream.specs.Stream.{StreamState, LiveKey, PacketOutcome, Accepted, stream_outcome, unit_name, live_in}
 use Rattle.spec_stream.specs.Stream.{slot_in_set, at_sub}
 use Rattle.law_sealing.proofs.Below.{cut_fits}
 use Rattle.sub_stream.specs.{opened_from_byte, opened_unit}
@@ -54,7 +54,7 @@ one_few : (b : Bool) (x : HopTlp) → length x.bytes ≤ most_bytes → AreFew (
 one_few true x short = inl refl
 one_few false x short = inr (record { tlp = x; is = refl; short = short })
 
-unit_few : (p : Packet) (x : StreamState) (t : Taken) → FitsPacket p → IsTaken x p t → IsAlone p t
+unit_few : (p : Packet) (x : StreamState) (t : PacketOutcome) → FitsPacket p → IsTaken x p t → IsAlone p t
     → AreItsOwn (of_unit (port_arrival p t) (unit_waits (opened_if_accepted x p t)))
     (of_unit (port_arrival p t) (λ unit. own_tlps (opened_if_accepted x p t)))
 unit_few p x (Accepted draw n ps) fits under alone =

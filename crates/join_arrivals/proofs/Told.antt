@@ -18,7 +18,7 @@ use Rattle.key_host.specs.Walk.{verdict_of}
 use Rattle.join_keys.specs.Joined.{pool_by}
 use Rattle.join_keys.specs.Walks.{StreamEnds, WalkedEnds, exchange_outcome, goes_on, outcome_next, walk_on}
 use Rattle.join_keys.specs.Walks.{walked_ends_unless}
-use Rattle.join_keys.specs.Paired.{PairEnds as PairStreams, PairWalked, pair_exchanged, pair_goes_on, pair_outcome}
+use Rattle.join_keys.specs.Paired.{PairStreams, PairWalked, pair_exchanged, pair_goes_on, pair_outcome}
 use Rattle.join_keys.specs.Paired.{pair_walk, pair_walked_unless}
 use Rattle.join_keys.proofs.Works.{refused_reach}
 

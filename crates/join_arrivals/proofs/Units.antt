@@ -13,7 +13,7 @@ use Rattle.tlp_layout.specs.Head.{head_length}
 use Rattle.tlp_layout.specs.Tlp.{body_size}
 use Rattle.tlp_layout.proofs.Readings.{head_sized}
 use Rattle.spec_keys.specs.Keys.{Keyed, Off, Loaded, On, Keys}
-use Rattle.spec_stream.specs.Stream.{StreamState, LiveKey, Taken, Insecure, Failed, Held, Accepted, holds_any}
+use Rattle.spec_stream.specs.Stream.{StreamState, LiveKey, PacketOutcome, Insecure, Failed, Held, Accepted, holds_any}
 use Rattle.spec_stream.specs.Stream.{is_tagged, is_allowed, outcome_of_checks, stream_outcome_by_keys, stream_outcome}
 use Rattle.spec_stream.specs.Stream.{live_in, slot_in_set, at_sub}
 use Rattle.hop_queues.specs.{most_bytes}
@@ -62,7 +62,7 @@ module _ (plan : Plan) (h : History) (cause : CauseLaw plan h) (port : PortName)
 -- ---- the unit is the packet
 
 -- the packet alone, if a unit was accepted
-abbrev pub IsAlone : Packet → Taken → Type 0
+abbrev pub IsAlone : Packet → PacketOutcome → Type 0
 IsAlone p (Accepted draw unit packets) = packets ≡ p ∷ []
 IsAlone p t = Unit {0}
 
@@ -88,7 +88,7 @@ module _ (x : StreamState) (p : Packet) where
       (is_tagged closed (at_sub x.rx p.prefix.sub).total y p) p.prefix.m
       (is_allowed x.rx p.prefix.sub (y.packets ++ p ∷ [])) (none y refl)
 
-  failed_alone : (b : Bool) (t : Taken) → IsAlone p t → IsAlone p (if b then Insecure else t)
+  failed_alone : (b : Bool) (t : PacketOutcome) → IsAlone p t → IsAlone p (if b then Insecure else t)
   failed_alone true t is = tt
   failed_alone false t is = is
 

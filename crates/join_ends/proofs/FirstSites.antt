@@ -12,7 +12,7 @@ use Rattle.std.proofs.lemmas.Option.{none-some, same_Some, slice_get-map}
 use Rattle.ide_types.specs.declared.plan.LinkPlan.{LinkPlan}
 use Rattle.ide_types.specs.declared.interface.InterfacePlan.{InterfacePlan}
 use Rattle.spec_interfaces.specs.Sites.{Site, sites_of_plans, sites_of_links}
-use Rattle.interface_state.specs.Machine.{new_tdi}
+use Rattle.interface_state.specs.Machine.{new_device_interface}
 use Rattle.interface_host.specs.Views.{new_interface}
 use Rattle.interface_host.specs.Managers.{new_interfaces, interfaces_from}
 use Rattle.all_ends.specs.{LinkEnds, new_ends}
@@ -45,7 +45,7 @@ pub record IsListed (limit link : ℕ) (ls : List LinkPlan) (i : ℕ) (x : Site)
   pub place : ℕ
   pub link_is : link + k ≡ x.link
   pub ends_are : slice_get (ends_from limit link ls) k ≡ Some ends
-  pub device_is : ends.device.interfaces.interfaces ≡ map new_tdi plan.interfaces
+  pub device_is : ends.device.interfaces.interfaces ≡ map new_device_interface plan.interfaces
   pub located_is : place_on_links link i (ends_from limit link ls) ≡ Some (x.link, place)
   pub plan_is : slice_get plan.interfaces place ≡ Some x.plan
   pub interface_is : slice_get (interfaces_from link ls) i ≡ Some (new_interface x.link x.plan)
@@ -71,13 +71,13 @@ located_past n i here rest least = grind (arith, nat_tests)
 listed_here : (limit number link : ℕ) (l : LinkPlan) (ls : List LinkPlan) (i : ℕ) (x : Site) → i < length l.interfaces
     → slice_get (sites_of_links number link (l ∷ ls)) i ≡ Some x → IsListed limit link (l ∷ ls) i x
 listed_here limit number link l ls i x less is =
-    let many = length-map l.interfaces new_tdi in
+    let many = length-map l.interfaces new_device_interface in
     let managed = length-map l.interfaces (new_interface link) in
     let counted = many_on number link l.interfaces in
     let at = site_on number link l.interfaces i x
     (sym (get_left (sites_of_plans number link l.interfaces) _ i (omega arith))
     ∙ is) in
-    let there : i < length (map new_tdi l.interfaces) = omega arith in
+    let there : i < length (map new_device_interface l.interfaces) = omega arith in
     record {
       ends = new_ends link l.streams limit (requester_of l.interfaces) l.interfaces l.nonces;
       k = 0;
@@ -86,7 +86,7 @@ listed_here limit number link l ls i x less is =
       link_is = omega (arith, at.0);
       ends_are = refl;
       device_is = refl;
-      located_is = located_in (length (map new_tdi l.interfaces)) i link _ there
+      located_is = located_in (length (map new_device_interface l.interfaces)) i link _ there
           ∙ ap (λ (n : ℕ). Some (n, i)) (sym at.0);
       plan_is = at.1;
       interface_is = get_left (new_interfaces link l.interfaces) (interfaces_from (link + 1) ls) i (omega arith)
@@ -97,10 +97,10 @@ listed_here limit number link l ls i x less is =
 listed_later : (limit number link : ℕ) (l : LinkPlan) (ls : List LinkPlan) (i : ℕ) (x : Site) → length l.interfaces ≤ i
     → IsListed limit (link + 1) ls (i - length l.interfaces) x → IsListed limit link (l ∷ ls) i x
 listed_later limit number link l ls i x least r =
-    let many = length-map l.interfaces new_tdi in
+    let many = length-map l.interfaces new_device_interface in
     let managed = length-map l.interfaces (new_interface link) in
-    let past : length (map new_tdi l.interfaces) ≤ i = omega arith in
-    let left : i - length (map new_tdi l.interfaces) ≡ i - length l.interfaces = omega arith in
+    let past : length (map new_device_interface l.interfaces) ≤ i = omega arith in
+    let left : i - length (map new_device_interface l.interfaces) ≡ i - length l.interfaces = omega arith in
     let left' : i - length (new_interfaces link l.interfaces) ≡ i - length l.interfaces = omega arith in
     record {
       ends = r.ends;
@@ -110,7 +110,7 @@ listed_later limit number link l ls i x least r =
       link_is = omega (arith, r.link_is);
       ends_are = r.ends_are;
       device_is = r.device_is;
-      located_is = located_past (length (map new_tdi l.interfaces)) i _ _ past
+      located_is = located_past (length (map new_device_interface l.interfaces)) i _ _ past
           ∙ (ap (λ (n : ℕ). place_on_links (link + 1) n (ends_from limit (link + 1) ls)) left ∙ r.located_is);
       plan_is = r.plan_is;
       interface_is = get_right (new_interfaces link l.interfaces) (interfaces_from (link + 1) ls) i (omega arith)

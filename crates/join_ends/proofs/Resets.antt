@@ -15,7 +15,7 @@ use Rattle.all_ends.proofs.Terms.{cleared_pair, unlocked_link, unlocked_ends, re
 use Rattle.all_ends.specs.Ends.{cleared_place, all_cleared}
 use Rattle.ide_types.specs.Lines.{is_hosted}
 use Rattle.spec_keys.specs.Operations.{Stopping}
-use Rattle.spec_keys.specs.Places.{is_between_devices, is_cut}
+use Rattle.spec_keys.specs.Places.{is_between_devices, is_line_reset}
 use Rattle.sub_stream.specs.Calls.{no_stream}
 unfoldable use Rattle.spec_links.specs.Plan.{streams_by_line}
 use Rattle.machine_ports.specs.Machine as machine
@@ -292,7 +292,7 @@ apart_kept e (v ∷ vs) is = (λ i. one i ∷ apart_kept e vs is.1 i)
 
 reset_here : (e : PortName) (ss : List StreamPlan) (vs : List StreamView) (rest : List (ℕ × ℕ)) → map name_of vs
     ≡ names_of e.line ss ++ rest → Apart e.line rest
-    → (line_ops ss (map (reset_stream (e ∷ [])) vs) ≡ map (λ (s : StreamPlan). machine.op_when_cut e.line) ss)
+    → (line_ops ss (map (reset_stream (e ∷ [])) vs) ≡ map (λ (s : StreamPlan). machine.reset_op e.line) ss)
     × (views_after ss (map (reset_stream (e ∷ [])) vs) ≡ views_after ss vs)
 reset_here e [] vs rest names apart =
     (refl, apart_kept e vs (subst (λ (ns : List (ℕ × ℕ)). Apart e.line ns) (sym names) apart))
@@ -321,9 +321,9 @@ reset_names ends (v ∷ vs) = (λ i. name_of v ∷ reset_names ends vs i)
 one_more : (e : PortName) (es : List PortName) (vs : List StreamView)
     → map (reset_stream (e ∷ es)) vs ≡ map (reset_stream es) (map (reset_stream (e ∷ [])) vs)
 one_more e es [] = refl
-one_more e es (v ∷ vs) = (λ i. one (e.line == v.line) (is_cut es v.line) refl refl i ∷ one_more e es vs i)
+one_more e es (v ∷ vs) = (λ i. one (e.line == v.line) (is_line_reset es v.line) refl refl i ∷ one_more e es vs i)
   where
-    one : (a b : Bool) → (e.line == v.line) ≡ a → is_cut es v.line ≡ b
+    one : (a b : Bool) → (e.line == v.line) ≡ a → is_line_reset es v.line ≡ b
         → reset_stream (e ∷ es) v ≡ reset_stream es (reset_stream (e ∷ []) v)
     one a b first later = grind (arith, first, later)
 
@@ -333,23 +333,23 @@ reset_nothing (v ∷ vs) = (λ i. v ∷ reset_nothing vs i)
 
 ops_cut : (plan : Plan) (es : List PortName) (vs : List StreamView) (v : EndsView) (k : KeeperView) → AreLinks plan v k
     → map name_of vs ≡ map name_of k.manager.streams → ops_by_line (streams_by_line plan) (map (reset_stream es) vs)
-    ≡ machine.all_cut plan es (ops_by_line (streams_by_line plan) vs)
+    ≡ machine.all_ops_reset plan es (ops_by_line (streams_by_line plan) vs)
 ops_cut plan [] vs v k links names = ap (λ (us : List StreamView). ops_by_line (streams_by_line plan) us)
     (reset_nothing vs)
 ops_cut plan (e ∷ es) vs v k links names =
     let first = ops_changed e.line (map (reset_stream (e ∷ [])))
-    (λ ss os. map (λ (s : StreamPlan). machine.op_when_cut e.line) ss)
+    (λ ss os. map (λ (s : StreamPlan). machine.reset_op e.line) ss)
     (record { here = reset_here e; other = reset_other e })
     (streams_by_line plan) 0 e.line vs (omega arith) (names ∙ links.names) in
     ap (λ (us : List StreamView). ops_by_line (streams_by_line plan) us) (one_more e es vs)
     ∙ (ops_cut plan es (map (reset_stream (e ∷ [])) vs) v k links (reset_names (e ∷ []) vs ∙ names)
-    ∙ ap (λ (os : List (List StreamStage)). machine.all_cut plan es os) first)
+    ∙ ap (λ (os : List (List StreamStage)). machine.all_ops_reset plan es os) first)
 
 -- ---- all lines after a reset
 
 reset_keys : (plan : Plan) (ends : List PortName) (s : StreamView) → StreamKept plan s
     → StreamKept plan (reset_stream ends s)
-reset_keys plan ends s kept = by_tests (is_hosted s.line) (is_cut ends s.line) (is_between_devices s.line) kept
+reset_keys plan ends s kept = by_tests (is_hosted s.line) (is_line_reset ends s.line) (is_between_devices s.line) kept
   where
     by_tests : (hosted cut peer : Bool) → KeptBy hosted plan s
         → KeptBy hosted plan (record s {

@@ -18,7 +18,8 @@ use Rattle.spec_interfaces.specs.Devices.{interface_if_called}
 use Rattle.spec_interfaces.specs.Exchanges.{carries}
 use Rattle.spec_interfaces.specs.Due.{AskedState, verdict_of_bind, unbound_as, bind_due, unbind_due, op_status}
 use Rattle.spec_interfaces.specs.Due.{if_fresh, unless_lost as due_unless_lost}
-use Rattle.interface_state.specs.Machine.{Tdi, Call, BindStream, UnbindStream, tdi_after, bind_answer, unbind_answer}
+use Rattle.interface_state.specs.Machine.{DeviceTdi, Call, BindStream, UnbindStream, interface_after_call, bind_answer}
+use Rattle.interface_state.specs.Machine.{unbind_answer}
 use Rattle.interface_host.specs.declared.operation.InterfaceOperation.TheVariants as op
 use Rattle.interface_host.specs.declared.operation.PeerStream.{PeerStream}
 use Rattle.interface_host.specs.declared.operation.InterfaceOutcome.TheVariants as outcome
@@ -26,7 +27,7 @@ use Rattle.interface_host.specs.declared.operation.InterfaceRefusal.{InterfaceRe
 use Rattle.interface_host.specs.declared.operation.InterfaceRefusal.TheVariants as refusal
 use Rattle.interface_host.specs.declared.step.Step.TheVariants as step
 use Rattle.interface_host.specs.Steps.{Read}
-use Rattle.interface_host.specs.Judging.{Judged}
+use Rattle.interface_host.specs.Judging.{JudgedAnswer}
 use Rattle.interface_host.specs.Views.{Seen, IsUnlocked, IsLocked, IsRunning, IsDoubt, IsBroken, nonce_of, bind_outcome}
 use Rattle.interface_host.specs.Views.{unbind_outcome, bind_refusal, report_refusal, taken_interface}
 use Rattle.interface_host.specs.Views.{interface_unless_secure, key_refusal, peer_number}
@@ -52,9 +53,9 @@ bind_verdict x line loss None (Ok draw) is = refl
 bind_verdict x line loss None (Err code) is = refl
 bind_verdict x line loss (Some k) r is = cut loss 1 k is
 
-bind_device : (x : Site) (line : ℕ) (d : DeviceTdis) (place : ℕ) (tdi : Tdi) (call : Call) (l : Option Lost)
+bind_device : (x : Site) (line : ℕ) (d : DeviceTdis) (place : ℕ) (tdi : DeviceTdi) (call : Call) (l : Option Lost)
     (r : Result ℕ ℕ) → slice_set d.interfaces place tdi ≡ d.interfaces
-    → interfaces_after_request l d (device_with d place (tdi_after tdi call) d.used)
+    → interfaces_after_request l d (device_with d place (interface_after_call tdi call) d.used)
     ≡ device_with d place (interface_if_called (carries (by_loss l 1 (verdict_of_bind x line r)) 1) call tdi)
     (d.used + 0)
 bind_device x line d place tdi call None (Ok draw) same = same_device d place _ _ _ _ refl (no_more d.used)
@@ -76,7 +77,7 @@ bound_told x draw line seen m is key =
     managed_of x draw seen (record m { asked = slice_set m.asked (peer_of line) true })
     (seen_asked seen m (slice_set m.asked (peer_of line) true) is) key
 
-bind_managed : (x : Site) (draw draws : ℕ) (peer : PeerStream) (seen : Seen) (m : Managed) (j : Judged)
+bind_managed : (x : Site) (draw draws : ℕ) (peer : PeerStream) (seen : Seen) (m : Managed) (j : JudgedAnswer)
     (l : Option Lost) (r : Result ℕ ℕ) → IsKey (nonce_of seen)
     → IsManaged draw x (taken_interface (step.Bind peer) draws j (host_of x draw seen m))
     (on_bind peer.line (managed_as_seen seen m) (by_loss l 1 (verdict_of_bind x peer.line r)))
@@ -92,7 +93,7 @@ bind_managed x draw draws peer seen m j (Some Reply) r key =
 -- ---- bind
 
 module _ (x : Site) (draw drawn portion place : ℕ) (said : StreamSaid) (ps : PeersRead) (loss : Option Loss)
-    (d : DeviceTdis) (tdi : Tdi) (m : Managed) (read : Read) (host : StreamStatus) (peer : PeerStream)
+    (d : DeviceTdis) (tdi : DeviceTdi) (m : Managed) (read : Read) (host : StreamStatus) (peer : PeerStream)
     (draw_is : peer.draw ≡ ps.draw peer.line peer.id) (live_is : said.live ≡ ps.live peer.id)
     (same : slice_set d.interfaces place tdi ≡ d.interfaces) where
   abbrev state_asked : Seen → AskedState
@@ -113,7 +114,7 @@ module _ (x : Site) (draw drawn portion place : ℕ) (said : StreamSaid) (ps : P
         ≡ Some (by_loss l 1 (verdict_of_bind x peer.line answered))) (sym live_is)
         (bind_verdict x peer.line loss l answered is);
     device = subst (λ (k : Option ℕ). interfaces_after_request l d
-        (device_with d place (tdi_after tdi (BindStream peer.id k)) d.used)
+        (device_with d place (interface_after_call tdi (BindStream peer.id k)) d.used)
         ≡ device_with d place
         (interface_if_called (carries (by_loss l 1 (verdict_of_bind x peer.line answered)) 1)
         (BindStream peer.id (ps.live peer.id)) tdi) (d.used + 0)) (sym live_is)
@@ -200,9 +201,9 @@ unbind_verdict x line loss None (Ok done) is = refl
 unbind_verdict x line loss None (Err code) is = refl
 unbind_verdict x line loss (Some k) r is = cut loss 1 k is
 
-unbind_device : (x : Site) (line : ℕ) (d : DeviceTdis) (place : ℕ) (tdi : Tdi) (call : Call) (l : Option Lost)
+unbind_device : (x : Site) (line : ℕ) (d : DeviceTdis) (place : ℕ) (tdi : DeviceTdi) (call : Call) (l : Option Lost)
     (r : Result (Unit {0}) ℕ) → slice_set d.interfaces place tdi ≡ d.interfaces
-    → interfaces_after_request l d (device_with d place (tdi_after tdi call) d.used)
+    → interfaces_after_request l d (device_with d place (interface_after_call tdi call) d.used)
     ≡ device_with d place (interface_if_called (carries (by_loss l 1 (unbound_as x line r)) 1) call tdi) (d.used + 0)
 unbind_device x line d place tdi call None (Ok done) same = same_device d place _ _ _ _ refl (no_more d.used)
 unbind_device x line d place tdi call None (Err code) same = same_device d place _ _ _ _ refl (no_more d.used)
@@ -210,7 +211,7 @@ unbind_device x line d place tdi call (Some Request) r same = left_device d plac
 unbind_device x line d place tdi call (Some Reply) r same = same_device d place _ _ _ _ refl (no_more d.used)
 
 module _ (x : Site) (draw drawn portion place : ℕ) (said : StreamSaid) (ps : PeersRead) (loss : Option Loss)
-    (d : DeviceTdis) (tdi : Tdi) (m : Managed) (read : Read) (host : StreamStatus) (peer : PeerStream)
+    (d : DeviceTdis) (tdi : DeviceTdi) (m : Managed) (read : Read) (host : StreamStatus) (peer : PeerStream)
     (same : slice_set d.interfaces place tdi ≡ d.interfaces) where
   abbrev standing_of : Seen → AskedState
   standing_of seen = stands x said ps (next_nonce d) tdi (managed_as_seen seen m) host draw drawn

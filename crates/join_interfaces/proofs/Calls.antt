@@ -10,7 +10,7 @@ use Rattle.interface_state.specs.declared.states.TdiState.{TdiState}
 use Rattle.interface_state.specs.declared.states.TdiState.TheVariants.{ConfigUnlocked, ConfigLocked, Run, Error}
 use Rattle.interface_state.specs.declared.states.Lock.{Lock}
 use Rattle.interface_state.specs.Bindings.{binds}
-use Rattle.interface_state.specs.Machine.{Tdi, Call, bound_link_stream, lock_of}
+use Rattle.interface_state.specs.Machine.{DeviceTdi, Call, bound_link_stream, lock_of}
 use Rattle.interface_state.specs.Held.{IsBound}
 use Rattle.interface_state.proofs.Bound.{bindings_end}
 use Rattle.spec_interfaces.specs.Devices.{Around, next_interface, interface_if_called}
@@ -36,7 +36,7 @@ lock_met P (Run lock) l is met = subst (λ k. P k.stream) (same_Some lock l is) 
 lock_met P Error l is met = absurd cc
 
 -- what stands after the event: the lock of before, or one that it made
-next_locks : (d : DeviceSays) (a : Around) (left : Bool) (x : Site) (e : InterfaceEvent) (w : Verdict) (tdi : Tdi)
+next_locks : (d : DeviceSays) (a : Around) (left : Bool) (x : Site) (e : InterfaceEvent) (w : Verdict) (tdi : DeviceTdi)
     → a.secure ≡ d.secure x.plan.stream → Keeps d x.plan tdi → (l : Lock)
     → lock_of (next_interface a left x (event.Interface e) w tdi).state ≡ Some l
     → (l.stream ≡ x.plan.stream) × (d.secure l.stream ≡ true)
@@ -55,18 +55,19 @@ next_locks d a left x e w tdi says keeps l is =
 
 -- ---- all of it
 
-called_held : (b : Bool) (c : Call) (tdi : Tdi) → IsBound tdi.state tdi.bindings
+called_held : (b : Bool) (c : Call) (tdi : DeviceTdi) → IsBound tdi.state tdi.bindings
     → IsBound (interface_if_called b c tdi).state (interface_if_called b c tdi).bindings
 called_held true c tdi is = bindings_end.later tdi c is
 called_held false c tdi is = is
 
 -- All that it is bound to after an event on an interface is Secure still.
-pub record StaysBound (d : DeviceSays) (tdi : Tdi) : Type 0 where
+pub record StaysBound (d : DeviceSays) (tdi : DeviceTdi) : Type 0 where
   pub secure : IfSome (bound_link_stream tdi.state) (λ stream. d.secure stream ≡ true)
   pub bound : (stream : ℕ) → binds stream tdi.bindings ≡ true → is_some (d.live stream) ≡ true
   pub held : IsBound tdi.state tdi.bindings
 
-pub asked_keeps : (d : DeviceSays) (a : Around) (left : Bool) (x : Site) (e : InterfaceEvent) (w : Verdict) (tdi : Tdi)
+pub asked_keeps : (d : DeviceSays) (a : Around) (left : Bool) (x : Site) (e : InterfaceEvent) (w : Verdict)
+    (tdi : DeviceTdi)
     → a.secure ≡ d.secure x.plan.stream → a.live ≡ d.live → Keeps d x.plan tdi
     → StaysBound d (next_interface a left x (event.Interface e) w tdi)
 asked_keeps d a left x e w tdi says live keeps = record {

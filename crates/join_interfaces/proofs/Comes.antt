@@ -19,7 +19,7 @@ use Rattle.spec_interfaces.specs.Exchanges.{carries}
 use Rattle.spec_interfaces.specs.Due.{AskedState}
 use Rattle.spec_interfaces.specs.Terms.{StreamStage}
 use Rattle.interface_ends.specs.declared.said.StreamSaid.{StreamSaid}
-use Rattle.interface_state.specs.Machine.{Tdi}
+use Rattle.interface_state.specs.Machine.{DeviceTdi}
 use Rattle.interface_host.specs.declared.operation.InterfaceOperation.{InterfaceOperation}
 use Rattle.interface_host.specs.declared.operation.InterfaceOperation.TheVariants as op
 use Rattle.interface_host.specs.declared.operation.InterfaceOutcome.{InterfaceOutcome}
@@ -102,7 +102,8 @@ pub record PeersRead : Type 0 where
   pub op : ℕ → ℕ → StreamStage
   pub draw : ℕ → ℕ → ℕ
 
-abbrev pub stands : Site → StreamSaid → PeersRead → Option (List ℕ) → Tdi → Managed → StreamStatus → ℕ → ℕ → AskedState
+abbrev pub stands : Site → StreamSaid → PeersRead → Option (List ℕ) → DeviceTdi → Managed → StreamStatus → ℕ → ℕ
+    → AskedState
 stands x said ps next tdi m host draw drawn = record {
   around = record { secure = said.secure; drawn = next; nonce = m.nonce; live = ps.live };
   tdi = tdi;
@@ -120,10 +121,10 @@ abbrev pub read_in : InterfaceOperation → Read → List ℕ
 read_in op.Report r = r.bytes
 read_in o r = []
 
-abbrev pub interface_behind : Site → AskedState → InterfaceOperation → Option Loss → Verdict → Tdi
+abbrev pub interface_behind : Site → AskedState → InterfaceOperation → Option Loss → Verdict → DeviceTdi
 interface_behind x st o loss due = interface_asked st.around x (op_event o x.number loss) due st.tdi
 
-abbrev pub device_with : DeviceTdis → ℕ → Tdi → ℕ → DeviceTdis
+abbrev pub device_with : DeviceTdis → ℕ → DeviceTdi → ℕ → DeviceTdis
 device_with d place tdi used = record { interfaces = slice_set d.interfaces place tdi; nonces = d.nonces; used = used }
 
 abbrev pub device_behind : Site → AskedState → ℕ → InterfaceOperation → Option Loss → DeviceTdis → Verdict → DeviceTdis
@@ -147,14 +148,14 @@ begun_walk (Some r) i read d w = refused_walk r i read d
 
 -- ---- devices
 
-pub same_device : (d : DeviceTdis) (place : ℕ) (s t : Tdi) (u v : ℕ) → s ≡ t → u ≡ v
+pub same_device : (d : DeviceTdis) (place : ℕ) (s t : DeviceTdi) (u v : ℕ) → s ≡ t → u ≡ v
     → device_with d place s u ≡ device_with d place t v
 same_device d place s t u v tdi used = λ k. device_with d place (tdi k) (used k)
 
 pub no_more : (u : ℕ) → u ≡ u + 0
 no_more u = omega arith
 
-pub left_device : (d : DeviceTdis) (place : ℕ) (tdi t : Tdi) (given : Bool)
+pub left_device : (d : DeviceTdis) (place : ℕ) (tdi t : DeviceTdi) (given : Bool)
     → slice_set d.interfaces place tdi ≡ d.interfaces → t ≡ tdi → given ≡ false
     → d ≡ device_with d place t (d.used + one_if given)
 left_device d place tdi t given same is none =

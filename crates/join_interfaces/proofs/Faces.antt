@@ -12,8 +12,10 @@ use Rattle.event_verdicts.specs.declared.verdict.Verdict.{Verdict}
 use Rattle.interface_state.specs.declared.states.Lock.{Lock}
 use Rattle.interface_state.specs.declared.states.TdiState.{TdiState}
 use Rattle.interface_state.specs.declared.states.TdiState.TheVariants.{ConfigUnlocked, ConfigLocked, Run, Error}
-use Rattle.interface_state.specs.Machine.{Tdi, Call, StartInterface, StopInterface, bound_link_stream, after_start}
-use Rattle.interface_state.specs.Machine.{tdi_after, interface_after_lock, new_lock, BindStream, UnbindStream}
+use Rattle.interface_state.specs.Machine.{DeviceTdi, Call, StartInterface, StopInterface, bound_link_stream}
+use Rattle.interface_state.specs.Machine.{after_start}
+use Rattle.interface_state.specs.Machine.{interface_after_call, interface_after_lock, new_lock, BindStream}
+use Rattle.interface_state.specs.Machine.{UnbindStream}
 use Rattle.interface_state.specs.Machine.{bind_answer, interface_after_bind, unbind_answer, unbound_with}
 use Rattle.spec_interfaces.specs.Sites.{Site}
 use Rattle.spec_interfaces.specs.Views.{is_number, number_in, on_operation}
@@ -51,26 +53,26 @@ face_behind plan s used x f o loss due = ap
 
 -- ---- layout and bound stream
 
-pub record IsBound (p : InterfacePlan) (tdi : Tdi) : Type 0 where
+pub record IsBound (p : InterfacePlan) (tdi : DeviceTdi) : Type 0 where
   pub layout : tdi.plan ≡ p
   pub bound : IfSome (bound_link_stream tdi.state) (λ stream. stream ≡ p.stream)
 
-called_bound : (p : InterfacePlan) (b : Bool) (call : Call) (tdi : Tdi) → IsBound p tdi
-    → IsBound p (tdi_after tdi call) → IsBound p (interface_if_called b call tdi)
+called_bound : (p : InterfacePlan) (b : Bool) (call : Call) (tdi : DeviceTdi) → IsBound p tdi
+    → IsBound p (interface_after_call tdi call) → IsBound p (interface_if_called b call tdi)
 called_bound p true call tdi before behind = behind
 called_bound p false call tdi before behind = before
 
-lock_bound : (p : InterfacePlan) (flags offset : ℕ) (tdi : Tdi) (r : Result (List ℕ) ℕ) → IsBound p tdi
+lock_bound : (p : InterfacePlan) (flags offset : ℕ) (tdi : DeviceTdi) (r : Result (List ℕ) ℕ) → IsBound p tdi
     → IsBound p (interface_after_lock tdi (new_lock tdi flags p.stream offset) r)
 lock_bound p flags offset tdi (Ok nonce) before = record { layout = before.layout; bound = refl }
 lock_bound p flags offset tdi (Err code) before = before
 
-bind_bound : (p : InterfacePlan) (tdi : Tdi) (stream : ℕ) (r : Result ℕ ℕ) → IsBound p tdi
+bind_bound : (p : InterfacePlan) (tdi : DeviceTdi) (stream : ℕ) (r : Result ℕ ℕ) → IsBound p tdi
     → IsBound p (interface_after_bind tdi stream r)
 bind_bound p tdi stream (Ok draw) before = record { layout = before.layout; bound = before.bound }
 bind_bound p tdi stream (Err code) before = before
 
-unbind_bound : (p : InterfacePlan) (tdi : Tdi) (stream : ℕ) (r : Result (Unit {0}) ℕ) → IsBound p tdi
+unbind_bound : (p : InterfacePlan) (tdi : DeviceTdi) (stream : ℕ) (r : Result (Unit {0}) ℕ) → IsBound p tdi
     → IsBound p (unbound_with tdi stream r)
 unbind_bound p tdi stream (Ok done) before = record { layout = before.layout; bound = before.bound }
 unbind_bound p tdi stream (Err code) before = before
@@ -88,7 +90,7 @@ start_bound p (ConfigLocked lock held) nonce is = held_bound p (bytes_eq nonce h
 start_bound p (Run lock) nonce is = is
 start_bound p Error nonce is = is
 
-pub asked_bound : (a : Around) (x : Site) (o : InterfaceOperation) (loss : Option Loss) (w : Verdict) (tdi : Tdi)
+pub asked_bound : (a : Around) (x : Site) (o : InterfaceOperation) (loss : Option Loss) (w : Verdict) (tdi : DeviceTdi)
     → IsBound x.plan tdi → IsBound x.plan (interface_asked a x (op_event o x.number loss) w tdi)
 asked_bound a x op.Lock loss w tdi is =
     called_bound x.plan (carries w 3) (lock_call a x) tdi is

@@ -13,7 +13,7 @@ use Rattle.spec_interfaces.specs.Views.{Managed, needs_then, on_halt}
 use Rattle.spec_interfaces.specs.Devices.{interface_if_called}
 use Rattle.spec_interfaces.specs.Exchanges.{carries}
 use Rattle.spec_interfaces.specs.Due.{AskedState, halt_due}
-use Rattle.interface_state.specs.Machine.{Tdi, StopInterface, tdi_after}
+use Rattle.interface_state.specs.Machine.{DeviceTdi, StopInterface, interface_after_call}
 use Rattle.interface_host.specs.declared.operation.InterfaceOperation.TheVariants as op
 use Rattle.interface_host.specs.declared.step.Step.TheVariants as step
 use Rattle.interface_host.specs.Judging.{Passed}
@@ -41,9 +41,9 @@ halt_verdict : (x : Site) (draws : ℕ) (m : Managed) (loss : Option Loss) (l : 
 halt_verdict x draws m loss None is = refl
 halt_verdict x draws m loss (Some k) is = cut loss 1 k is
 
-halt_device : (x : Site) (draws : ℕ) (m : Managed) (d : DeviceTdis) (place : ℕ) (tdi : Tdi) (l : Option Lost)
+halt_device : (x : Site) (draws : ℕ) (m : Managed) (d : DeviceTdis) (place : ℕ) (tdi : DeviceTdi) (l : Option Lost)
     → slice_set d.interfaces place tdi ≡ d.interfaces
-    → interfaces_after_request l d (device_with d place (tdi_after tdi StopInterface) d.used)
+    → interfaces_after_request l d (device_with d place (interface_after_call tdi StopInterface) d.used)
     ≡ device_with d place (interface_if_called (carries (by_loss l 1 (verdict_of_halt x draws m)) 1) StopInterface tdi)
     (d.used + 0)
 halt_device x draws m d place tdi None same = same_device d place _ _ _ _ refl (no_more d.used)
@@ -58,7 +58,7 @@ halt_managed x draw draws seen m (Some Request) = managed_of x draw IsDoubt _ re
 halt_managed x draw draws seen m (Some Reply) = managed_of x draw IsDoubt _ refl no_key
 
 module _ (x : Site) (draw drawn portion place : ℕ) (said : StreamSaid) (ps : PeersRead) (loss : Option Loss)
-    (d : DeviceTdis) (tdi : Tdi)
+    (d : DeviceTdis) (tdi : DeviceTdi)
     (m : Managed) (seen : Seen) (host : StreamStatus) where
   abbrev state_asked : AskedState
   state_asked = stands x said ps (next_nonce d) tdi (managed_as_seen seen m) host draw drawn

@@ -8,7 +8,7 @@ use Rattle.ide_types.specs.declared.plan.Plan.{Plan}
 use Rattle.script_events.specs.declared.event.Loss.{Loss}
 use Rattle.interface_state.specs.declared.states.Lock.{Lock}
 use Rattle.interface_state.specs.Kept.{kept_report}
-use Rattle.interface_state.specs.Machine.{Tdi, lock_of}
+use Rattle.interface_state.specs.Machine.{DeviceTdi, lock_of}
 use Rattle.spec_interfaces.specs.Sites.{Site, nonce_behind}
 use Rattle.spec_interfaces.specs.Views.{Managed}
 use Rattle.event_verdicts.specs.declared.verdict.Verdict.TheVariants as v
@@ -69,7 +69,8 @@ stated_walk laws o fuel portion draws said loss i d n short m enough =
     (sym (laws.stated_is o (fuel - 3) portion draws said loss i d n short m))
 
 module _ (laws : Laws) (fuel : ℕ) (x : Site) (plan : Plan) (draw drawn portion place : ℕ)
-    (said : StreamSaid) (ps : PeersRead) (loss : Option Loss) (d : DeviceTdis) (tdi : Tdi) (m : Managed) (read : Read)
+    (said : StreamSaid) (ps : PeersRead) (loss : Option Loss) (d : DeviceTdis) (tdi : DeviceTdi) (m : Managed)
+    (read : Read)
     (seen : Seen) (host : StreamStatus)
   where
     abbrev state_asked : AskedState
@@ -181,7 +182,7 @@ bytes_in (op.Bind peer) e = refl
 bytes_in (op.Unbind peer) e = refl
 
 -- the interface as the topology and the machine have it
-abbrev face_of : Tdi → Seen → Managed → Face
+abbrev face_of : DeviceTdi → Seen → Managed → Face
 face_of tdi seen m = record { tdi = tdi; managed = managed_as_seen seen m }
 
 abbrev ended_at : ℕ → ℕ → InterfaceOperation → StreamStatus → ℕ → StreamSaid → Option Loss → InterfaceManagerView
@@ -191,7 +192,7 @@ ended_at fuel number o host draws said loss m d i =
     (manager_walk fuel said loss (interface_unless (interface_refusal_of o host i) m (asking_at m number o draws)) d)
 
 joined_by : Laws → (fuel : ℕ) (plan : Plan) (s : Streams) (used : ℕ → ℕ) (x : Site) (place : ℕ) (o : InterfaceOperation)
-    (loss : Option Loss) (m : InterfaceManagerView) (d : DeviceTdis) (tdi : Tdi) (seen : Seen) (kept : Managed)
+    (loss : Option Loss) (m : InterfaceManagerView) (d : DeviceTdis) (tdi : DeviceTdi) (seen : Seen) (kept : Managed)
     (live : Option ℕ) → 1140 ≤ fuel
     → FitsNamedPeer (has_peer plan.peers x.link) s.draw (live_by_id s.live plan.peers x.link) live o
     → IsAt plan s used x (face_of tdi seen kept) x.number place m d
@@ -243,7 +244,7 @@ joined_by laws fuel plan s used x place o loss m d tdi seen kept live enough fit
     }
 
 joined_at : Laws → (plan : Plan) (s : Streams) (used : ℕ → ℕ) (x : Site) (f : Face) (place : ℕ) (o : InterfaceOperation)
-    (loss : Option Loss) (m : InterfaceManagerView) (d : DeviceTdis) (i : HostTdi) (tdi : Tdi)
+    (loss : Option Loss) (m : InterfaceManagerView) (d : DeviceTdis) (i : HostTdi) (tdi : DeviceTdi)
     (live : Option ℕ) → FitsNamedPeer (has_peer plan.peers x.link) s.draw (live_by_id s.live plan.peers x.link) live o
     → IsAt plan s used x f x.number place m d i tdi → IsInterfaceJoined plan s used x f x.number place o loss m d
     (interface_operated x.number o (op_host s.op (s.host x.link x.plan.stream) o) s.drawn (said_of s x live) loss m d i)

@@ -18,7 +18,8 @@ use Rattle.spec_interfaces.specs.Devices.{interface_if_called, one_if, lock_call
 use Rattle.spec_interfaces.specs.Exchanges.{carries}
 use Rattle.spec_interfaces.specs.Due.{AskedState, verdict_of_lock, lock_due}
 use Rattle.interface_state.specs.declared.states.Lock.{Lock}
-use Rattle.interface_state.specs.Machine.{Tdi, Call, tdi_after, interface_after_lock, new_lock, lock_answer}
+use Rattle.interface_state.specs.Machine.{DeviceTdi, Call, interface_after_call, interface_after_lock, new_lock}
+use Rattle.interface_state.specs.Machine.{lock_answer}
 use Rattle.interface_state.specs.Machine.{nonce_answer, is_unlocked, are_lock_flags, is_page, error_code}
 use Rattle.interface_state.specs.declared.error_codes.ErrorCode.TheVariants.{InvalidRequest, InvalidInterfaceState}
 use Rattle.interface_state.specs.declared.error_codes.ErrorCode.TheVariants.{InvalidDeviceConfiguration}
@@ -59,9 +60,9 @@ given u n false = rw (same-true n) (omega arith)
 none_given : (n : ℕ) (b : Bool) → ((n == n) && false && b) ≡ false
 none_given n b = rw (same-true n) refl
 
-lock_device : (x : Site) (d : DeviceTdis) (place : ℕ) (tdi : Tdi) (lock : Lock) (call : Call) (l : Option Lost)
+lock_device : (x : Site) (d : DeviceTdis) (place : ℕ) (tdi : DeviceTdi) (lock : Lock) (call : Call) (l : Option Lost)
     (r : Result (List ℕ) ℕ) → slice_set d.interfaces place tdi ≡ d.interfaces
-    → tdi_after tdi call ≡ interface_after_lock tdi lock r
+    → interface_after_call tdi call ≡ interface_after_lock tdi lock r
     → interfaces_after_request l d (device_with d place (interface_after_lock tdi lock r) (used_after (is_ok r) d.used))
     ≡ device_with d place (interface_if_called (carries (by_loss l 3 (verdict_of_lock x r)) 3) call tdi)
     (d.used + one_if ((x.number == x.number) && carries (by_loss l 3 (verdict_of_lock x r)) 3 && is_ok r))
@@ -103,7 +104,7 @@ drawn_key : (next : Option (List ℕ)) → IfSome next IsKey → GivesKey (nonce
 drawn_key None key = tt
 drawn_key (Some nonce) key = key
 
-answer_key : (tdi : Tdi) (flags offset : ℕ) (secure : Bool) (next : Option (List ℕ)) → IfSome next IsKey
+answer_key : (tdi : DeviceTdi) (flags offset : ℕ) (secure : Bool) (next : Option (List ℕ)) → IfSome next IsKey
     → GivesKey (lock_answer tdi flags offset secure next)
 answer_key tdi flags offset secure next key =
     if_key (not (is_unlocked tdi.state)) (not (are_lock_flags flags && is_page offset))
@@ -113,7 +114,7 @@ answer_key tdi flags offset secure next key =
 -- ---- all exchanges
 
 module _ (x : Site) (draw drawn portion place : ℕ) (said : StreamSaid) (ps : PeersRead) (loss : Option Loss)
-    (d : DeviceTdis) (tdi : Tdi)
+    (d : DeviceTdis) (tdi : DeviceTdi)
     (m : Managed) (read : Read) where
   abbrev state_asked : Seen → StreamStatus → AskedState
   state_asked seen host = stands x said ps (next_nonce d) tdi (managed_as_seen seen m) host draw drawn

@@ -14,7 +14,7 @@ use Rattle.ide_types.specs.Fits.{IsKey, FitsStream, FitsInterface}
 use Rattle.interface_state.specs.declared.states.Lock.{Lock}
 use Rattle.interface_state.specs.Held.{FitsTdi}
 use Rattle.interface_state.specs.Kept.{kept_report}
-use Rattle.interface_state.specs.Machine.{Tdi, lock_of}
+use Rattle.interface_state.specs.Machine.{DeviceTdi, lock_of}
 use Rattle.spec_interfaces.specs.Sites.{Site}
 use Rattle.machine_whole.specs.Interfaces.{Face, Streams}
 use Rattle.interface_host.specs.Views.{HostTdi}
@@ -60,7 +60,8 @@ report_of fit streams plan None fits = tt
 report_of fit streams plan (Some lock) fits = fit plan lock (fits_interface streams plan fits) fits.info_bytes
 
 pub meets : ReportsFit → (plan : Plan) (s : Streams) (used : ℕ → ℕ) (x : Site) (f : Face) (number place : ℕ)
-    (m : InterfaceManagerView) (d : DeviceTdis) (i : HostTdi) (tdi : Tdi) → IsAt plan s used x f number place m d i tdi
+    (m : InterfaceManagerView) (d : DeviceTdis) (i : HostTdi) (tdi : DeviceTdi)
+    → IsAt plan s used x f number place m d i tdi
     → Meets m.portion i d (record { place = place; tdi = tdi })
 meets fit plan s used x f number place m d i tdi a =
     let l = a.face.managed.laid_out in

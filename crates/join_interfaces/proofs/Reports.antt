@@ -18,7 +18,7 @@ use Rattle.spec_interfaces.specs.Sites.{Site}
 use Rattle.spec_interfaces.specs.Views.{Managed, on_report}
 use Rattle.spec_interfaces.specs.Due.{AskedState, reported_as, report_due, portions}
 use Rattle.interface_state.specs.Kept.{kept_report}
-use Rattle.interface_state.specs.Machine.{Tdi, lock_of, portion_of}
+use Rattle.interface_state.specs.Machine.{DeviceTdi, lock_of, portion_of}
 use Rattle.interface_host.specs.declared.operation.InterfaceOperation.TheVariants as op
 use Rattle.interface_host.specs.declared.operation.InterfaceOutcome.TheVariants as outcome
 use Rattle.interface_host.specs.declared.operation.InterfaceRefusal.{InterfaceRefusal}
@@ -56,7 +56,7 @@ none_managed x draw draws seen m None key = managed_of x draw seen _ (told_seen 
 none_managed x draw draws seen m (Some Request) key = managed_of x draw seen _ (told_seen seen m) key
 none_managed x draw draws seen m (Some Reply) key = managed_of x draw seen _ (told_seen seen m) key
 
-none_device : (d : DeviceTdis) (place : ℕ) (tdi : Tdi) (l : Option Lost)
+none_device : (d : DeviceTdis) (place : ℕ) (tdi : DeviceTdi) (l : Option Lost)
     → slice_set d.interfaces place tdi ≡ d.interfaces
     → interfaces_after_request l d (device_with d place tdi d.used) ≡ device_with d place tdi (d.used + 0)
 none_device d place tdi None same = same_device d place _ _ _ _ refl (no_more d.used)
@@ -112,7 +112,7 @@ read_managed x draw seen m loss report (Some n) due key is =
 
 module _ (x : Site) (plan : Plan) (draw drawn portion place : ℕ) (said : StreamSaid) (ps : PeersRead)
     (loss : Option Loss) (d : DeviceTdis)
-    (tdi : Tdi) (m : Managed) (read : Read) where
+    (tdi : DeviceTdi) (m : Managed) (read : Read) where
   abbrev state_asked : Seen → StreamStatus → AskedState
   state_asked seen host = stands x said ps (next_nonce d) tdi (managed_as_seen seen m) host draw drawn
 

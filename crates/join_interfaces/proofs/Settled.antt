@@ -11,14 +11,14 @@ use Rattle.interface_state.specs.declared.register_set.Registers.{Registers}
 use Rattle.interface_state.specs.declared.states.TdiState.{TdiState}
 use Rattle.interface_state.specs.declared.states.TdiState.TheVariants.{ConfigUnlocked, ConfigLocked, Run, Error}
 use Rattle.interface_state.specs.Bindings.{binds}
-use Rattle.interface_state.specs.Machine.{Tdi, StreamLeft, bound_link_stream, tdi_after}
+use Rattle.interface_state.specs.Machine.{DeviceTdi, StreamLeft, bound_link_stream, interface_after_call}
 use Rattle.interface_ends.specs.Replies.{settled_interface, any_left}
 use Rattle.spec_interfaces.specs.Devices.{interface_if_called}
 use Rattle.spec_interfaces.specs.Peers.{any_leaves}
 use Rattle.join_interfaces.specs.Says.{DeviceSays, AreApart, AreSecureStill, Keeps, is_said_secure, leaves_stream}
 
-abbrev tdi_of : InterfacePlan → Registers → TdiState → List Binding → Tdi
-tdi_of plan registers state bs =
+abbrev interface_of_parts : InterfacePlan → Registers → TdiState → List Binding → DeviceTdi
+interface_of_parts plan registers state bs =
     record { plan = plan; registers = registers; state = state; bindings = bs }
 
 -- ---- tests
@@ -73,17 +73,18 @@ none_leaves before after (b ∷ bs) none bound stream is =
 -- ---- no lock
 
 called_free : (a b : Bool) (plan : InterfacePlan) (registers : Registers) (bs : List Binding)
-    → (if a then tdi_after (tdi_of plan registers ConfigUnlocked bs) StreamLeft
-    else tdi_of plan registers ConfigUnlocked bs)
-    ≡ interface_if_called b StreamLeft (tdi_of plan registers ConfigUnlocked bs)
+    → (if a then interface_after_call (interface_of_parts plan registers ConfigUnlocked bs) StreamLeft
+    else interface_of_parts plan registers ConfigUnlocked bs)
+    ≡ interface_if_called b StreamLeft (interface_of_parts plan registers ConfigUnlocked bs)
 called_free true true plan registers bs = refl
 called_free true false plan registers bs = refl
 called_free false true plan registers bs = refl
 called_free false false plan registers bs = refl
 
 called_failed : (a b : Bool) (plan : InterfacePlan) (registers : Registers) (bs : List Binding)
-    → (if a then tdi_after (tdi_of plan registers Error bs) StreamLeft else tdi_of plan registers Error bs)
-    ≡ interface_if_called b StreamLeft (tdi_of plan registers Error bs)
+    → (if a then interface_after_call (interface_of_parts plan registers Error bs) StreamLeft else interface_of_parts
+    plan registers Error bs)
+    ≡ interface_if_called b StreamLeft (interface_of_parts plan registers Error bs)
 called_failed true true plan registers bs = refl
 called_failed true false plan registers bs = refl
 called_failed false true plan registers bs = refl
@@ -91,8 +92,8 @@ called_failed false false plan registers bs = refl
 
 -- ---- a lock
 
-called_by : (a b : Bool) (tdi : Tdi) → a ≡ b
-    → (if a then tdi_after tdi StreamLeft else tdi) ≡ interface_if_called b StreamLeft tdi
+called_by : (a b : Bool) (tdi : DeviceTdi) → a ≡ b
+    → (if a then interface_after_call tdi StreamLeft else tdi) ≡ interface_if_called b StreamLeft tdi
 called_by true true tdi is = refl
 called_by false false tdi is = refl
 called_by true false tdi is = absurd (true≢false is)
@@ -114,22 +115,22 @@ own_is is_peer before after s t same first second secure =
 
 settles : (is_peer : ℕ → Bool) (before after : DeviceSays) (x : InterfacePlan) (plan : InterfacePlan)
     (registers : Registers) (state : TdiState) (bs : List Binding) → AreApart is_peer before
-    → AreApart is_peer after → Keeps before x (tdi_of plan registers state bs)
-    → settled_interface (is_said_secure after) (tdi_of plan registers state bs)
-    ≡ interface_if_called (leaves_stream before after x bs) StreamLeft (tdi_of plan registers state bs)
+    → AreApart is_peer after → Keeps before x (interface_of_parts plan registers state bs)
+    → settled_interface (is_said_secure after) (interface_of_parts plan registers state bs)
+    ≡ interface_if_called (leaves_stream before after x bs) StreamLeft (interface_of_parts plan registers state bs)
 settles is_peer before after x plan registers ConfigUnlocked bs first second keeps =
     called_free _ _ plan registers bs
 settles is_peer before after x plan registers Error bs first second keeps = called_failed _ _ plan registers bs
 settles is_peer before after x plan registers (ConfigLocked lock nonce) bs first second keeps =
-    called_by _ _ (tdi_of plan registers (ConfigLocked lock nonce) bs)
+    called_by _ _ (interface_of_parts plan registers (ConfigLocked lock nonce) bs)
     (both_or _ _ _ _ (own_is is_peer before after lock.stream x.stream keeps.own first second keeps.secure)
     (any_is is_peer before after bs first second keeps.bound))
 settles is_peer before after x plan registers (Run lock) bs first second keeps =
-    called_by _ _ (tdi_of plan registers (Run lock) bs)
+    called_by _ _ (interface_of_parts plan registers (Run lock) bs)
     (both_or _ _ _ _ (own_is is_peer before after lock.stream x.stream keeps.own first second keeps.secure)
     (any_is is_peer before after bs first second keeps.bound))
 
-pub settled_is : (is_peer : ℕ → Bool) (before after : DeviceSays) (x : InterfacePlan) (tdi : Tdi)
+pub settled_is : (is_peer : ℕ → Bool) (before after : DeviceSays) (x : InterfacePlan) (tdi : DeviceTdi)
     → AreApart is_peer before → AreApart is_peer after → Keeps before x tdi
     → settled_interface (is_said_secure after) tdi ≡ interface_if_called (leaves_stream before after x tdi.bindings)
     StreamLeft tdi
@@ -165,7 +166,7 @@ leaves_none before after x bs stays =
     (stays_false (before.secure x.stream) (after.secure x.stream) (stays.secure x.stream))
     (none_left before after bs stays)
 
-pub stays_is : (before after : DeviceSays) (x : InterfacePlan) (tdi : Tdi) → AreSecureStill before after
+pub stays_is : (before after : DeviceSays) (x : InterfacePlan) (tdi : DeviceTdi) → AreSecureStill before after
     → tdi ≡ interface_if_called (leaves_stream before after x tdi.bindings) StreamLeft tdi
 stays_is before after x tdi stays =
     ap (λ b. interface_if_called b StreamLeft tdi) (sym (leaves_none before after x tdi.bindings stays))
@@ -195,7 +196,7 @@ none_bound : (live : ℕ → Option ℕ) (bs : List Binding) → bs ≡ [] → (
 none_bound live bs none stream is = absurd (true≢false (sym is ∙ ap (binds stream) none))
 
 -- one that holds no lock
-pub record IsFree (x : InterfacePlan) (tdi : Tdi) : Type 0 where
+pub record IsFree (x : InterfacePlan) (tdi : DeviceTdi) : Type 0 where
   pub layout : tdi.plan ≡ x
   pub none : bound_link_stream tdi.state ≡ None
   pub bindings : tdi.bindings ≡ []
@@ -204,7 +205,7 @@ none_meets : (P : ℕ → Type 0) (o : Option ℕ) → o ≡ None → IfSome o P
 none_meets P None is = tt
 none_meets P (Some s) is = absurd cc
 
-pub keeps_free : (d : DeviceSays) (x : InterfacePlan) (tdi : Tdi) → IsFree x tdi → Keeps d x tdi
+pub keeps_free : (d : DeviceSays) (x : InterfacePlan) (tdi : DeviceTdi) → IsFree x tdi → Keeps d x tdi
 keeps_free d x tdi free = record {
   layout = free.layout;
   own = none_meets (λ s. s ≡ x.stream) (bound_link_stream tdi.state) free.none;
@@ -214,8 +215,8 @@ keeps_free d x tdi free = record {
 }
 
 pub failed_free : (d : DeviceSays) (x : InterfacePlan) (plan : InterfacePlan) (registers : Registers)
-    (state : TdiState) (bs : List Binding) → Keeps d x (tdi_of plan registers state bs)
-    → IsFree x (tdi_after (tdi_of plan registers state bs) StreamLeft)
+    (state : TdiState) (bs : List Binding) → Keeps d x (interface_of_parts plan registers state bs)
+    → IsFree x (interface_after_call (interface_of_parts plan registers state bs) StreamLeft)
 failed_free d x plan registers ConfigUnlocked bs keeps =
     record { layout = keeps.layout; none = refl; bindings = keeps.held.locked refl }
 failed_free d x plan registers Error bs keeps =
@@ -224,11 +225,11 @@ failed_free d x plan registers (ConfigLocked lock nonce) bs keeps =
     record { layout = keeps.layout; none = refl; bindings = refl }
 failed_free d x plan registers (Run lock) bs keeps = record { layout = keeps.layout; none = refl; bindings = refl }
 
-after_by : (b : Bool) (before after : DeviceSays) (x : InterfacePlan) (tdi : Tdi)
+after_by : (b : Bool) (before after : DeviceSays) (x : InterfacePlan) (tdi : DeviceTdi)
     → leaves_stream before after x tdi.bindings ≡ b → Keeps before x tdi
     → Keeps after x (interface_if_called b StreamLeft tdi)
 after_by true before after x tdi is keeps =
-    keeps_free after x (tdi_after tdi StreamLeft)
+    keeps_free after x (interface_after_call tdi StreamLeft)
     (failed_free before x tdi.plan tdi.registers tdi.state tdi.bindings (record {
       layout = keeps.layout;
       own = keeps.own;
@@ -247,7 +248,7 @@ after_by false before after x tdi is keeps =
       held = keeps.held;
     }
 
-pub keeps_after : (before after : DeviceSays) (x : InterfacePlan) (tdi : Tdi) → Keeps before x tdi
+pub keeps_after : (before after : DeviceSays) (x : InterfacePlan) (tdi : DeviceTdi) → Keeps before x tdi
     → Keeps after x (interface_if_called (leaves_stream before after x tdi.bindings) StreamLeft tdi)
 keeps_after before after x tdi keeps =
     after_by (leaves_stream before after x tdi.bindings) before after x tdi refl keeps

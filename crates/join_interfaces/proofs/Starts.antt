@@ -17,7 +17,7 @@ use Rattle.spec_interfaces.specs.Views.{Managed, on_start}
 use Rattle.spec_interfaces.specs.Devices.{interface_if_called}
 use Rattle.spec_interfaces.specs.Exchanges.{carries}
 use Rattle.spec_interfaces.specs.Due.{AskedState, started_as, start_due, unless_lost as due_unless_lost}
-use Rattle.interface_state.specs.Machine.{Tdi, Call, StartInterface, tdi_after, start_answer}
+use Rattle.interface_state.specs.Machine.{DeviceTdi, Call, StartInterface, interface_after_call, start_answer}
 use Rattle.interface_host.specs.declared.operation.InterfaceOperation.TheVariants as op
 use Rattle.interface_host.specs.declared.operation.InterfaceOutcome.TheVariants as outcome
 use Rattle.interface_host.specs.declared.operation.InterfaceRefusal.{InterfaceRefusal}
@@ -49,9 +49,9 @@ start_verdict x draw loss None (Ok done) is = refl
 start_verdict x draw loss None (Err code) is = refl
 start_verdict x draw loss (Some k) r is = cut loss 1 k is
 
-start_device : (x : Site) (draw : ℕ) (d : DeviceTdis) (place : ℕ) (tdi : Tdi) (call : Call) (l : Option Lost)
+start_device : (x : Site) (draw : ℕ) (d : DeviceTdis) (place : ℕ) (tdi : DeviceTdi) (call : Call) (l : Option Lost)
     (r : Result (Unit {0}) ℕ) → slice_set d.interfaces place tdi ≡ d.interfaces
-    → interfaces_after_request l d (device_with d place (tdi_after tdi call) d.used)
+    → interfaces_after_request l d (device_with d place (interface_after_call tdi call) d.used)
     ≡ device_with d place (interface_if_called (carries (by_loss l 1 (started_as x draw r)) 1) call tdi) (d.used + 0)
 start_device x draw d place tdi call None (Ok done) same = same_device d place _ _ _ _ refl (no_more d.used)
 start_device x draw d place tdi call None (Err code) same = same_device d place _ _ _ _ refl (no_more d.used)
@@ -70,7 +70,7 @@ start_managed x draw draws nonce m (Some Reply) r = managed_of x draw IsDoubt _ 
 -- ---- the operation
 
 module _ (x : Site) (draw drawn portion place : ℕ) (said : StreamSaid) (ps : PeersRead) (loss : Option Loss)
-    (d : DeviceTdis) (tdi : Tdi)
+    (d : DeviceTdis) (tdi : DeviceTdi)
     (m : Managed) (read : Read) where
   abbrev state_asked : Seen → StreamStatus → AskedState
   state_asked seen host = stands x said ps (next_nonce d) tdi (managed_as_seen seen m) host draw drawn

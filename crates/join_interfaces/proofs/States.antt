@@ -13,7 +13,7 @@ use Rattle.event_verdicts.specs.declared.verdict.Verdict.TheVariants as v
 use Rattle.spec_interfaces.specs.Sites.{Site}
 use Rattle.spec_interfaces.specs.Views.{Managed, on_state}
 use Rattle.spec_interfaces.specs.Due.{AskedState, state_due}
-use Rattle.interface_state.specs.Machine.{Tdi, state_code}
+use Rattle.interface_state.specs.Machine.{DeviceTdi, state_code}
 use Rattle.interface_host.specs.declared.operation.InterfaceOperation.TheVariants as op
 use Rattle.interface_host.specs.declared.step.Step.TheVariants as step
 use Rattle.interface_host.specs.Judging.{State}
@@ -40,7 +40,7 @@ state_verdict : (x : Site) (code : ℕ) (loss : Option Loss) (l : Option Lost) �
 state_verdict x code loss None is = refl
 state_verdict x code loss (Some k) is = cut loss 1 k is
 
-state_device : (d : DeviceTdis) (place : ℕ) (tdi : Tdi) (l : Option Lost)
+state_device : (d : DeviceTdis) (place : ℕ) (tdi : DeviceTdi) (l : Option Lost)
     → slice_set d.interfaces place tdi ≡ d.interfaces
     → interfaces_after_request l d (device_with d place tdi d.used) ≡ device_with d place tdi (d.used + 0)
 state_device d place tdi None same = same_device d place _ _ _ _ refl (no_more d.used)
@@ -72,7 +72,7 @@ state_managed x draw draws code IsDoubt m None key = managed_of x draw IsDoubt _
 state_managed x draw draws code IsBroken m None key = managed_of x draw IsBroken _ refl no_key
 
 module _ (x : Site) (draw drawn portion place : ℕ) (said : StreamSaid) (ps : PeersRead) (loss : Option Loss)
-    (d : DeviceTdis) (tdi : Tdi)
+    (d : DeviceTdis) (tdi : DeviceTdi)
     (m : Managed) (seen : Seen) (host : StreamStatus) where
   abbrev state_asked : AskedState
   state_asked = stands x said ps (next_nonce d) tdi (managed_as_seen seen m) host draw drawn

@@ -5,7 +5,7 @@ use Rattle.ide_types.specs.declared.view.View.TheVariants.{Unlocked, Locked, Run
 use Rattle.spec_interfaces.specs.Sites.{Site}
 use Rattle.spec_interfaces.specs.Views.{Managed}
 use Rattle.machine_whole.specs.Interfaces.{Face}
-use Rattle.interface_state.specs.Machine.{Tdi, bound_link_stream}
+use Rattle.interface_state.specs.Machine.{DeviceTdi, bound_link_stream}
 use Rattle.interface_host.specs.Views.{HostTdi, Seen, IsUnlocked, IsLocked, IsRunning, IsDoubt, IsBroken, nonce_of}
 
 -- A view that is Locked keeps its nonce and whether it was reported, one that is Running its floor; the others nothing.
@@ -35,7 +35,7 @@ pub record IsManaged (draw : ℕ) (x : Site) (i : HostTdi) (m : Managed) : Type 
   pub asked : i.asked ≡ m.asked
 
 -- what manager and device keep of it; `draw` is that of its stream
-pub record IsFace (draw : ℕ) (x : Site) (i : HostTdi) (tdi : Tdi) (f : Face) : Type 0 where
+pub record IsFace (draw : ℕ) (x : Site) (i : HostTdi) (tdi : DeviceTdi) (f : Face) : Type 0 where
   pub managed : IsManaged draw x i f.managed
   pub tdi_is : tdi ≡ f.tdi
   pub layout : tdi.plan ≡ x.plan

@@ -13,7 +13,7 @@ use Rattle.spec_interfaces.specs.Peers.{has_peer, live_by_id}
 use Rattle.spec_interfaces.specs.Terms.{StreamStage}
 use Rattle.ide_types.specs.declared.status.StreamStatus.{StreamStatus}
 use Rattle.machine_whole.specs.Interfaces.{Face, Streams, ends_of_streams, around_of, asked_state_of_face, next_face}
-use Rattle.interface_state.specs.Machine.{Tdi}
+use Rattle.interface_state.specs.Machine.{DeviceTdi}
 use Rattle.interface_host.specs.declared.operation.InterfaceOperation.{InterfaceOperation}
 use Rattle.interface_host.specs.declared.operation.InterfaceOperation.TheVariants as op
 use Rattle.interface_host.specs.Views.{HostTdi}
@@ -28,7 +28,7 @@ use Rattle.join_interfaces.specs.Faces.{IsFace}
 -- device gives the topology's nonces in their order.
 pub record IsAt (plan : Plan) (s : Streams) (used : ℕ → ℕ) (x : Site) (f : Face) (number place : ℕ)
     (m : InterfaceManagerView)
-    (d : DeviceTdis) (i : HostTdi) (tdi : Tdi) : Type 0 where
+    (d : DeviceTdis) (i : HostTdi) (tdi : DeviceTdi) : Type 0 where
   pub streams : List StreamPlan
   pub each_stream : All FitsStream streams
   pub fits : FitsInterface streams x.plan
@@ -50,7 +50,7 @@ pub record IsInterfaceJoined (plan : Plan) (s : Streams) (used : ℕ → ℕ) (x
   pub verdict_is : verdict ≡ asked_due plan x (asked_state_of_face plan s used x f) (op_event o number loss)
   pub ended_is : ended_verdict number o loss e ≡ Some verdict
   pub interface : HostTdi
-  pub tdi : Tdi
+  pub tdi : DeviceTdi
   pub manager_is : e.manager.interfaces ≡ slice_set m.interfaces number interface
   pub portion_is : e.manager.portion ≡ m.portion
   pub device_is : e.device ≡ record {
@@ -87,7 +87,8 @@ said_of s x live = record { secure = s.secure x.link x.plan.stream; live = live 
 abbrev pub InterfaceOperationsJoin : Type 0
 InterfaceOperationsJoin =
     (plan : Plan) (s : Streams) (used : ℕ → ℕ) (x : Site) (f : Face) (number place : ℕ)
-    (o : InterfaceOperation) (loss : Option Loss) (m : InterfaceManagerView) (d : DeviceTdis) (i : HostTdi) (tdi : Tdi)
+    (o : InterfaceOperation) (loss : Option Loss) (m : InterfaceManagerView) (d : DeviceTdis) (i : HostTdi)
+    (tdi : DeviceTdi)
     (live : Option ℕ)
     → IsAt plan s used x f number place m d i tdi
     → FitsNamedPeer (has_peer plan.peers x.link) s.draw (live_by_id s.live plan.peers x.link) live o

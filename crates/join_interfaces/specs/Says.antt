@@ -3,7 +3,7 @@ use Rattle.std.specs.Prelude.{ℕ, ◌≡◌, ◌&&◌, ◌||◌, Bool, true, fa
 use Rattle.ide_types.specs.declared.interface.InterfacePlan.{InterfacePlan}
 use Rattle.ide_types.specs.declared.plan.Plan.{Plan}
 use Rattle.ide_types.specs.declared.binding.Binding.{Binding}
-use Rattle.interface_state.specs.Machine.{Tdi, bound_link_stream}
+use Rattle.interface_state.specs.Machine.{DeviceTdi, bound_link_stream}
 use Rattle.interface_state.specs.Bindings.{binds}
 use Rattle.interface_state.specs.Held.{IsBound}
 use Rattle.spec_interfaces.specs.Peers.{live_by_id, any_leaves}
@@ -35,7 +35,7 @@ pub record AreApart (is_peer : ℕ → Bool) (d : DeviceSays) : Type 0 where
 
 -- An interface that is laid out so. A lock stands only on the topology's stream, and only while that is Secure; so is
 -- each stream between devices that the interface is bound to, of which there is none without a lock.
-pub record Keeps (d : DeviceSays) (x : InterfacePlan) (tdi : Tdi) : Type 0 where
+pub record Keeps (d : DeviceSays) (x : InterfacePlan) (tdi : DeviceTdi) : Type 0 where
   pub layout : tdi.plan ≡ x
   pub own : IfSome (bound_link_stream tdi.state) (λ stream. stream ≡ x.stream)
   pub secure : IfSome (bound_link_stream tdi.state) (λ stream. d.secure stream ≡ true)

@@ -1,7 +1,8 @@
 -- Every draw was made from a pool that had keys for it, and each stream's ID has one byte.
 use Rattle.join_keys.proofs.Terms.{◌≡◌, Bool, arith, true, ℕ, List, Plan, if◌then◌else◌, nat_tests, ◌≤◌, Reach}
 use Rattle.join_keys.proofs.Terms.{lane_key, Host, ◌+◌, [], ◌<◌, ◌∷◌, ◌/◌, Option, length, ◌*◌, is_some, All, reach_of}
-use Rattle.join_keys.proofs.Terms.{Manager, manager_after_operation, manager_after, IsKey, FitsPlan, FitsStream}
+use Rattle.join_keys.proofs.Terms.{StreamOperations, manager_after_operation, manager_after, IsKey, FitsPlan}
+use Rattle.join_keys.proofs.Terms.{FitsStream}
 use Rattle.join_keys.proofs.Terms.{Verdict, KeyPlan, History, draws, history_status, PortView, ports_at}
 use Rattle.join_keys.proofs.Terms.{operation_verdict, work_of, op_of}
 use Rattle.spec_keys.specs.Due.{has_refresh, may_establish, may_refresh, unless_open, key_due}
@@ -24,12 +25,13 @@ use Rattle.event_verdicts.specs.declared.verdict.Verdict.TheVariants as v
 
 -- ---- an event draws only if the pool has keys
 
-establish_fits : (plan : KeyPlan) (known : Bool) (m : Manager) (l s : ℕ) (done x : Verdict) → length m.begun ≤ plan.pool
+establish_fits : (plan : KeyPlan) (known : Bool) (m : StreamOperations) (l s : ℕ) (done x : Verdict)
+    → length m.begun ≤ plan.pool
     → x ≡ (if known then may_establish plan l (length m.begun) (m.ops l s) done else v.Nothing)
     → length (manager_after_operation m op.Establish l s (reach_of op.Establish x)).begun ≤ plan.pool
 establish_fits plan known m l s done x le is = grind (arith, nat_tests)
 
-refresh_fits : (plan : KeyPlan) (known : Bool) (m : Manager) (ports : PortView) (host : StreamStatus) (l s : ℕ)
+refresh_fits : (plan : KeyPlan) (known : Bool) (m : StreamOperations) (ports : PortView) (host : StreamStatus) (l s : ℕ)
     (set : Bool) (done x : Verdict)
     → length m.begun ≤ plan.pool
     → x ≡ (if known then may_refresh plan l (length m.begun) (m.ops l s) host (unless_open ports l s set)
@@ -38,11 +40,11 @@ refresh_fits : (plan : KeyPlan) (known : Bool) (m : Manager) (ports : PortView) 
     → length (manager_after_operation m op.Refresh l s (reach_of op.Refresh x)).begun ≤ plan.pool
 refresh_fits plan known m ports host l s set done x le is = grind (arith, nat_tests)
 
-stop_fits : (m : Manager) (l s top : ℕ) (r : Option Reach) → length m.begun ≤ top
+stop_fits : (m : StreamOperations) (l s top : ℕ) (r : Option Reach) → length m.begun ≤ top
     → length (manager_after_operation m op.Stop l s r).begun ≤ top
 stop_fits m l s top r le = grind arith
 
-reset_fits : (m : Manager) (link : ℕ) (ends : List PortName) (top : ℕ) (x : Verdict) → length m.begun ≤ top
+reset_fits : (m : StreamOperations) (link : ℕ) (ends : List PortName) (top : ℕ) (x : Verdict) → length m.begun ≤ top
     → length (manager_after m (event.Reset link ends) x).begun ≤ top
 reset_fits m link ends top x le = grind arith
 

@@ -1,7 +1,7 @@
 -- An event of an operation on a line that is keyed by messages at both ends gives what the machine of ports says.
 use Rattle.ide_types.specs.Lines.{is_hosted}
 use Rattle.join_keys.specs.Calls.{lane_sends, key_number}
-use Rattle.join_keys.specs.Paired.{PairEnds, pair_walk, begun_pair, pair_walked_unless, pair_event, PairKeysKeptIn}
+use Rattle.join_keys.specs.Paired.{PairStreams, pair_walk, begun_pair, pair_walked_unless, pair_event, PairKeysKeptIn}
 use Rattle.join_keys.specs.Paired.{IsPairJoined, PairOperationsJoin}
 use Rattle.join_keys.proofs.Terms.{◌≡◌, ◌≢◌, Bool, arith, false, ℕ, Work, Plan, Operation, ◌≤◌, ◌<◌, ◌∙◌, sym, Device}
 use Rattle.join_keys.proofs.Terms.{Host, ◌+◌, suc, refl, ◌-◌, ap, Some, subst, last_exchange_of, port_at, ◌/◌, Option}
@@ -32,11 +32,11 @@ use Rattle.join_keys.proofs.PairResting.{PairRest, pair_rest_is}
 abbrev pool_of : Plan → LinkState → Pool
 pool_of plan st = record { keys = plan.pool; draws = st.draws }
 
-abbrev begun_from : Plan → LinkState → Operation → PairEnds → PairEnds
+abbrev begun_from : Plan → LinkState → Operation → PairStreams → PairStreams
 begun_from plan st operation e = begun_pair (work_of operation e.keeper.op st.draws) (pool_of plan st) e
 
 -- what is known when the event comes
-record Found (plan : Plan) (st : LinkState) (h : History) (requester : ℕ) (e : PairEnds) : Type 0 where
+record Found (plan : Plan) (st : LinkState) (h : History) (requester : ℕ) (e : PairStreams) : Type 0 where
   pub fits : FitsPlan plan
   pub stands : PortsStandFor plan st h
   pub requester_most : requester ≤ 65535
@@ -53,7 +53,7 @@ number_low : (side : Side) (lane : ℕ) → lane < 6 → key_number side lane < 
 number_low side lane lt = grind (arith, nat_tests)
 
 module _ (plan : Plan) (st : LinkState) (h : History) (operation : Operation) (loss : Option Loss) (requester : ℕ)
-    (host : HostView) (e : PairEnds) (other : operation ≢ op.Refresh) (found : Found plan st h requester e) where
+    (host : HostView) (e : PairStreams) (other : operation ≢ op.Refresh) (found : Found plan st h requester e) where
   -- the operation at the event, the manager's walk, and the verdict that is due
   abbrev w : Work
   w = work_of operation e.keeper.op st.draws

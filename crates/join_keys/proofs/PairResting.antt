@@ -3,7 +3,7 @@
 -- host's port does, but nothing is called locally.
 use Rattle.ide_types.specs.Lines.{is_hosted}
 use Rattle.join_keys.specs.Calls.{told_call, calls_from}
-use Rattle.join_keys.specs.Paired.{PairEnds, PairExchanged, PairWalked, pair_unless_lost, pair_after, pair_goes_on}
+use Rattle.join_keys.specs.Paired.{PairStreams, PairExchanged, PairWalked, pair_unless_lost, pair_after, pair_goes_on}
 use Rattle.join_keys.specs.Paired.{pair_walk, HasPairKeys, PairKeysKeptIn}
 use Rattle.join_keys.proofs.Terms.{◌≡◌, Bool, arith, true, false, ℕ, Work, Plan, nat_tests, work, Operation, ◌≤◌, List}
 use Rattle.join_keys.proofs.Terms.{◌∙◌, sym, Reach, makes_draw, Host, Device, StreamState, ◌+◌, ◌==◌, []}
@@ -39,7 +39,7 @@ kept_ended plan w n keys is = grind (arith, nat_tests)
 
 -- ---- what the rest of a walk gives
 
-pub record PairRest (plan : Plan) (w : Work) (n : ℕ) (e : PairEnds) (verdict : Verdict) (y : ManagerWalk)
+pub record PairRest (plan : Plan) (w : Work) (n : ℕ) (e : PairStreams) (verdict : Verdict) (y : ManagerWalk)
     (x : PairWalked)
     : Type 0 where
   pub outcome_is : x.outcome ≡ y.outcome
@@ -55,7 +55,7 @@ pub record PairRest (plan : Plan) (w : Work) (n : ℕ) (e : PairEnds) (verdict :
 
 -- what holds of an exchange that is lost on either way, of one that is refused, and of any other
 by_fate : (P : Verdict → Judged → PairExchanged → Type 0) (line id : ℕ) (w : Work) (n : ℕ)
-    (rest : Option Verdict) (came : PairExchanged) (e : PairEnds) (lost : Option Message) (r : Option ℕ)
+    (rest : Option Verdict) (came : PairExchanged) (e : PairStreams) (lost : Option Message) (r : Option ℕ)
     → P (v.LostRequest n) Lost (record { judged = Lost; near = e.near; far = e.far })
     → P (v.LostReply n) Lost (record { judged = Lost; near = came.near; far = came.far })
     → ((status : ℕ) → r ≡ Some status → P (v.RefusedDevice n status) (Refused status) came)
@@ -70,11 +70,11 @@ done_says : (line id : ℕ) (w : Work) (n : ℕ) → is_hosted line ≡ false �
     → reach_of w.operation (finished_verdict line id w) ≡ Some (reach (n + 1) (n + 1))
 done_says line id w n kind is = grind arith
 
-module _ (plan : Plan) (ports : PortView) (w : Work) (line id requester : ℕ) (before : PairEnds)
+module _ (plan : Plan) (ports : PortView) (w : Work) (line id requester : ℕ) (before : PairStreams)
     (knows : PairKnows plan ports w line id requester before)
     (loss : Option Loss) where
   -- it stays at the exchange
-  stays : (n : ℕ) (e : PairEnds) → PairKeysKeptIn plan e.keeper.op e.keeper.keys → (verdict : Verdict) (carried : ℕ)
+  stays : (n : ℕ) (e : PairStreams) → PairKeysKeptIn plan e.keeper.op e.keeper.keys → (verdict : Verdict) (carried : ℕ)
       → reach_of w.operation verdict ≡ Some (reach carried n)
       → n ≤ carried → carried ≤ last_exchange_of false w.operation + 1 → (near far : StreamState)
       → near ≡ all_called (calls_from (told_call plan false Host w) n (carried - n)) e.near
@@ -101,22 +101,22 @@ module _ (plan : Plan) (ports : PortView) (w : Work) (line id requester : ℕ) (
       walk_after_outcome (outcome_of false a j) (taken_stream false a j s)
       (walk false k (answers loss (denial ports w line id)) (taken_stream false a j s))
 
-  abbrev walked : ℕ → PairExchanged → ℕ → PairEnds → PairWalked
+  abbrev walked : ℕ → PairExchanged → ℕ → PairStreams → PairWalked
   walked n x more e = let a = asked_of w n in pair_goes_on (outcome_of false a x.judged) (pair_after a x e)
       (pair_walk more loss requester (pair_after a x e))
 
-  abbrev answered : ℕ → Option ℕ → PairEnds → PairExchanged
+  abbrev answered : ℕ → Option ℕ → PairStreams → PairExchanged
   answered n r e = record {
     judged = exchange_judged None r;
     near = all_called (told_call plan false Host w n) e.near;
     far = all_called (told_call plan false Device w n) e.far;
   }
 
-  abbrev after : ℕ → PairEnds → PairEnds
+  abbrev after : ℕ → PairStreams → PairStreams
   after n e = pair_after (asked_of w n) (answered n None e) e
 
   -- what is known after an exchange tells what is known from it on
-  back : (n : ℕ) (e : PairEnds) → (verdict : Verdict) (y : ManagerWalk) (x : PairWalked)
+  back : (n : ℕ) (e : PairStreams) → (verdict : Verdict) (y : ManagerWalk) (x : PairWalked)
       → PairRest plan w (n + 1) (after n e) verdict y x → PairRest plan w n e verdict y x
   back n e verdict y x rest =
       let within = rest.within in
@@ -135,7 +135,7 @@ module _ (plan : Plan) (ports : PortView) (w : Work) (line id requester : ℕ) (
       }
 
   -- after the last exchange
-  ends : (n more k : ℕ) (e : PairEnds) → n ≡ last_exchange_of false w.operation
+  ends : (n more k : ℕ) (e : PairStreams) → n ≡ last_exchange_of false w.operation
       → PairRest plan w n e (finished_verdict line id w) (told n Expected k e.keeper)
       (walked n (answered n None e) more e)
   ends n more k e same =
@@ -149,7 +149,7 @@ module _ (plan : Plan) (ports : PortView) (w : Work) (line id requester : ℕ) (
       rw last (rw last at (back n e _ _ _ rest))
 
   -- after another one the walk goes on
-  further : (n more k : ℕ) (e : PairEnds) → n < last_exchange_of false w.operation
+  further : (n more k : ℕ) (e : PairStreams) → n < last_exchange_of false w.operation
       → (verdict : Verdict) → let next = after n e in
       PairRest plan w (n + 1) next verdict (walk false k (answers loss (denial ports w line id)) next.keeper)
       (pair_walk more loss requester next)
@@ -159,7 +159,7 @@ module _ (plan : Plan) (ports : PortView) (w : Work) (line id requester : ℕ) (
       (rw other at (back n e _ _ _ rest))
 
   -- one exchange, if the rest is known
-  steps : (n more k : ℕ) (e : PairEnds) → IsPairNext plan w id before n e → 1 ≤ n
+  steps : (n more k : ℕ) (e : PairStreams) → IsPairNext plan w id before n e → 1 ≤ n
       → n ≤ last_exchange_of false w.operation → (rest : Option Verdict)
       → (denial ports w line id n ≡ None → PairRest plan w n e (ends_as line id w rest)
       (told n Expected k e.keeper)
@@ -188,7 +188,7 @@ module _ (plan : Plan) (ports : PortView) (w : Work) (line id requester : ℕ) (
       (stays n e kept (v.RefusedDevice n status) (n + 1) refl (omega arith) (omega arith) near far one_near one_far _))
       (λ free. rw free (onward free)))
 
-  pub pair_rest_is : (k more n : ℕ) (e : PairEnds) → n + k ≡ last_exchange_of false w.operation → 1 ≤ n → k ≤ more
+  pub pair_rest_is : (k more n : ℕ) (e : PairStreams) → n + k ≡ last_exchange_of false w.operation → 1 ≤ n → k ≤ more
       → IsPairNext plan w id before n e
       → PairRest plan w n e
       (ends_as line id w (first_from (λ x. cut_at (lost_message loss x) (denial ports w line id x) x) n (suc k)))

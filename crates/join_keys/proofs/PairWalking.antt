@@ -3,7 +3,7 @@
 use Rattle.ide_types.specs.Lines.{is_hosted}
 use Rattle.spec_keys.specs.Places.{is_same_side}
 use Rattle.join_keys.specs.Calls.{lane_sends, lane_call, lane_key, key_number, told_call}
-use Rattle.join_keys.specs.Paired.{PairEnds, PairExchanged, came_to_end, pair_after, HasPairKeys}
+use Rattle.join_keys.specs.Paired.{PairStreams, PairExchanged, came_to_end, pair_after, HasPairKeys}
 use Rattle.join_keys.proofs.Terms.{◌≡◌, ◌≢◌, Bool, arith, true, ℕ, List, Work, Plan, false, nat_tests, Operation, ◌≤◌}
 use Rattle.join_keys.proofs.Terms.{◌∙◌, makes_draw, is_only_live, StreamState, ◌+◌, ap, refl, Host, Device, Side, []}
 use Rattle.join_keys.proofs.Terms.{◌∷◌, if◌then◌else◌, all_called, ◌<◌, last_exchange_of, slots_refuse, DrawsApart}
@@ -23,12 +23,12 @@ use Rattle.join_keys.proofs.Replies.{lane_pair, lane_called, program_comes, go_c
 use Rattle.join_keys.proofs.Walking.{asked_of, denial}
 
 -- the stream at an end
-abbrev pub state_at : Side → PairEnds → StreamState
+abbrev pub state_at : Side → PairStreams → StreamState
 state_at Host e = e.near
 state_at Device e = e.far
 
 -- what an event of an operation finds: the stream at both ends, the keys of its draw, what the ports refuse
-pub record PairKnows (plan : Plan) (ports : PortView) (w : Work) (link id requester : ℕ) (before : PairEnds) : Type 0
+pub record PairKnows (plan : Plan) (ports : PortView) (w : Work) (link id requester : ℕ) (before : PairStreams) : Type 0
   where
     pub line : is_hosted link ≡ false
     pub fits : WorkFits w.operation w.set w.draw
@@ -41,7 +41,7 @@ pub record PairKnows (plan : Plan) (ports : PortView) (w : Work) (link id reques
     pub apart : (side : Side) (lane : ℕ) → lane < 6 → DrawsApart (lane_slots lane (state_at side before))
 
 -- before exchange n: lanes whose KEY_PROG comes later are as they were, and those behind it that had no GO have a key
-pub record IsPairNext (plan : Plan) (w : Work) (id : ℕ) (before : PairEnds) (n : ℕ) (e : PairEnds) : Type 0 where
+pub record IsPairNext (plan : Plan) (w : Work) (id : ℕ) (before : PairStreams) (n : ℕ) (e : PairStreams) : Type 0 where
   pub op_is : e.keeper.op ≡ op_at_exchange w n
   pub id_is : e.keeper.id ≡ id
   pub keys : makes_draw w.operation ≡ true → HasPairKeys plan w.draw n e.keeper.keys
@@ -183,10 +183,10 @@ pair_standing w n less = grind (arith, nat_tests, one_of_set)
 
 -- ---- exchange by exchange
 
-module _ (plan : Plan) (ports : PortView) (w : Work) (line id requester : ℕ) (before : PairEnds)
+module _ (plan : Plan) (ports : PortView) (w : Work) (line id requester : ℕ) (before : PairStreams)
     (knows : PairKnows plan ports w line id requester before) where
   -- the KEY_PROG of a lane is refused as before the event
-  lane_refused : (n : ℕ) (e : PairEnds) → IsPairNext plan w id before n e → makes_draw w.operation ≡ true
+  lane_refused : (n : ℕ) (e : PairStreams) → IsPairNext plan w id before n e → makes_draw w.operation ≡ true
       → (side : Side) (lane : ℕ) → lane < 6 → n ≡ put_at side lane
       → refusal_if (is_only_live (lane_pair lane (state_at side e)) w.set) ≡ denial ports w line id n
   lane_refused n e at makes side lane lt is_n =
@@ -200,7 +200,7 @@ module _ (plan : Plan) (ports : PortView) (w : Work) (line id requester : ℕ) (
       (knows.apart side lane lt)))
 
   -- what is left at both ends by an exchange that was carried
-  abbrev pub carried_both : ℕ → Option ℕ → PairEnds → PairExchanged
+  abbrev pub carried_both : ℕ → Option ℕ → PairStreams → PairExchanged
   carried_both n r e = record {
     judged = exchange_judged None r;
     near = all_called (told_call plan false Host w n) e.near;
@@ -208,7 +208,7 @@ module _ (plan : Plan) (ports : PortView) (w : Work) (line id requester : ℕ) (
   }
 
   -- each request is answered as expected, but for a KEY_PROG that is refused
-  pub pair_came : (n : ℕ) (e : PairEnds) → IsPairNext plan w id before n e → 1 ≤ n
+  pub pair_came : (n : ℕ) (e : PairStreams) → IsPairNext plan w id before n e → 1 ≤ n
       → n ≤ last_exchange_of false w.operation
       → came_to_end (end_asked false (asked_of w n)) requester (request_asked false (asked_of w n) e.keeper) w.draw e
       ≡ carried_both n (denial ports w line id n) e
@@ -264,7 +264,7 @@ module _ (plan : Plan) (ports : PortView) (w : Work) (line id requester : ℕ) (
 
   -- ---- the exchange was acknowledged
 
-  next_fresh : (n : ℕ) (e : PairEnds) → IsPairNext plan w id before n e → 1 ≤ n
+  next_fresh : (n : ℕ) (e : PairStreams) → IsPairNext plan w id before n e → 1 ≤ n
       → n ≤ last_exchange_of false w.operation → makes_draw w.operation ≡ true
       → (side : Side) (lane : ℕ) → lane < 6 → n + 1 ≤ put_at side lane
       → lane_slots lane (all_called (told_call plan false side w n) (state_at side e))
@@ -273,7 +273,7 @@ module _ (plan : Plan) (ports : PortView) (w : Work) (line id requester : ℕ) (
       fresh_after plan w n least most makes side lane lt (state_at side e) le
       ∙ at.fresh makes side lane lt (omega (arith, le))
 
-  next_ready : (n : ℕ) (e : PairEnds) → IsPairNext plan w id before n e → 1 ≤ n
+  next_ready : (n : ℕ) (e : PairStreams) → IsPairNext plan w id before n e → 1 ≤ n
       → n ≤ last_exchange_of false w.operation → denial ports w line id n ≡ None → makes_draw w.operation ≡ true
       → (side : Side) (lane : ℕ) → lane < 6 → put_at side lane < n + 1 → n + 1 ≤ goes_at side lane
       → IsFull (slot_in_set (lane_slots lane (all_called (told_call plan false side w n) (state_at side e))) w.set)
@@ -283,7 +283,8 @@ module _ (plan : Plan) (ports : PortView) (w : Work) (line id requester : ℕ) (
       ∙ ap is_some (lane_refused n e at makes side lane lt same ∙ free))
       (λ behind. at.ready makes side lane lt behind (omega (arith, le)))
 
-  next_keys : (n : ℕ) (e : PairEnds) → IsPairNext plan w id before n e → 1 ≤ n → n < last_exchange_of false w.operation
+  next_keys : (n : ℕ) (e : PairStreams) → IsPairNext plan w id before n e → 1 ≤ n
+      → n < last_exchange_of false w.operation
       → makes_draw w.operation ≡ true
       → HasPairKeys plan w.draw (n + 1) (stream_acknowledged false (asked_of w n) e.keeper).keys
   next_keys n e at least less makes side lane lt le =
@@ -293,12 +294,12 @@ module _ (plan : Plan) (ports : PortView) (w : Work) (line id requester : ℕ) (
       ∙ at.keys makes side lane lt (omega (arith, le)))
 
   -- an end after it
-  end_after : (n : ℕ) (e : PairEnds) (side : Side) → all_called (told_call plan false side w n) (state_at side e)
+  end_after : (n : ℕ) (e : PairStreams) (side : Side) → all_called (told_call plan false side w n) (state_at side e)
       ≡ state_at side (pair_after (asked_of w n) (carried_both n None e) e)
   end_after n e Host = refl
   end_after n e Device = refl
 
-  pub pair_next_is : (n : ℕ) (e : PairEnds) → IsPairNext plan w id before n e → 1 ≤ n
+  pub pair_next_is : (n : ℕ) (e : PairStreams) → IsPairNext plan w id before n e → 1 ≤ n
       → n < last_exchange_of false w.operation → denial ports w line id n ≡ None
       → IsPairNext plan w id before (n + 1) (pair_after (asked_of w n) (carried_both n None e) e)
   pair_next_is n e at least less free =

@@ -4,7 +4,8 @@ use Rattle.join_keys.proofs.Terms.{LaneSlots, ◌∙◌, sym, Host, slot_pair, S
 use Rattle.join_keys.proofs.Terms.{WaitsBesideLive, Pr, Npr, Cpl, Some, subst, ◌≢◌, port_at, slots_at, at_sub, LaneSlot}
 use Rattle.join_keys.proofs.Terms.{Live, lane_out, lane_in, IsSound, ReadsStream, DrawsApart, ◌||◌, History, moments}
 use Rattle.join_keys.proofs.Terms.{key_plan, slot_in_set, Armed, LinkState, find, ports_of, machine_status, refuses_at}
-use Rattle.join_keys.proofs.Terms.{refusal_if, Option, is_live_at, status_there, Side, live_set, is_set, Reads}
+use Rattle.join_keys.proofs.Terms.{refusal_if, Option, is_live_at, status_there, Side, live_set, is_set}
+use Rattle.join_keys.proofs.Terms.{HostAndPoolShow}
 use Rattle.join_keys.proofs.Terms.{tx_slots, rx_slots, PortsStand, kept_is, host_of, Keys, Shape, keys_of, key_cause}
 use Rattle.machine_operations.specs.{stream_state_due}
 use Rattle.ide_types.specs.declared.port.PortName.{PortName}
@@ -138,7 +139,8 @@ by_first set s may = grind arith
 
 pub host_read : (plan : Plan) (st : LinkState) (h : History) → PortsStand plan st h
     → (line stream : ℕ) (x : StreamState) → find plan st (port_at Host line) stream ≡ Some x → (draws : ℕ)
-    → Reads (key_plan plan) (ports_of plan st) line stream (machine_status plan st Host line stream) (host_of x)
+    → HostAndPoolShow (key_plan plan) (ports_of plan st) line stream (machine_status plan st Host line stream)
+    (host_of x)
     (record { keys = plan.pool; draws = draws })
 host_read plan st h stands line stream x found draws =
     let is = kept_is plan st h (port_at Host line) stream x stands found in

@@ -12,7 +12,7 @@ pub use Rattle.std.proofs.Common.{◌/◌, Option, ◌%◌, None, length, inl, i
 pub use Rattle.std.specs.Prelude.{nat_lt, is_some, unwrap_or, All}
 pub use Rattle.std.specs.Option.{option_or}
 pub use Rattle.spec_keys.specs.Operations.{reach_of, work_of, StreamStage, op_at_exchange, reach, op_after_reach}
-pub use Rattle.spec_keys.specs.Operations.{Manager, manager_after_operation, manager_after}
+pub use Rattle.spec_keys.specs.Operations.{StreamOperations, manager_after_operation, manager_after}
 pub use Rattle.join_keys.specs.Calls.{all_called_at, call_of_exchange}
 pub use Rattle.ide_prefix.specs.{sub_from}
 pub use Rattle.key_messages.specs.{PlaceCall}
@@ -44,7 +44,8 @@ pub use Rattle.key_host.specs.Streams.{StreamView, draws_now, refusal_of, begun_
 pub use Rattle.key_host.specs.Streams.{begun_calls, outcome_of, taken_stream, taken_calls, shown_at_end, is_set}
 pub use Rattle.key_host.specs.Streams.{request_asked, wire_keys_after, stream_acknowledged, work_asked, HostView}
 pub use Rattle.key_host.specs.Walk.{Walked as ManagerWalk, answers, walk, walked_unless as manager_walked, verdict_of}
-pub use Rattle.key_host.specs.Walk.{op_if_reached, exchange_judged, walk_after_outcome, Reads, key_refusal_verdict}
+pub use Rattle.key_host.specs.Walk.{op_if_reached, exchange_judged, walk_after_outcome, HostAndPoolShow}
+pub use Rattle.key_host.specs.Walk.{key_refusal_verdict}
 pub use Rattle.key_host.specs.Walk.{IsAsked}
 pub use Rattle.key_host.proofs.Walks.{Comes, walk_comes, WorkFits}
 pub use Rattle.sub_stream.specs.Calls.{sends_in, pair_at}

@@ -35,7 +35,7 @@ use Rattle.join_keys.specs.Walks.{came_to}
 use Rattle.join_keys.specs.Joined.{verdict_due, touched_by, draws_by, pool_by}
 
 -- both ends' parts of a stream, and what the manager keeps of it
-pub record PairEnds : Type 0 where
+pub record PairStreams : Type 0 where
   pub near : StreamState
   pub far : StreamState
   pub keeper : StreamView
@@ -49,7 +49,7 @@ pub record PairExchanged : Type 0 where
   pub far : StreamState
 
 -- the request reached its end, where the direction of a place is the selector's
-abbrev pub came_to_end : Side → ℕ → KmView → ℕ → PairEnds → PairExchanged
+abbrev pub came_to_end : Side → ℕ → KmView → ℕ → PairStreams → PairExchanged
 came_to_end Host requester request draw e =
     let x = came_to requester request e.keeper.id draw e.near in
     record { judged = x.judged; near = x.device; far = e.far }
@@ -57,40 +57,40 @@ came_to_end Device requester request draw e =
     let x = came_to requester request e.keeper.id draw e.far in
     record { judged = x.judged; near = e.near; far = x.device }
 
-abbrev pub pair_unless_lost : Option Lost → PairExchanged → PairEnds → PairExchanged
+abbrev pub pair_unless_lost : Option Lost → PairExchanged → PairStreams → PairExchanged
 pair_unless_lost None came e = came
 pair_unless_lost (Some Request) came e = record { judged = NotCarried; near = e.near; far = e.far }
 pair_unless_lost (Some Reply) came e = record { judged = NotCarried; near = came.near; far = came.far }
 
-abbrev pub pair_exchanged : Option Loss → ℕ → NextExchange → PairEnds → PairExchanged
+abbrev pub pair_exchanged : Option Loss → ℕ → NextExchange → PairStreams → PairExchanged
 pair_exchanged loss requester a e =
     pair_unless_lost (lost_message loss a.exchange)
     (came_to_end (end_asked false a) requester (request_asked false a e.keeper) a.draw e) e
 
-abbrev pub pair_after : NextExchange → PairExchanged → PairEnds → PairEnds
+abbrev pub pair_after : NextExchange → PairExchanged → PairStreams → PairStreams
 pair_after a x e = record { near = x.near; far = x.far; keeper = taken_stream false a x.judged e.keeper }
 
 -- ---- one exchange after another
 
 pub record PairWalked : Type 0 where
   pub outcome : StreamOutcome
-  pub ends : PairEnds
+  pub ends : PairStreams
 
-abbrev pub pair_goes_on : StreamOutcome → PairEnds → PairWalked → PairWalked
+abbrev pub pair_goes_on : StreamOutcome → PairStreams → PairWalked → PairWalked
 pair_goes_on outcome.Next e rest = rest
 pair_goes_on o e rest = record { outcome = o; ends = e }
 
 -- what the next exchange gives, if there is one
-abbrev pub pair_outcome : Option Loss → ℕ → PairEnds → Option NextExchange → StreamOutcome
+abbrev pub pair_outcome : Option Loss → ℕ → PairStreams → Option NextExchange → StreamOutcome
 pair_outcome loss requester e None = outcome.Next
 pair_outcome loss requester e (Some a) = outcome_of false a (pair_exchanged loss requester a e).judged
 
-abbrev pub pair_next : Option Loss → ℕ → PairEnds → Option NextExchange → PairEnds
+abbrev pub pair_next : Option Loss → ℕ → PairStreams → Option NextExchange → PairStreams
 pair_next loss requester e None = e
 pair_next loss requester e (Some a) = pair_after a (pair_exchanged loss requester a e) e
 
 -- up to so many exchanges
-abbrev pub pair_walk : (more : ℕ) → Option Loss → ℕ → PairEnds → PairWalked
+abbrev pub pair_walk : (more : ℕ) → Option Loss → ℕ → PairStreams → PairWalked
 pair_walk zero loss requester e = record { outcome = outcome.Next; ends = e }
 pair_walk (suc more) loss requester e =
     pair_goes_on (pair_outcome loss requester e (asked_of_unfinished e.keeper.op))
@@ -100,15 +100,15 @@ pair_walk (suc more) loss requester e =
 -- ---- an event
 
 -- it begins, or goes on: nothing is called at either end
-abbrev pub begun_pair : Work → Pool → PairEnds → PairEnds
+abbrev pub begun_pair : Work → Pool → PairStreams → PairStreams
 begun_pair w pool e = record { near = e.near; far = e.far; keeper = begun_stream false w pool e.keeper }
 
-abbrev pub pair_walked_unless : Option StreamRefusal → PairEnds → PairWalked → PairWalked
+abbrev pub pair_walked_unless : Option StreamRefusal → PairStreams → PairWalked → PairWalked
 pair_walked_unless (Some refusal) e walked = record { outcome = outcome.Refused refusal; ends = e }
 pair_walked_unless None e walked = walked
 
 -- a refusal, or what up to 24 exchanges give
-abbrev pub pair_event : Operation → HostView → Pool → Option Loss → ℕ → PairEnds → PairWalked
+abbrev pub pair_event : Operation → HostView → Pool → Option Loss → ℕ → PairStreams → PairWalked
 pair_event operation host pool loss requester e =
     let w = work_of operation e.keeper.op pool.draws in
     pair_walked_unless (refusal_of operation e.keeper.op host pool) e
@@ -133,7 +133,7 @@ PairKeysKeptIn plan o keys = Unit {0}
 
 -- what an event gives: the verdict, both ends, operations, draws and keys
 pub record IsPairJoined (plan : Plan) (st : LinkState) (operation : Operation) (loss : Option Loss) (pool : Pool)
-    (e : PairEnds) (r : PairWalked) : Type 0 where
+    (e : PairStreams) (r : PairWalked) : Type 0 where
   pub verdict_is : verdict_of operation e.keeper.line e.keeper.id loss r.outcome
       ≡ Some (verdict_due plan st operation e.keeper.op e.keeper.line e.keeper.id loss)
   pub op_is : let w = work_of operation e.keeper.op st.draws in
@@ -159,7 +159,7 @@ pub record IsPairJoined (plan : Plan) (st : LinkState) (operation : Operation) (
 abbrev pub PairOperationsJoin : Type 0
 PairOperationsJoin =
     (plan : Plan) (st : LinkState) (h : History) (operation : Operation) (loss : Option Loss) (requester : ℕ)
-    (host : HostView) (pool : Pool) (e : PairEnds)
+    (host : HostView) (pool : Pool) (e : PairStreams)
     → operation ≢ op.Refresh
     → FitsPlan plan → PortsStandFor plan st h → requester ≤ 65535 → is_hosted e.keeper.line ≡ false
     → find plan st (port_at Host e.keeper.line) e.keeper.id ≡ Some e.near

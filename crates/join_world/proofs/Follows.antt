@@ -10,7 +10,7 @@ use Rattle.ide_types.specs.Fits.{FitsPlan}
 use Rattle.ide_types.specs.declared.plan.Plan.{Plan}
 use Rattle.script_events.specs.declared.event.Event.{Event}
 use Rattle.event_verdicts.specs.declared.verdict.Verdict.{Verdict}
-use Rattle.interface_state.specs.Machine.{Tdi, StreamLeft}
+use Rattle.interface_state.specs.Machine.{DeviceTdi, StreamLeft}
 use Rattle.interface_ends.specs.Replies.{DeviceTdis, settled_interfaces, settled_interface}
 use Rattle.interface_host.specs.Views.{HostTdi}
 use Rattle.link_ends.specs.DeviceEnds.{secure_at}
@@ -106,7 +106,7 @@ led_same plan old new link l l' led = ⊎_elim
       many = ap (λ (d : DeviceTdis). length d.interfaces) kept.0;
     }) led
 
-pub led_interface : (plan : Plan) (old new : LinkState) (x : Site) (l l' : LinkEnds) (place : ℕ) (tdi : Tdi)
+pub led_interface : (plan : Plan) (old new : LinkState) (x : Site) (l l' : LinkEnds) (place : ℕ) (tdi : DeviceTdi)
     → FitsPlan plan → x.link < 8 → IsLed plan old new x.link l l'
     → slice_get l.device.interfaces.interfaces place ≡ Some tdi → Keeps (says_by_ports plan old x.link) x.plan tdi
     → slice_get l'.device.interfaces.interfaces place
@@ -190,7 +190,7 @@ placed_led plan w e verdict new ends ends' m m' i x l' fits at p is same led onl
           w.faces.list i x p.face at p.face_is;
       keeps = record {
         managed = managed.managed;
-        tdi_is = ap (λ (t : Tdi). interface_if_called (leaves_stream before after x.plan t.bindings) StreamLeft t)
+        tdi_is = ap (λ (t : DeviceTdi). interface_if_called (leaves_stream before after x.plan t.bindings) StreamLeft t)
             p.keeps.tdi_is
             ∙ sym only.next;
         layout = behind.layout;

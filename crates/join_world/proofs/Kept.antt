@@ -23,7 +23,7 @@ use Rattle.spec_interfaces.specs.Devices.{next_interface}
 use Rattle.spec_interfaces.specs.Views.{managed_after, is_number, number_in}
 use Rattle.machine_whole.specs.Interfaces.{Face, around_of, grant_of}
 use Rattle.join_interfaces.specs.Faces.{IsManaged}
-use Rattle.spec_links.specs.History.{Arrival}
+use Rattle.spec_links.specs.History.{ArrivedBytes}
 use Rattle.spec_links.specs.Memory.{Grants}
 use Rattle.machine_ports.specs.Machine.{BesidePorts, LinkState, Stepped, status_found}
 unfoldable use Rattle.machine_ports.specs.Machine.{find_op, step_of}
@@ -88,7 +88,8 @@ pub written_kept : (plan : Plan) (w : Whole) (e : Event) (verdict : Verdict) →
     → written_after plan w e verdict ≡ w.written
 written_kept plan w e verdict none =
     written_is plan w e verdict
-    ∙ ap (λ (o : Option Arrival). newest_first (writes_by plan (grant_of plan w.faces) w.links o verdict) w.written)
+    ∙ ap (λ (o : Option ArrivedBytes). newest_first (writes_by plan (grant_of plan w.faces) w.links o verdict)
+    w.written)
     none
     ∙ ap (λ (os : List (Option Write)). newest_first os w.written)
     (none_brought plan (grant_of plan w.faces) w.links verdict)

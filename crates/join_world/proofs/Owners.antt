@@ -22,7 +22,7 @@ use Rattle.ide_types.specs.declared.binding.Binding.{Binding}
 use Rattle.interface_state.specs.declared.states.TdiState.{TdiState}
 use Rattle.interface_state.specs.declared.states.TdiState.TheVariants.{ConfigUnlocked, ConfigLocked, Run, Error}
 use Rattle.interface_state.specs.Bindings.{binds}
-use Rattle.interface_state.specs.Machine.{Tdi, bound_link_stream}
+use Rattle.interface_state.specs.Machine.{DeviceTdi, bound_link_stream}
 use Rattle.interface_ends.specs.Replies.{runs_on, runs_bound}
 use Rattle.trusted_memory.specs.{MemoryContents}
 use Rattle.spec_interfaces.specs.Cause.{is_peer, owner_id, owners_link}
@@ -103,7 +103,7 @@ module _ (plan : Plan) (ends : List LinkEnds) (m : InterfacesView) (memory : Mem
   requester_nowhere link requester fails = face_nowhere (is_requester link requester) (sites plan) w.faces.list fails
 
   -- a requester has one place on a link
-  place_only : (link k i : ℕ) (l : LinkEnds) (t : Tdi) (x : Site) (p : IsPlaced plan ends m w i x)
+  place_only : (link k i : ℕ) (l : LinkEnds) (t : DeviceTdi) (x : Site) (p : IsPlaced plan ends m w i x)
       → slice_get ends link ≡ Some l → slice_get l.device.interfaces.interfaces k ≡ Some t
       → slice_get (sites plan) i ≡ Some x → x.link ≡ link → x.plan.requester ≡ t.plan.requester → k ≡ p.place
   place_only link k i l t x p is there site_is link_is same =
@@ -117,9 +117,9 @@ module _ (plan : Plan) (ends : List LinkEnds) (m : InterfacesView) (memory : Mem
 
   -- ---- T by a test of interfaces
 
-  module _ (runs : Tdi → Bool) (kept : Site × Face → Bool)
+  module _ (runs : DeviceTdi → Bool) (kept : Site × Face → Bool)
       (each : (i : ℕ) (x : Site) (p : IsPlaced plan ends m w i x) → runs p.tdi ≡ kept (x, p.face)) where
-    abbrev owns : ℕ → Tdi → Bool
+    abbrev owns : ℕ → DeviceTdi → Bool
     owns requester tdi = (requester == tdi.plan.requester) && runs tdi
 
     set_kept : (link requester i : ℕ) (x : Site) (p : IsPlaced plan ends m w i x)
@@ -143,7 +143,7 @@ module _ (plan : Plan) (ends : List LinkEnds) (m : InterfacesView) (memory : Mem
         ∙ set_kept link requester s.place s.site p s.site_is s.passes
       where
         ahead : (p : IsPlaced plan ends m w s.place s.site) → s.site.link ≡ link → s.site.plan.requester ≡ requester
-            → (k : ℕ) (t : Tdi) → k < p.place → slice_get l.device.interfaces.interfaces k ≡ Some t
+            → (k : ℕ) (t : DeviceTdi) → k < p.place → slice_get l.device.interfaces.interfaces k ≡ Some t
             → owns requester t ≡ false
         ahead p link_is requester_is k t lt there =
             and_left (requester == t.plan.requester) (runs t)
@@ -166,7 +166,7 @@ module _ (plan : Plan) (ends : List LinkEnds) (m : InterfacesView) (memory : Mem
 
         idle : (p : IsPlaced plan ends m w s.place s.site) → s.site.link ≡ link → s.site.plan.requester ≡ requester
             → slice_get l.device.interfaces.interfaces p.place ≡ Some p.tdi → runs p.tdi ≡ false
-            → (k : ℕ) (t : Tdi) → slice_get l.device.interfaces.interfaces k ≡ Some t
+            → (k : ℕ) (t : DeviceTdi) → slice_get l.device.interfaces.interfaces k ≡ Some t
             → ((requester == t.plan.requester) ≡ true) ⊎ ((requester == t.plan.requester) ≡ false)
             → owns requester t ≡ false
         idle p link_is requester_is at not_there k t there cases =
@@ -176,7 +176,7 @@ module _ (plan : Plan) (ends : List LinkEnds) (m : InterfacesView) (memory : Mem
             let same : p.tdi ≡ t = same_Some p.tdi t
             (sym at ∙ ap (slice_get l.device.interfaces.interfaces) (sym place) ∙ there) in
             and_right (requester == t.plan.requester) (runs t)
-            (ap (λ (y : Tdi). runs y) (sym same) ∙ not_there))
+            (ap (λ (y : DeviceTdi). runs y) (sym same) ∙ not_there))
             (and_left (requester == t.plan.requester) (runs t)) cases
 
         stands : (p : IsPlaced plan ends m w s.place s.site) → s.site.link ≡ link → s.site.plan.requester ≡ requester
@@ -231,13 +231,13 @@ module _ (plan : Plan) (ends : List LinkEnds) (m : InterfacesView) (memory : Mem
       → runs_on stream p.tdi.state ≡ (is_run p.face.tdi.state && (x.plan.stream == stream))
   own_each stream i x p =
       runs_face p.tdi.state x.plan.stream stream p.keeps.bound
-      ∙ ap (λ (t : Tdi). is_run t.state && (x.plan.stream == stream)) p.keeps.tdi_is
+      ∙ ap (λ (t : DeviceTdi). is_run t.state && (x.plan.stream == stream)) p.keeps.tdi_is
 
   bound_each : (stream i : ℕ) (x : Site) (p : IsPlaced plan ends m w i x)
       → runs_bound stream p.tdi.state p.tdi.bindings ≡ (is_run p.face.tdi.state && binds stream p.face.tdi.bindings)
   bound_each stream i x p =
       bound_face p.tdi.state p.tdi.bindings stream
-      ∙ ap (λ (t : Tdi). is_run t.state && binds stream t.bindings) p.keeps.tdi_is
+      ∙ ap (λ (t : DeviceTdi). is_run t.state && binds stream t.bindings) p.keeps.tdi_is
 
   abbrev own_kept : ℕ → Site × Face → Bool
   own_kept stream y = is_run y.1.tdi.state && (y.0.plan.stream == stream)

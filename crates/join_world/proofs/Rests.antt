@@ -10,7 +10,7 @@ use Rattle.script_events.specs.declared.event.InterfaceEvent.TheVariants as ie
 use Rattle.event_verdicts.specs.declared.verdict.Verdict.{Verdict}
 use Rattle.event_verdicts.specs.declared.verdict.Verdict.TheVariants as v
 use Rattle.spec_keys.specs.Operations.{StreamStage}
-use Rattle.interface_state.specs.Machine.{Tdi, StreamLeft}
+use Rattle.interface_state.specs.Machine.{DeviceTdi, StreamLeft}
 use Rattle.spec_interfaces.specs.Sites.{Site}
 use Rattle.spec_interfaces.specs.Views.{Managed, managed_after, is_number, number_in}
 use Rattle.spec_interfaces.specs.Devices.{Around, next_interface, interface_if_called, accepts_lock}
@@ -24,19 +24,19 @@ is_of_ports (event.Interface e) w = false
 is_of_ports (event.Reset link ends) (v.Reset l) = false
 is_of_ports e w = true
 
-pub next_of_ports : (a : Around) (left : Bool) (x : Site) (e : Event) (w : Verdict) (tdi : Tdi)
+pub next_of_ports : (a : Around) (left : Bool) (x : Site) (e : Event) (w : Verdict) (tdi : DeviceTdi)
     → is_of_ports e w ≡ true → next_interface a left x e w tdi ≡ interface_if_called left StreamLeft tdi
 next_of_ports a left x e w tdi is = grind arith
 
-pub none_of_ports : (a : Around) (x : Site) (e : Event) (w : Verdict) (tdi : Tdi) → is_of_ports e w ≡ true
+pub none_of_ports : (a : Around) (x : Site) (e : Event) (w : Verdict) (tdi : DeviceTdi) → is_of_ports e w ≡ true
     → accepts_lock a x e w tdi ≡ false
 none_of_ports a x e w tdi is = grind arith
 
 -- ---- events that leave it
 
 pub record Rests (e : Event) (w : Verdict) (x : Site) : Type 0 where
-  pub next : (a : Around) (tdi : Tdi) → next_interface a false x e w tdi ≡ tdi
-  pub none : (a : Around) (tdi : Tdi) → accepts_lock a x e w tdi ≡ false
+  pub next : (a : Around) (tdi : DeviceTdi) → next_interface a false x e w tdi ≡ tdi
+  pub none : (a : Around) (tdi : DeviceTdi) → accepts_lock a x e w tdi ≡ false
   pub managed : (ops : ℕ → ℕ → StreamStage) (drawn : ℕ) (m : Managed) → managed_after ops drawn x e w m ≡ m
 
 -- it speaks of packets, or asks what is; or it is a reset of a link that is not there
@@ -55,11 +55,11 @@ pub draw_of_packets : (ops : ℕ → ℕ → StreamStage) (drawn : ℕ) (e : Eve
     → is_of_packets e w ≡ true → draw_after ops drawn e w draw ≡ draw
 draw_of_packets ops drawn e w draw is = grind arith
 
-next_of_packets : (a : Around) (x : Site) (e : Event) (w : Verdict) (tdi : Tdi) → is_of_packets e w ≡ true
+next_of_packets : (a : Around) (x : Site) (e : Event) (w : Verdict) (tdi : DeviceTdi) → is_of_packets e w ≡ true
     → next_interface a false x e w tdi ≡ tdi
 next_of_packets a x e w tdi is = grind arith
 
-none_of_packets : (a : Around) (x : Site) (e : Event) (w : Verdict) (tdi : Tdi) → is_of_packets e w ≡ true
+none_of_packets : (a : Around) (x : Site) (e : Event) (w : Verdict) (tdi : DeviceTdi) → is_of_packets e w ≡ true
     → accepts_lock a x e w tdi ≡ false
 none_of_packets a x e w tdi is = grind arith
 
@@ -88,7 +88,7 @@ rests_at_view i w x = record {
 pub rests_at_memory : (at len : ℕ) (w : Verdict) (x : Site) → Rests (event.Interface (ie.Memory at len)) w x
 rests_at_memory at len w x = record { next = λ a tdi. refl; none = λ a tdi. refl; managed = λ ops drawn m. refl }
 
-none_elsewhere : (a : Around) (x : Site) (e : InterfaceEvent) (w : Verdict) (tdi : Tdi)
+none_elsewhere : (a : Around) (x : Site) (e : InterfaceEvent) (w : Verdict) (tdi : DeviceTdi)
     → is_number (number_in e) x.number ≡ false → accepts_lock a x (event.Interface e) w tdi ≡ false
 none_elsewhere a x (ie.Lock i loss) w tdi other = rw other refl
 none_elsewhere a x e w tdi other = refl

@@ -14,7 +14,7 @@ use Rattle.ide_types.specs.declared.interface.InterfacePlan.{InterfacePlan}
 use Rattle.ide_types.specs.declared.plan.LinkPlan.{LinkPlan}
 use Rattle.ide_types.specs.declared.plan.Plan.{Plan}
 use Rattle.spec_interfaces.specs.Sites.{Site, sites}
-use Rattle.interface_state.specs.Machine.{Tdi}
+use Rattle.interface_state.specs.Machine.{DeviceTdi}
 use Rattle.interface_ends.specs.Replies.{DeviceTdis, named_interface, named_interface_in, named_interface_if_there}
 use Rattle.interface_ends.specs.Replies.{is_elsewhere, requester_in, has_requester}
 use Rattle.trusted_memory.specs.{MemoryContents}
@@ -148,7 +148,7 @@ held_planned (l ∷ ends) (p ∷ ls) many each =
 -- ---- the site of a place
 
 pub record IsSiteAt (plan : Plan) (ends : List LinkEnds) (m : InterfacesView) (w : Whole) (link place number : ℕ)
-    (t : Tdi) : Type 0 where
+    (t : DeviceTdi) : Type 0 where
   pub site : Site
   pub site_is : slice_get (sites plan) number ≡ Some site
   pub link_is : site.link ≡ link
@@ -164,7 +164,8 @@ near r le = let zero_is : r / 2 ^ 24 % 2 ≡ 0 = omega arith in rw zero_is refl
 whole_id : (r : ℕ) → r ≤ 65535 → requester_in r ≡ r
 whole_id r le = omega arith
 
-named_by : (d : DeviceTdis) (r place : ℕ) (t : Tdi) → r ≤ 65535 → position (has_requester r) d.interfaces ≡ Some place
+named_by : (d : DeviceTdis) (r place : ℕ) (t : DeviceTdi) → r ≤ 65535 → position (has_requester r) d.interfaces
+    ≡ Some place
     → slice_get d.interfaces place ≡ Some t → named_interface d r ≡ Some (record { place = place; tdi = t })
 named_by d r place t le found is =
     rw (near r le) (ap (λ (n : ℕ). named_interface_in d.interfaces (position (has_requester n) d.interfaces))
@@ -184,7 +185,8 @@ module _ (plan : Plan) (ends : List LinkEnds) (m : InterfacesView) (memory : Mem
       held_planned ends plan.links many (λ i l p is planned. (beside.devices i l is).many p planned)
       ∙ sym (sites_many plan)
 
-  site_within : (link place : ℕ) (l : LinkEnds) (t : Tdi) → IsBeside plan ends m memory w → slice_get ends link ≡ Some l
+  site_within : (link place : ℕ) (l : LinkEnds) (t : DeviceTdi) → IsBeside plan ends m memory w → slice_get ends link
+      ≡ Some l
       → slice_get l.device.interfaces.interfaces place ≡ Some t
       → held_before ends link + place < length (sites plan)
       → IsSiteAt plan ends m w link place (held_before ends link + place) t
@@ -208,11 +210,11 @@ module _ (plan : Plan) (ends : List LinkEnds) (m : InterfacesView) (memory : Mem
         link_is = link_is;
         placed = p;
         place_is = place_is;
-        plan_is = ap (λ (y : Tdi). y.plan) (sym tdi) ∙ p.keeps.layout;
+        plan_is = ap (λ (y : DeviceTdi). y.plan) (sym tdi) ∙ p.keeps.layout;
       }
 
   -- each place of a device
-  pub site_at_place : (link place : ℕ) (l : LinkEnds) (t : Tdi) → IsBeside plan ends m memory w
+  pub site_at_place : (link place : ℕ) (l : LinkEnds) (t : DeviceTdi) → IsBeside plan ends m memory w
       → length ends ≡ length plan.links → slice_get ends link ≡ Some l
       → slice_get l.device.interfaces.interfaces place ≡ Some t
       → IsSiteAt plan ends m w link place (held_before ends link + place) t
@@ -227,7 +229,8 @@ module _ (plan : Plan) (ends : List LinkEnds) (m : InterfacesView) (memory : Mem
   -- ---- by requester
 
   -- no place before it has its requester
-  requester_ahead : (i k : ℕ) (x : Site) (p : IsPlaced plan ends m w i x) (t : Tdi) → IsBeside plan ends m memory w
+  requester_ahead : (i k : ℕ) (x : Site) (p : IsPlaced plan ends m w i x) (t : DeviceTdi)
+      → IsBeside plan ends m memory w
       → FitsPlan plan → slice_get (sites plan) i ≡ Some x → k < p.place
       → slice_get p.link_ends.device.interfaces.interfaces k ≡ Some t → t.plan.requester ≡ x.plan.requester → ⊥
   requester_ahead i k x p t beside fits is lt there same =

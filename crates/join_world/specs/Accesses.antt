@@ -7,7 +7,7 @@ use Rattle.spec_interfaces.specs.Sites.{Site, sites}
 use Rattle.trusted_memory.specs.declared.queue.WaitingRead.{WaitingRead}
 use Rattle.guarded_memory.specs.{page_counts}
 use Rattle.spec_links.specs.Hops.{HopTlp}
-use Rattle.machine_whole.specs.Accesses.{Accesses}
+use Rattle.machine_whole.specs.Accesses.{AccessState}
 use Rattle.link_stores.specs.declared.link.LinkAccesses.{LinkAccesses}
 use Rattle.whole_links.specs.{AreLeftBy, carried_on_link, floors_at, mmio_at, reads_at, sizes_at}
 
@@ -35,7 +35,7 @@ on_link link _ _ = []
 
 -- of each link the reads that wait, the bytes of its device's memory, how many pages its ranges have, the least draws
 -- that its device's interfaces take trusted writes under, and the TLPs that wait at the switch of its hop
-pub record AreAccesses (plan : Plan) (seen : ℕ → LinkSeen) (a : Accesses) : Type 0 where
+pub record AreAccesses (plan : Plan) (seen : ℕ → LinkSeen) (a : AccessState) : Type 0 where
   pub floored : length a.floors ≡ length (sites plan)
   pub reads : (link : ℕ) → (seen link).reads ≡ a.waiting link
   pub bytes : (link : ℕ) → AreLeftBy (seen link).bytes (a.happened link)

@@ -9,7 +9,8 @@ pub use Rattle.whole_links.specs.{IsAnswered, KeeperView, LinkEnds, answer_of_li
 pub use Rattle.whole_links.specs.{carried_on_link, device_draw, floors_at, grants_in, has_peer_if_there, has_peer_in}
 pub use Rattle.whole_links.specs.{interface_named, links_state, live_of, peer_live, mmio_at, nothing_happens}
 pub use Rattle.whole_links.specs.{managed_peer_stream, peers_drawn, policy_in, port_on, reads_at, runs_in, same_carried}
-pub use Rattle.whole_links.specs.{same_floors, same_reads, sizes_at, statuses_of_ends, tdi_named, interface_of_ends}
+pub use Rattle.whole_links.specs.{same_floors, same_reads, sizes_at, statuses_of_ends, named_device_interface}
+pub use Rattle.whole_links.specs.{interface_of_ends}
 pub use Rattle.whole_links.specs.{trusting_on, AllFollow, Ends, HasNoVerdict, HostKeeper, IsBounded, IsFirst, IsLink}
 pub use Rattle.whole_links.specs.{IsSettledOrSame, Links, BesideAfter, BesideArrival, BesideAsking, BesideCall}
 pub use Rattle.whole_links.specs.{BesideInterface, BesideStays, BesideOperation, BesideBinding, BesideReset}

@@ -9,7 +9,7 @@ use Rattle.spec_interfaces.specs.Peers.{live_by_id}
 use Rattle.spec_interfaces.specs.Sites.{Site, sites, nonces_of}
 use Rattle.machine_whole.specs.Interfaces.{Face}
 use Rattle.machine_whole.specs.Machine.{Whole, machine_secure, live_draw_at_end}
-use Rattle.interface_state.specs.Machine.{Tdi, bound_link_stream}
+use Rattle.interface_state.specs.Machine.{DeviceTdi, bound_link_stream}
 use Rattle.interface_state.specs.Bindings.{binds}
 use Rattle.interface_state.specs.Held.{IsBound}
 use Rattle.interface_host.specs.Views.{HostTdi}
@@ -26,7 +26,7 @@ pub record IsPlaced (plan : Plan) (ends : List LinkEnds) (m : InterfacesView) (w
     pub ends_are : slice_get ends x.link ≡ Some link_ends
     pub place : ℕ
     pub located_is : place_on_links 0 i ends ≡ Some (x.link, place)
-    pub tdi : Tdi
+    pub tdi : DeviceTdi
     pub tdi_is : slice_get link_ends.device.interfaces.interfaces place ≡ Some tdi
     pub interface : HostTdi
     pub interface_is : slice_get m.interfaces i ≡ Some interface

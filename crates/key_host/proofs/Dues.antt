@@ -19,7 +19,8 @@ use Rattle.key_host.specs.declared.operation.StreamRefusal.{StreamRefusal}
 use Rattle.key_host.specs.declared.operation.StreamRefusal.TheVariants.{PoolEmpty, UnitOpen}
 use Rattle.key_slots.specs.Wires.{WireKeys}
 use Rattle.key_host.specs.Streams.{StreamView, HostView, asked_of_unfinished, first_of, begun_stream}
-use Rattle.key_host.specs.Walk.{answers, Walked, walk, walked_unless, verdict_of, op_if_reached, IsAsked, Reads}
+use Rattle.key_host.specs.Walk.{answers, Walked, walk, walked_unless, verdict_of, op_if_reached, IsAsked}
+use Rattle.key_host.specs.Walk.{HostAndPoolShow}
 use Rattle.key_host.specs.Walk.{WalkIsDue, WalksAreDue}
 use Rattle.key_host.proofs.Walks.{WorkFits, walk_comes}
 
@@ -131,7 +132,8 @@ stops plan ports st host pool loss line id keys (Refreshing k j n) asked =
 -- by the state of the stream: if the operation is refused the cause is the one that is due, and else its walk is
 refreshes : (plan : KeyPlan) (ports : PortView) (st : StreamStatus) (host : HostView) (pool : Pool) (loss : Option Loss)
     (line id : ℕ) (keys : WireKeys) (o : StreamStage) → IsAsked (is_hosted line) (asked_of_unfinished o)
-    → Reads plan ports line id st host pool → WalkIsDue (is_hosted line) op.Refresh plan ports st host pool loss
+    → HostAndPoolShow plan ports line id st host pool → WalkIsDue (is_hosted line) op.Refresh plan ports st host pool
+    loss
     (at_op line id o keys)
 unfolding WorkFits
 refreshes plan ports st host pool loss line id keys Idle asked reads = rw reads.status_is

@@ -9,7 +9,8 @@ use Rattle.event_verdicts.specs.declared.verdict.Operation.{Operation}
 use Rattle.event_verdicts.specs.declared.verdict.Operation.TheVariants as op
 use Rattle.key_slots.specs.{KeySet, is_one, key_set, Pool, draws_in, six_keys, pool_after}
 use Rattle.spec_keys.specs.Operations.{StreamStage, Idle, Establishing, Up, Refreshing, Stopping, Work, work, work_of}
-use Rattle.spec_keys.specs.Operations.{last_exchange_of, makes_draw, reach, op_after_reach, op_cut, op_at_exchange}
+use Rattle.spec_keys.specs.Operations.{last_exchange_of, makes_draw, reach, op_after_reach, op_after_reset}
+use Rattle.spec_keys.specs.Operations.{op_at_exchange}
 use Rattle.key_messages.specs.declared.object.KmView.{KmView}
 use Rattle.key_messages.specs.{PlaceCall}
 use Rattle.key_host.specs.declared.exchange.Exchange.{Exchange}
@@ -32,7 +33,7 @@ use Rattle.key_host.specs.Exchanges.{wire_number, wire_keys, request_of}
 use Rattle.ide_types.specs.Lines.{is_hosted}
 use Rattle.ide_types.specs.declared.port.Side.{Side}
 use Rattle.ide_types.specs.declared.port.PortName.{PortName}
-use Rattle.spec_keys.specs.Places.{is_cut}
+use Rattle.spec_keys.specs.Places.{is_line_reset}
 use Rattle.key_host.specs.Local.{programs, goes, stream_stop_calls}
 
 -- A stream of a line, with the state of its operations, and the keys of an establish or refresh that is unfinished, in
@@ -52,8 +53,8 @@ is_named line id s = (s.line == line) && (s.id == id)
 -- after a reset that clears these ends: of a line that is cut no keys are on their way
 abbrev pub reset_stream : List PortName → StreamView → StreamView
 reset_stream ends s = record s {
-  op = op_cut ends s.line s.op;
-  keys = if is_cut ends s.line then [] else s.keys;
+  op = op_after_reset ends s.line s.op;
+  keys = if is_line_reset ends s.line then [] else s.keys;
 }
 
 -- whether a host's port is at the near end of its line

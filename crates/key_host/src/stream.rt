@@ -3,7 +3,7 @@
 ghost use Rattle.std.specs.Prelude.{◌≡◌, ◌≤◌, true, [], Some, if◌then◌else◌};
 ghost use Rattle.ide_types.specs.{is_one};
 ghost use Rattle.spec_keys.specs.Operations.{work_of, last_exchange_of, makes_draw, op_ended, Idle, Stopping};
-ghost use Rattle.spec_keys.specs.Places.{is_cut, is_between_devices};
+ghost use Rattle.spec_keys.specs.Places.{is_line_reset, is_between_devices};
 ghost use Rattle.key_host.specs.declared.judge.Judged.TheVariants.{Expected};
 ghost use Rattle.ide_types.specs.Lines.{is_hosted};
 ghost use Rattle.key_host.specs.Exchanges.{wire_keys};
@@ -83,8 +83,8 @@ impl StreamKeys {
     pub fn reset(&mut self, ends: &[PortName])
         ensures { self.new ≡ reset_stream ends.now self.old }
     {
-        if is_cut(ends, self.line) {
-            self.stage = cut(self.line);
+        if is_line_reset(ends, self.line) {
+            self.stage = reset_stage(self.line);
         }
     }
 
@@ -287,14 +287,14 @@ fn key_status(stage: &Stage) -> StreamStatus
 }
 
 /// Whether one of the ends is on the line.
-fn is_cut(ends: &[PortName], line: u8) -> bool
-    ensures { result ≡ is_cut ends.now line }
+fn is_line_reset(ends: &[PortName], line: u8) -> bool
+    ensures { result ≡ is_line_reset ends.now line }
 {
     ends.iter().any(|end| end.line == line)
 }
 
 /// The state of a stream of a line that a reset cut.
-fn cut(line: u8) -> Stage
+fn reset_stage(line: u8) -> Stage
     ensures op { op_of_stage result ≡ (if is_between_devices line then Stopping 1 else Idle) }
     ensures keys { stage_keys result ≡ [] }
     ensures holds { StageHolds (is_hosted line) result }

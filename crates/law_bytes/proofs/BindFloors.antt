@@ -16,7 +16,8 @@ use Rattle.interface_state.specs.declared.states.Lock.{Lock}
 use Rattle.interface_state.specs.declared.states.TdiState.{TdiState}
 use Rattle.interface_state.specs.declared.states.TdiState.TheVariants.{ConfigUnlocked, ConfigLocked}
 use Rattle.interface_state.specs.Bindings.{without, is_binding_on, floor_on}
-use Rattle.interface_state.specs.Machine.{Tdi, Call, tdi_after, is_locked, bindings_after, after_failure, after_start}
+use Rattle.interface_state.specs.Machine.{DeviceTdi, Call, interface_after_call, is_locked, bindings_after}
+use Rattle.interface_state.specs.Machine.{after_failure, after_start}
 use Rattle.interface_state.specs.Machine.{after_change, firmware_updated, lock_flags, bind_answer, interface_after_bind}
 use Rattle.interface_state.specs.Machine.{unbind_answer, unbound_with, lock_answer, interface_after_lock, new_lock}
 use Rattle.interface_state.specs.Machine as call
@@ -55,7 +56,7 @@ ended_each : (P : ℕ → Type 0) (b : Bool) (bs : List Binding) → Each P bs �
 ended_each P true bs each = tt
 ended_each P false bs each = each
 
-left_each : (P : ℕ → Type 0) (t : Tdi) (next : TdiState) → Each P t.bindings → Each P (bindings_after t next)
+left_each : (P : ℕ → Type 0) (t : DeviceTdi) (next : TdiState) → Each P t.bindings → Each P (bindings_after t next)
 left_each P t next each = ended_each P (not (is_locked next) && is_locked t.state) t.bindings each
 
 one_more : (P : ℕ → Type 0) (bs : List Binding) (b : Binding) → Each P bs → P b.floor → Each P (bs ++ b ∷ [])
@@ -71,22 +72,24 @@ one_less P stream (b ∷ bs) each = by (not (is_binding_on stream b)) (one_less 
     by false later = later
 
 -- a bind is accepted under the draw that it is told
-answer_draw : (t : Tdi) (stream draw : ℕ) (said : Option ℕ) → bind_answer t stream said ≡ Ok draw → said ≡ Some draw
+answer_draw : (t : DeviceTdi) (stream draw : ℕ) (said : Option ℕ) → bind_answer t stream said ≡ Ok draw → said
+    ≡ Some draw
 answer_draw t stream draw None is = grind (arith, is)
 answer_draw t stream draw (Some floor) is = grind (arith, is)
 
-bind_each : (P : ℕ → Type 0) (t : Tdi) (stream : ℕ) (answer : Result ℕ ℕ) → ((draw : ℕ) → answer ≡ Ok draw → P draw)
+bind_each : (P : ℕ → Type 0) (t : DeviceTdi) (stream : ℕ) (answer : Result ℕ ℕ)
+    → ((draw : ℕ) → answer ≡ Ok draw → P draw)
     → Each P t.bindings → Each P (interface_after_bind t stream answer).bindings
 bind_each P t stream (Err code) given each = each
 bind_each P t stream (Ok draw) given each =
     one_more P t.bindings (record { stream = stream; floor = draw }) each (given draw refl)
 
-unbind_each : (P : ℕ → Type 0) (t : Tdi) (stream : ℕ) (answer : Result (Unit {0}) ℕ) → Each P t.bindings
+unbind_each : (P : ℕ → Type 0) (t : DeviceTdi) (stream : ℕ) (answer : Result (Unit {0}) ℕ) → Each P t.bindings
     → Each P (unbound_with t stream answer).bindings
 unbind_each P t stream (Err code) each = each
 unbind_each P t stream (Ok done) each = one_less P stream t.bindings each
 
-lock_each : (P : ℕ → Type 0) (t : Tdi) (lock : Lock) (answer : Result (List ℕ) ℕ) → Each P t.bindings
+lock_each : (P : ℕ → Type 0) (t : DeviceTdi) (lock : Lock) (answer : Result (List ℕ) ℕ) → Each P t.bindings
     → Each P (interface_after_lock t lock answer).bindings
 lock_each P t lock (Err code) each = each
 lock_each P t lock (Ok nonce) each = left_each P t (ConfigLocked lock nonce) each
@@ -96,7 +99,8 @@ abbrev FitsCall : (ℕ → Type 0) → Call → Type 0
 FitsCall P (call.BindStream stream said) = (draw : ℕ) → said ≡ Some draw → P draw
 FitsCall P c = Unit {0}
 
-called_each : (P : ℕ → Type 0) (t : Tdi) (c : Call) → FitsCall P c → Each P t.bindings → Each P (tdi_after t c).bindings
+called_each : (P : ℕ → Type 0) (t : DeviceTdi) (c : Call) → FitsCall P c → Each P t.bindings
+    → Each P (interface_after_call t c).bindings
 called_each P t (call.LockInterface flags stream offset secure drawn) fits each =
     lock_each P t (new_lock t flags stream offset) (lock_answer t flags offset secure drawn) each
 called_each P t (call.StartInterface nonce) fits each = left_each P t (after_start t.state nonce) each
@@ -112,12 +116,12 @@ called_each P t call.FirmwareUpdate fits each = left_each P t (firmware_updated 
 called_each P t call.StreamLeft fits each = left_each P t (after_failure t.state) each
 called_each P t call.LinkReset fits each = tt
 
-called_if : (P : ℕ → Type 0) (b : Bool) (c : Call) (t : Tdi) → (b ≡ true → FitsCall P c) → Each P t.bindings
+called_if : (P : ℕ → Type 0) (b : Bool) (c : Call) (t : DeviceTdi) → (b ≡ true → FitsCall P c) → Each P t.bindings
     → Each P (interface_if_called b c t).bindings
 called_if P true c t fits each = called_each P t c (fits refl) each
 called_if P false c t fits each = each
 
-if_each : (P : ℕ → Type 0) (b : Bool) (s t : Tdi) → (b ≡ true → Each P s.bindings) → Each P t.bindings
+if_each : (P : ℕ → Type 0) (b : Bool) (s t : DeviceTdi) → (b ≡ true → Each P s.bindings) → Each P t.bindings
     → Each P (if b then s else t).bindings
 if_each P true s t one two = one refl
 if_each P false s t one two = two
@@ -130,7 +134,7 @@ TellsBind P a x (event.Interface (ie.Bind i line stream loss)) w =
     (i == x.number) ≡ true → carries w 1 ≡ true → (draw : ℕ) → a.live stream ≡ Some draw → P draw
 TellsBind P a x e w = Unit {0}
 
-asked_each : (P : ℕ → Type 0) (a : Around) (x : Site) (e : InterfaceEvent) (w : Verdict) (t : Tdi)
+asked_each : (P : ℕ → Type 0) (a : Around) (x : Site) (e : InterfaceEvent) (w : Verdict) (t : DeviceTdi)
     → TellsBind P a x (event.Interface e) w → is_number (number_in e) x.number ≡ true → Each P t.bindings
     → Each P (interface_asked a x e w t).bindings
 asked_each P a x (ie.Lock i loss) w t tells own each = called_if P (carries w 3) (lock_call a x) t (λ b. tt) each
@@ -152,7 +156,7 @@ reset_fits : (P : ℕ → Type 0) (own : Bool) → FitsCall P (reset_call own)
 reset_fits P true = tt
 reset_fits P false = tt
 
-next_each : (P : ℕ → Type 0) (a : Around) (left : Bool) (x : Site) (e : Event) (w : Verdict) (t : Tdi)
+next_each : (P : ℕ → Type 0) (a : Around) (left : Bool) (x : Site) (e : Event) (w : Verdict) (t : DeviceTdi)
     → TellsBind P a x e w → Each P t.bindings → Each P (next_interface a left x e w t).bindings
 next_each P a left x (event.Interface e) w t tells each =
     if_each P (is_number (number_in e) x.number) (interface_asked a x e w t) t
@@ -261,11 +265,11 @@ each_more P Q [] more each = tt
 each_more P Q (b ∷ bs) more each = (more b.floor each.0, each_more P Q bs more each.1)
 
 -- a lock is taken from CONFIG_UNLOCKED alone
-lock_unlocked : (t : Tdi) (flags offset : ℕ) (secure : Bool) (drawn : Option (List ℕ))
+lock_unlocked : (t : DeviceTdi) (flags offset : ℕ) (secure : Bool) (drawn : Option (List ℕ))
     → is_ok (lock_answer t flags offset secure drawn) ≡ true → is_locked t.state ≡ false
 lock_unlocked t flags offset secure drawn is = grind (arith, is)
 
-accepts_unlocked : (a : Around) (x : Site) (e : Event) (w : Verdict) (t : Tdi) → accepts_lock a x e w t ≡ true
+accepts_unlocked : (a : Around) (x : Site) (e : Event) (w : Verdict) (t : DeviceTdi) → accepts_lock a x e w t ≡ true
     → is_locked t.state ≡ false
 accepts_unlocked a x (event.Interface (ie.Lock i loss)) w t is =
     let given = is_ok (lock_answer t x.plan.flags x.plan.offset a.secure a.drawn) in

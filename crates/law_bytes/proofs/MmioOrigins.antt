@@ -40,7 +40,7 @@ use Rattle.ide_types.specs.declared.binding.Binding.{Binding}
 use Rattle.interface_state.specs.declared.states.Lock.{Lock}
 use Rattle.interface_state.specs.declared.states.TdiState.{TdiState}
 use Rattle.interface_state.specs.declared.states.TdiState.TheVariants as tdi
-use Rattle.interface_state.specs.Machine.{Tdi, all_bindings, own_binding, bound_link_stream, lock_of}
+use Rattle.interface_state.specs.Machine.{DeviceTdi, all_bindings, own_binding, bound_link_stream, lock_of}
 use Rattle.interface_state.specs.Bindings.{floor_on, binds, is_binding_on}
 use Rattle.spec_interfaces.specs.Sites.{Site, site_at}
 use Rattle.spec_interfaces.specs.Devices.{is_run, runs_at, interface_at}
@@ -250,7 +250,7 @@ module _ (plan : Plan) (whole : FitsPlan plan) (h : History) (x : Site) (known :
 
 -- ---- on the stream of the lock
 
-run_binds : (floor : ℕ) (t : Tdi) → is_run t.state ≡ true → (l : Lock) × (lock_of t.state ≡ Some l)
+run_binds : (floor : ℕ) (t : DeviceTdi) → is_run t.state ≡ true → (l : Lock) × (lock_of t.state ≡ Some l)
     × (all_bindings floor t ≡ record { stream = l.stream; floor = floor } ∷ t.bindings)
 run_binds floor t runs = by t.state t.bindings runs
   where

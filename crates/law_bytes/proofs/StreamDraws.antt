@@ -6,12 +6,14 @@ use Rattle.spec_keys.proofs.Terms.{◌≡◌, ℕ, ◌+◌, ◌<◌, ◌≤◌, 
 use Rattle.spec_keys.proofs.Terms.{◌∷◌, ◌++◌, Option, Some, None, refl, ap, sym, subst, ◌∙◌, arith, nat_tests, nat_lt}
 use Rattle.spec_keys.proofs.Terms.{if◌then◌else◌, is_some, Loss, SealedPacket, Verdict, KeyPlan, KeyPlace, is_on_stream}
 use Rattle.spec_keys.proofs.Terms.{Touch, Program, Go, Accept, Keys, key_in, on_in, refuses}
-use Rattle.spec_keys.proofs.Terms.{StreamStage, Idle, Establishing, Up, Refreshing, Stopping, Work, Reach, Manager}
+use Rattle.spec_keys.proofs.Terms.{StreamStage, Idle, Establishing, Up, Refreshing, Stopping, Work, Reach}
+use Rattle.spec_keys.proofs.Terms.{StreamOperations}
 use Rattle.spec_keys.proofs.Terms.{manager_after_operation, op_after_reach, work_of, reach_of, whole, History}
 use Rattle.spec_keys.proofs.Terms.{last_exchange_of, op_of, draws, on_it, work_touches, touches_if, touches_after, came}
 use Rattle.spec_keys.proofs.Terms.{place_keys, keeps_live, has_key, has_all, history_status, begins_keyed, KeyCauseLaw}
 use Rattle.spec_keys.proofs.Terms.{PortView, ports_at, refresh_on, operation_verdict, unless_open, finished_verdict}
-use Rattle.spec_keys.proofs.Terms.{is_hosted, is_cut, PortName, Host, Device, Pr, Operation, seal_touches, is_same_side}
+use Rattle.spec_keys.proofs.Terms.{is_hosted, is_line_reset, PortName, Host, Device, Pr, Operation, seal_touches}
+use Rattle.spec_keys.proofs.Terms.{is_same_side}
 use Rattle.spec_keys.proofs.Terms.{is_same_sub, Loaded, begun_if_pool_has, if_secure, is_live_sender, Npr, Cpl, Lost}
 use Rattle.spec_keys.proofs.Terms.{length, list_any, Clear, Side, key_place_at, is_local, is_between_devices}
 use Rattle.ide_types.specs.declared.status.StreamStatus.TheVariants as status
@@ -332,12 +334,13 @@ carry d e ts us q r draw touched state is =
     subst (λ (z : ℕ). Follows z us r) (sym draw) (subst (λ (z : List Touch). Follows d z r) (sym touched)
     (subst (Follows d ts) (sym state) is))
 
-other_op : (m : Manager) (o : Operation) (l s : ℕ) (reached : Option Reach) (p : KeyPlace) → is_on_stream p l s ≡ false
+other_op : (m : StreamOperations) (o : Operation) (l s : ℕ) (reached : Option Reach) (p : KeyPlace) → is_on_stream p l s
+    ≡ false
     → (manager_after_operation m o l s reached).ops p.line p.stream ≡ m.ops p.line p.stream
 other_op m o l s None p other = refl
 other_op m o l s (Some r) p other = rw other refl
 
-own_op : (m : Manager) (o : Operation) (r : Reach) (p : KeyPlace)
+own_op : (m : StreamOperations) (o : Operation) (r : Reach) (p : KeyPlace)
     → (manager_after_operation m o p.line p.stream (Some r)).ops p.line p.stream
     ≡ op_after_reach (is_hosted p.line) (work_of o (m.ops p.line p.stream) (length m.begun)) r
 own_op m o r p = rw (on_itself p) refl
@@ -491,9 +494,9 @@ reset_follows : (h : History) (l : ℕ) (ends : List PortName) (k : ℕ) (p : Ke
     → Follows (stream_draw ((event.Reset l ends, v.Reset k) ∷ h) p.line p.stream)
     (moments ((event.Reset l ends, v.Reset k) ∷ h) p) (op_of ((event.Reset l ends, v.Reset k) ∷ h) p.line p.stream)
 unfolding manager moments stream_draw
-reset_follows h l ends k p is = by (is_cut ends p.line) refl (is_between_devices p.line)
+reset_follows h l ends k p is = by (is_line_reset ends p.line) refl (is_between_devices p.line)
   where
-    by : (b : Bool) → is_cut ends p.line ≡ b → (peer : Bool) → Follows (stream_draw h p.line p.stream)
+    by : (b : Bool) → is_line_reset ends p.line ≡ b → (peer : Bool) → Follows (stream_draw h p.line p.stream)
         (touches_after (moments h p) (touches_if (if peer then list_any (λ e. is_same_side e.side p.side
         && (e.line == p.line)) ends else b) Clear))
         (if b then (if peer then Stopping 1 else Idle) else op_of h p.line p.stream)

@@ -2,7 +2,7 @@
 use Rattle.law_sealing.proofs.Terms.{◌+◌, ◌≡◌, ℕ, suc, true, List, [], ◌∷◌, ◌++◌, length, Some, slice_get, take, refl}
 use Rattle.law_sealing.proofs.Terms.{ap, sym, ◌∙◌, subst, inl, inr, cases_Bool, drop, append_assoc, take-append-drop}
 use Rattle.law_sealing.proofs.Terms.{Plan, SubStream, units, units_finished, open_unit, History, ahead_sent, ahead_due}
-use Rattle.law_sealing.proofs.Terms.{Arrival, sent_packets, pending_packets, units_got, received_in, before_tag}
+use Rattle.law_sealing.proofs.Terms.{ArrivedBytes, sent_packets, pending_packets, units_got, received_in, before_tag}
 use Rattle.law_sealing.proofs.Terms.{next_unit_name, CauseLaw, ArrivesInOrder, NotForged, WasSealed, OrderIsNoForgery}
 use Rattle.law_sealing.proofs.Terms.{units-append, units-end, unit_ending, DrawFacts, StreamsFit, PortName, Event}
 use Rattle.law_sealing.proofs.Terms.{Packet, packet_bytes}
@@ -47,7 +47,7 @@ pub in_order_not_forged : (plan : Plan) → StreamsFit plan → DrawFacts plan �
 in_order_not_forged plan fits facts h cause e s j m port p arrives a x is tested verified =
     let same : record { port = port; bytes = packet_bytes p } ≡ a = cc (arrives.unchanged, is) in
     let passed = sym (before plan fits facts h cause e s j m port p arrives) ∙ (ap (before_tag plan h) same ∙ tested) in
-    subst (λ (b : Arrival). WasSealed plan h b.port x) same (elim (cases_Bool p.prefix.m) [
+    subst (λ (b : ArrivedBytes). WasSealed plan h b.port x) same (elim (cases_Bool p.prefix.m) [
       | inl ends ↦
           let same_ending : unit_ending p (next_unit_name h s j) ≡ x = cc (rw ends at passed) in
           let fronts = fronts_agree plan fits facts h cause e s j m port p arrives ends in

@@ -4,7 +4,8 @@ use Rattle.law_sealing.proofs.Terms.{◌≡◌, ◌≢◌, ℕ, ◌+◌, ◌<◌
 use Rattle.law_sealing.proofs.Terms.{Option, Ok, Err, Result, take, refl, ap, sym, ◌∙◌, subst, arith, if◌then◌else◌}
 use Rattle.law_sealing.proofs.Terms.{not, ◌||◌, is_some, nat_tests, flat_map-append, Plan, SubStream, has_stream}
 use Rattle.law_sealing.proofs.Terms.{key_of, aggregation_of, stream_plan, open_unit, History, sealed_packets}
-use Rattle.law_sealing.proofs.Terms.{sub_stream_packets, ahead_sent, ahead_due, Arrival, arrival_of_event, sent_packets}
+use Rattle.law_sealing.proofs.Terms.{sub_stream_packets, ahead_sent, ahead_due, ArrivedBytes, arrival_of_event}
+use Rattle.law_sealing.proofs.Terms.{sent_packets}
 use Rattle.law_sealing.proofs.Terms.{sub_stream_of, packet_of, pending_packets, units_got, on_draw, has_failed}
 use Rattle.law_sealing.proofs.Terms.{meets_counts, received_in, port_keys, Ending, due, arrival_due, ending_due}
 use Rattle.law_sealing.proofs.Terms.{before_tag, under_keys, is_mixed, is_overfull, receiving_sub_stream}
@@ -31,7 +32,8 @@ tag_is plan ahead bytes d unfinished m = rw (m, flat_map-append, flat_map-append
 
 -- ---- the verdict
 
-due_arrives : (plan : Plan) (h : History) (e : Event) (a : Arrival) → arrival_of_event plan h e ≡ Some a → due plan h e
+due_arrives : (plan : Plan) (h : History) (e : Event) (a : ArrivedBytes) → arrival_of_event plan h e ≡ Some a
+    → due plan h e
     ≡ ending_due plan h a.port (before_tag plan h a)
 unfolding due arrival_of_event
 due_arrives plan h (Pass n) a is = ap (arrival_due plan h) is

@@ -20,7 +20,7 @@ use Rattle.ide_types.specs.Ends.{link_hop, line_has}
 use Rattle.ide_types.specs.Plans.{hop_has_id}
 use Rattle.ide_types.specs.Fits.{FitsPlan}
 use Rattle.ide_types.specs.declared.plan.HopPlan.{HopPlan}
-use Rattle.spec_keys.specs.Places.{is_cut}
+use Rattle.spec_keys.specs.Places.{is_line_reset}
 use Rattle.spec_links.specs.Delivered.{is_tlp_under_draw}
 use Rattle.spec_links.specs.Hops.{HopTlp, has_hop, clears_hop}
 use Rattle.spec_links.specs.HopLaws.{sealed_tlp, in_sub, CrossesInOrder}
@@ -199,8 +199,8 @@ far_lone plan fits link x t some =
     one_id x.hop t (rw (a, b, c, place, x.is) at there)
 
 both_cut : (ends : List PortName) (link : ℕ) → clears_hop ends link ≡ true
-    → (is_cut ends (near_hop_line link) ≡ true) × (is_cut ends (far_hop_line link) ≡ true)
-both_cut ends link is = and_parts (is_cut ends (near_hop_line link)) (is_cut ends (far_hop_line link)) is
+    → (is_line_reset ends (near_hop_line link) ≡ true) × (is_line_reset ends (far_hop_line link) ≡ true)
+both_cut ends link is = and_parts (is_line_reset ends (near_hop_line link)) (is_line_reset ends (far_hop_line link)) is
 
 near_segment : (link : ℕ) → link < 8 → IsSegment link (near_hop_line link)
 near_segment link less =

@@ -5,14 +5,14 @@ use Rattle.law_sealing.proofs.Terms.{Option, Some, None, refl, ap, sym, subst, �
 use Rattle.law_sealing.proofs.Terms.{is_some, AllByRecursion, Plan, History, Event, Verdict, PortName, SubStream}
 use Rattle.law_sealing.proofs.Terms.{CauseLaw, port_keys, On, key_in, on_in, eqb-true}
 use Rattle.spec_links.proofs.Terms.{Establish, Refresh, Stop, Reset, KeyPlan, KeyPlace, key_plan, place_in_sub_stream}
-use Rattle.spec_links.proofs.Terms.{Begun, Manager, StreamStage, Reach, Work, Operation, draws, op_of}
+use Rattle.spec_links.proofs.Terms.{Begun, StreamOperations, StreamStage, Reach, Work, Operation, draws, op_of}
 use Rattle.spec_links.proofs.Terms.{work_of, reach_of, manager_after_operation, touches, touches_after, KeyCauseLaw}
 unfoldable use Rattle.spec_links.proofs.Terms.{manager, moments, key_due}
 unfoldable use Rattle.spec_keys.specs.Keys.{keys}
 use Rattle.spec_keys.specs.Keys.{Clear, Touch}
 use Rattle.spec_keys.specs.History.{begun_of_draw, touches_if}
-use Rattle.spec_keys.specs.Operations.{makes_draw, op_cut}
-use Rattle.spec_keys.specs.Places.{is_cut, is_cleared, is_between_devices}
+use Rattle.spec_keys.specs.Operations.{makes_draw, op_after_reset}
+use Rattle.spec_keys.specs.Places.{is_line_reset, is_cleared, is_between_devices}
 use Rattle.spec_keys.specs.Due.{has_refresh}
 use Rattle.spec_keys.proofs.Owners.{OwnedKeys, behind_owned, owned_on, owner, begun_below, work_is}
 use Rattle.law_keys.proofs.Bases.{From, OpFrom, leads}
@@ -36,7 +36,7 @@ mark (_ ∷ h) link = mark h link
 -- the line is one of the two segments
 abbrev pub IsSegment : ℕ → ℕ → Type 0
 IsSegment link line = (is_link_line line ≡ false) × (is_between_devices line ≡ false)
-    × ((ends : List PortName) → clears_hop ends link ≡ true → is_cut ends line ≡ true)
+    × ((ends : List PortName) → clears_hop ends link ≡ true → is_line_reset ends line ≡ true)
 
 -- ---- keys are from that mark on
 
@@ -54,8 +54,8 @@ next_marked h e w link p is before =
     before.keys_from more.from in
     record { low = rw is more.low; op_from = rw is more.op_from; keys_from = rw is keys_from }
 
-cut_idle : (b : ℕ) (ends : List PortName) (line : ℕ) (q : StreamStage) → is_cut ends line ≡ true
-    → is_between_devices line ≡ false → OpFrom b (op_cut ends line q)
+cut_idle : (b : ℕ) (ends : List PortName) (line : ℕ) (q : StreamStage) → is_line_reset ends line ≡ true
+    → is_between_devices line ≡ false → OpFrom b (op_after_reset ends line q)
 cut_idle b ends line q cut peer = rw (cut, peer) tt
 
 cleared_keys : (O : Bool → ℕ → Type 0) (s cleared : Bool) (ts : List Touch) → cleared ≡ true
@@ -64,7 +64,7 @@ unfolding keys
 cleared_keys O true cleared ts is = rw is (record { first_is = tt; second_is = tt })
 cleared_keys O false cleared ts is = rw is (record { first_is = tt; second_is = tt })
 
-cleared_there : (ends : List PortName) (side : Side) (line : ℕ) → is_cut ends line ≡ true
+cleared_there : (ends : List PortName) (side : Side) (line : ℕ) → is_line_reset ends line ≡ true
     → is_between_devices line ≡ false → is_cleared ends side line ≡ true
 cleared_there ends side line cut peer = rw (peer, cut) refl
 
@@ -133,7 +133,8 @@ establish_since P bs l s set true since from line before all j c is on_line up =
 none_begins : (a c : Bool) (xs ys : List ℕ) → (if a && (c && false) then xs else ys) ≡ ys
 none_begins a c xs ys = grind arith
 
-establishes_since : (P : ℕ → Type 0) (m : Manager) (l s : ℕ) (r : Option Reach) (since : List ℕ) (from line : ℕ)
+establishes_since : (P : ℕ → Type 0) (m : StreamOperations) (l s : ℕ) (r : Option Reach) (since : List ℕ)
+    (from line : ℕ)
     → BegunSince P m.begun since from line → BegunSince P (manager_after_operation m op.Establish l s r).begun
     (if (l == line) && ((work_of op.Establish (m.ops l s) (length m.begun)).begins && is_some r)
     then length m.begun ∷ since else since) from line
@@ -150,7 +151,7 @@ establishes_since P m l s (Some r) since from line before =
     w = work_of op.Establish (m.ops l s) (length m.begun)
 
 -- an operation that makes no draw on the line
-other_since : (P : ℕ → Type 0) (m : Manager) (o : Operation) (l s : ℕ) (r : Option Reach) (since : List ℕ)
+other_since : (P : ℕ → Type 0) (m : StreamOperations) (o : Operation) (l s : ℕ) (r : Option Reach) (since : List ℕ)
     (from line : ℕ) → (l ≡ line → r ≡ None) → BegunSince P m.begun since from line
     → BegunSince P (manager_after_operation m o l s r).begun since from line
 other_since P m o l s None since from line other before = before
@@ -172,7 +173,7 @@ other_since P m o l s (Some r) since from line other before = by (w.begins && ma
             absurd cc
         by_last false is = before all j c is on_line up
 
-stop_since : (P : ℕ → Type 0) (m : Manager) (l s : ℕ) (r : Option Reach) (since : List ℕ) (from line : ℕ)
+stop_since : (P : ℕ → Type 0) (m : StreamOperations) (l s : ℕ) (r : Option Reach) (since : List ℕ) (from line : ℕ)
     → BegunSince P m.begun since from line → BegunSince P (manager_after_operation m op.Stop l s r).begun since from
     line
 stop_since P m l s None since from line before = before

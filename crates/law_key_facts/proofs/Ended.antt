@@ -16,14 +16,15 @@ use Rattle.spec_links.proofs.Terms.{sub_stream_of, with_sealed, SubStream, is_sa
 use Rattle.spec_links.proofs.Terms.{partner, AllByRecursion, Device, Establish, Event, History, Host, KeyPlan, Keys}
 use Rattle.spec_links.proofs.Terms.{Off, On, Packet, KeyPlace, Plan, PortName, Refresh, Reset, SealedPacket, Stop}
 use Rattle.spec_links.proofs.Terms.{SubKind, Verdict, if◌then◌else◌, is_some, key_in, place_keys, nat_lt, no_keys}
-use Rattle.spec_links.proofs.Terms.{history_status, ◌&&◌, open_unit, Begun, KeyCauseLaw, key_due, sent_bytes, Manager}
+use Rattle.spec_links.proofs.Terms.{history_status, ◌&&◌, open_unit, Begun, KeyCauseLaw, key_due, sent_bytes}
+use Rattle.spec_links.proofs.Terms.{StreamOperations}
 use Rattle.spec_keys.proofs.Shapes.{Shape, Bare, Sound, keys_of, live_waiting, live_alone, live_following, live_both}
 use Rattle.spec_keys.proofs.Touches.{Goes, waiting_goes, alone_goes, following_goes, both_goes, AllCome}
 use Rattle.spec_keys.proofs.Owners.{begun_below, owner, work_is, same_place}
 use Rattle.spec_keys.specs.Due.{has_refresh}
 use Rattle.spec_keys.specs.History.{begun_of_draw, stop_exchange}
 use Rattle.spec_keys.specs.Operations.{makes_draw, manager_after_operation}
-use Rattle.spec_keys.specs.Places.{is_cleared, is_cut, is_host, is_local, is_between_devices}
+use Rattle.spec_keys.specs.Places.{is_cleared, is_line_reset, is_host, is_local, is_between_devices}
 use Rattle.ide_types.specs.Lines.{is_hosted, is_link_line}
 use Rattle.spec_keys.proofs.Fits.{StopLeaves}
 use Rattle.spec_keys.proofs.Tests.{lt-true, both-true, true-same}
@@ -173,9 +174,9 @@ moved h (Stop l s loss) w none p sends = elim (acts (manager h) op.Stop l s (rea
   | inl same ↦ inr (none_only _ same.1)
   | inr act ↦ inl (ap stops act.ops ∙ stop_after (is_hosted l) ((manager h).ops l s) (draws h) act.reached)
 ]
-moved h (Reset l ends) (v.Reset m) none p sends = by_cut (is_cut ends p.line) refl
+moved h (Reset l ends) (v.Reset m) none p sends = by_cut (is_line_reset ends p.line) refl
   where
-    by_cut : (cut : Bool) → is_cut ends p.line ≡ cut
+    by_cut : (cut : Bool) → is_line_reset ends p.line ≡ cut
         → (stops (if cut then (if is_between_devices p.line then Stopping 1 else Idle) else (manager h).ops p.line
         p.stream)
         ≡ true)
@@ -234,7 +235,7 @@ still_stops plan h (Stop l s loss) w law p is = elim (acts (manager h) op.Stop l
   | inr act ↦ inl (ap stops act.ops ∙ stop_after (is_hosted l) ((manager h).ops l s) (draws h) act.reached)
 ]
 still_stops plan h (Reset l ends) (v.Reset m) law p is = inl
-    (if_stops (is_cut ends p.line) (is_between_devices p.line) _ is)
+    (if_stops (is_line_reset ends p.line) (is_between_devices p.line) _ is)
 still_stops plan h e w law p is = inl is
 
 -- ---- a unit is open of the Live draw alone, or else this holds
@@ -389,7 +390,7 @@ excuse_sent : (plan : Plan) (h : History) (e : Event) (ds : List SealedPacket) �
 excuse_sent plan h e ds law port stream u i x =
     let same = sealing_manager h e (v.Sealed ds) (sealed_by_sealing plan h e ds law.0) in
     record {
-      stopping = ap (λ (m : Manager). stops (m.ops port.line stream)) same ∙ x.stopping;
+      stopping = ap (λ (m : StreamOperations). stops (m.ops port.line stream)) same ∙ x.stopping;
       left = λ host.
           still_above plan h e ds law port stream u i host x.stopping (x.left host);
     }
@@ -559,7 +560,8 @@ establish_low bs l s set true line stream n low j c is on_line on_stream = by (l
         let less = begun_below bs j c is in
         grind (arith, nat_tests)
 
-other_low : (m : Manager) (o : Operation) (l s : ℕ) (r : Option Reach) (line stream n : ℕ) → (l ≡ line → r ≡ None)
+other_low : (m : StreamOperations) (o : Operation) (l s : ℕ) (r : Option Reach) (line stream n : ℕ)
+    → (l ≡ line → r ≡ None)
     → AreLow m.begun line stream n → AreLow (manager_after_operation m o l s r).begun line stream n
 other_low m o l s None line stream n other low = low
 other_low m o l s (Some r) line stream n other low = by (w.begins && makes_draw w.operation)
@@ -580,7 +582,7 @@ other_low m o l s (Some r) line stream n other low = by (w.begins && makes_draw 
             absurd cc
         by_last false is = low j c is on_line on_stream
 
-stop_low : (m : Manager) (l s : ℕ) (r : Option Reach) (line stream n : ℕ) → AreLow m.begun line stream n
+stop_low : (m : StreamOperations) (l s : ℕ) (r : Option Reach) (line stream n : ℕ) → AreLow m.begun line stream n
     → AreLow (manager_after_operation m op.Stop l s r).begun line stream n
 stop_low m l s None line stream n low = low
 stop_low m l s (Some r) line stream n low =
@@ -606,7 +608,7 @@ none_first a b none = grind arith
 none_begins : (a b c : Bool) (m n : ℕ) → (if a && b && (c && false) then m else n) ≡ n
 none_begins a b c m n = grind arith
 
-establishes_low : (m : Manager) (l s : ℕ) (r : Option Reach) (line stream n : ℕ) → AreLow m.begun line stream n
+establishes_low : (m : StreamOperations) (l s : ℕ) (r : Option Reach) (line stream n : ℕ) → AreLow m.begun line stream n
     → AreLow (manager_after_operation m op.Establish l s r).begun line stream
     (if (l == line) && (s == stream) && ((work_of op.Establish (m.ops l s) (length m.begun)).begins && is_some r)
     then length m.begun else n)

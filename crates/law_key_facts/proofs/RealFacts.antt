@@ -17,7 +17,7 @@ use Rattle.spec_keys.proofs.Shapes.{draws_used, used_bound, Shape, Both, keys_of
 use Rattle.spec_keys.proofs.Touches.{AllCome}
 use Rattle.spec_keys.proofs.Facts.{key_facts}
 use Rattle.spec_keys.proofs.Whole.{fits, next_fits, not_cut}
-use Rattle.spec_keys.specs.Places.{is_cleared, is_cut, is_between_devices}
+use Rattle.spec_keys.specs.Places.{is_cleared, is_line_reset, is_between_devices}
 use Rattle.std.specs.List.{list_any}
 use Rattle.ide_types.specs.declared.port.Side.{Side}
 use Rattle.spec_links.proofs.Tests.{same_port, same_stream, eqb-sym, in_not_out, out_not_in, same_in}
@@ -38,12 +38,12 @@ elsewhere_false : (p : KeyPlace) (l s : ℕ) → ((l == p.line) && (s == p.strea
 elsewhere_false p l s still = (λ i. eqb-sym p.line l i && eqb-sym p.stream s i) ∙ still
 
 -- no end of a line is cleared that is not cut
-pub uncleared : (ends : List PortName) (side : Side) (line : ℕ) → is_cut ends line ≡ false
+pub uncleared : (ends : List PortName) (side : Side) (line : ℕ) → is_line_reset ends line ≡ false
     → is_cleared ends side line ≡ false
 uncleared ends side line none = by (is_between_devices line)
   where
     by : (peer : Bool) → (if peer then list_any (λ e. is_same_side e.side side && (e.line == line)) ends
-        else is_cut ends line) ≡ false
+        else is_line_reset ends line) ≡ false
     by true = not_cut ends side line none
     by false = none
 

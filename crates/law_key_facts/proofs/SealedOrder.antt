@@ -5,7 +5,8 @@
 use Rattle.spec_links.proofs.Terms.{Bool, List, None, Option, Some, [], ap, arith, false, filter, inl, inr, length}
 use Rattle.spec_links.proofs.Terms.{refl, slice_get, subst, suc, sym, true, zero, ℕ, ◌++◌, ◌+◌, ◌<◌, ◌==◌, ◌∙◌, ◌∷◌}
 use Rattle.spec_links.proofs.Terms.{◌≡◌, ◌≤◌, nat_tests, slice_get_within, max, Loss, Operation, base, begins_keyed}
-use Rattle.spec_links.proofs.Terms.{touches_after, draws, manager, moments, touches, touches_if, Accept, Touch, Manager}
+use Rattle.spec_links.proofs.Terms.{touches_after, draws, manager, moments, touches, touches_if, Accept, Touch}
+use Rattle.spec_links.proofs.Terms.{StreamOperations}
 use Rattle.spec_links.proofs.Terms.{Reach, manager_after_operation, reach_of, work_of, is_on_stream, is_same_side}
 use Rattle.spec_links.proofs.Terms.{is_same_sub, CauseLaw, due, KeyName, SealedList, ahead_of_packet, draws_got}
 use Rattle.spec_links.proofs.Terms.{is_sealed_from_draw, port_keys, lesser, packet_of, place_in_sub_stream, received_in}
@@ -199,7 +200,7 @@ establish_seals_none : (plan : Plan) (h : History) (l s : ℕ) (loss : Option Lo
     ≡ due plan h (Establish l s loss) → seals_none w ≡ true
 establish_seals_none plan h l s loss w is = quiet_seals_none w (ap is_quiet is ∙ establish_due_quiet plan h l s loss)
 
-operated_more : (m : Manager) (o : Operation) (l s : ℕ) (r : Option Reach)
+operated_more : (m : StreamOperations) (o : Operation) (l s : ℕ) (r : Option Reach)
     → length m.begun ≤ length (manager_after_operation m o l s r).begun
 operated_more m o l s None = omega arith
 operated_more m o l s (Some r) = more_begun m.begun l s (work_of o (m.ops l s) (length m.begun))

@@ -1,7 +1,7 @@
 -- A stream that the plan does not have gets no keys.
 use Rattle.spec_links.proofs.Terms.{Bool, None, Option, Some, [], ap, arith, false, inl, inr, length, refl, sym, true}
 use Rattle.spec_links.proofs.Terms.{ℕ, ◌==◌, ◌∙◌, ◌∷◌, ◌≡◌, ◌⊎◌, Operation, key_due, manager, on_it, Idle, StreamStage}
-use Rattle.spec_links.proofs.Terms.{work_touches, KeyCauseLaw, Manager, Reach, Work, op_after_reach}
+use Rattle.spec_links.proofs.Terms.{work_touches, KeyCauseLaw, StreamOperations, Reach, Work, op_after_reach}
 use Rattle.spec_links.proofs.Terms.{manager_after_operation, reach_of, work_of, is_on_stream, CauseLaw, port_keys}
 use Rattle.spec_links.proofs.Terms.{keys_by_role, place_in_sub_stream, receives_it, sends_it, SubStream, key_plan}
 use Rattle.spec_links.proofs.Terms.{stream_plan, List, ◌&&◌, draw_of_keyed, AllByRecursion, Begun, Keyed, Off, Loaded}
@@ -19,7 +19,7 @@ use Rattle.event_verdicts.specs.declared.verdict.Verdict.TheVariants as v
 -- ---- what an operation does to the stream of a place
 
 -- it reaches an exchange there
-pub record Acts (m : Manager) (o : Operation) (l s : ℕ) (r : Option Reach) (p : KeyPlace) : Type 0 where
+pub record Acts (m : StreamOperations) (o : Operation) (l s : ℕ) (r : Option Reach) (p : KeyPlace) : Type 0 where
   pub reached : Reach
   pub is : r ≡ Some reached
   pub here : is_on_stream p l s ≡ true
@@ -27,7 +27,7 @@ pub record Acts (m : Manager) (o : Operation) (l s : ℕ) (r : Option Reach) (p 
       ≡ op_after_reach (is_hosted l) (work_of o (m.ops l s) (length m.begun))
       reached
 
-pub acts : (m : Manager) (o : Operation) (l s : ℕ) (r : Option Reach) (p : KeyPlace)
+pub acts : (m : StreamOperations) (o : Operation) (l s : ℕ) (r : Option Reach) (p : KeyPlace)
     → (((manager_after_operation m o l s r).ops p.line p.stream ≡ m.ops p.line p.stream)
     × (on_it (is_on_stream p l s) (work_touches (work_of o (m.ops l s) (length m.begun)) r p) ≡ []))
     ⊎ Acts m o l s r p
@@ -62,7 +62,7 @@ one_more : (kp : KeyPlan) (b : Bool) (l s : ℕ) (set : Bool) (bs : List Begun) 
 one_more kp true l s set bs known all = (known, all)
 one_more kp false l s set bs known all = all
 
-more_known : (kp : KeyPlan) (m : Manager) (o : Operation) (l s : ℕ) (r : Option Reach)
+more_known : (kp : KeyPlan) (m : StreamOperations) (o : Operation) (l s : ℕ) (r : Option Reach)
     → (r ≡ None) ⊎ (kp.has_stream l s ≡ true) → AllKnown kp m.begun
     → AllKnown kp (manager_after_operation m o l s r).begun
 more_known kp m o l s None known all = all

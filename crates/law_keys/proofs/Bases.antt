@@ -2,10 +2,12 @@
 use Rattle.law_keys.proofs.Terms.{◌≡◌, ℕ, ◌≤◌, ◌==◌, Bool, true, false, Option, Some, List, [], ◌∷◌, length, refl, ap}
 use Rattle.law_keys.proofs.Terms.{sym, ◌∙◌, arith, ◌&&◌, Event, Loss, Operation, Verdict, KeyPlan, KeyPlace}
 use Rattle.law_keys.proofs.Terms.{is_on_stream, Touch, no_keys, keys, StreamStage, Idle, Establishing, Up, Refreshing}
-use Rattle.law_keys.proofs.Terms.{Reach, Manager, work_of, reach_of, manager_after_operation, manager_after, History}
+use Rattle.law_keys.proofs.Terms.{Reach, StreamOperations, work_of, reach_of, manager_after_operation, manager_after}
+use Rattle.law_keys.proofs.Terms.{History}
 use Rattle.law_keys.proofs.Terms.{manager, op_of, draws, work_touches, on_it, touches, moments, base, begins_keyed}
 use Rattle.law_keys.proofs.Terms.{draw_on_at, key_due, KeyCauseLaw, both-true, keys_of, OwnedKeys, AllOwned}
-use Rattle.law_keys.proofs.Terms.{behind_owned, came_owned, cleared_owned, owned_on, same_place, op_cut, is_cleared}
+use Rattle.law_keys.proofs.Terms.{behind_owned, came_owned, cleared_owned, owned_on, same_place, op_after_reset}
+use Rattle.law_keys.proofs.Terms.{is_cleared}
 use Rattle.law_keys.proofs.Terms.{PortName, Begun, Work, begun_after_work, by_stream, is_hosted, makes_draw}
 use Rattle.law_keys.proofs.Terms.{op_after_reach, worked_owned, None, if◌then◌else◌}
 use Rattle.script_events.specs.declared.event.Event.TheVariants as event
@@ -23,7 +25,7 @@ OpFrom b (Refreshing set j n) = b ≤ j
 OpFrom b _ = Unit {0}
 
 -- the state of a stream after an event, and what the event touches at a place
-pub record Leads (b : ℕ) (p : KeyPlace) (m : Manager) (more : List Touch) : Type 0 where
+pub record Leads (b : ℕ) (p : KeyPlace) (m : StreamOperations) (more : List Touch) : Type 0 where
   pub low : b ≤ length m.begun
   pub op_from : OpFrom b (m.ops p.line p.stream)
   pub from : AllOwned (From b) more
@@ -41,7 +43,8 @@ low_more : (b : ℕ) (bs : List Begun) (line stream : ℕ) (w : Work) → b ≤ 
     → b ≤ length (begun_after_work bs line stream w)
 low_more b bs line stream w low = grind arith
 
-operated_leads : (m : Manager) (o : Operation) (l s : ℕ) (r : Option Reach) (p : KeyPlace) (b : ℕ) → b ≤ length m.begun
+operated_leads : (m : StreamOperations) (o : Operation) (l s : ℕ) (r : Option Reach) (p : KeyPlace) (b : ℕ)
+    → b ≤ length m.begun
     → OpFrom b (m.ops p.line p.stream) → Leads b p (manager_after_operation m o l s r)
     (on_it (is_on_stream p l s) (work_touches (work_of o (m.ops l s) (length m.begun)) r p))
 operated_leads m o l s None p b low from = record {
@@ -61,10 +64,11 @@ operated_leads m o l s (Some r) p b low from = record {
       (work_from b o (m.ops p.line p.stream) (length m.begun) low from)) (λ x y. tt) l s;
 }
 
-cut_from : (b : ℕ) (ends : List PortName) (line : ℕ) (q : StreamStage) → OpFrom b q → OpFrom b (op_cut ends line q)
+cut_from : (b : ℕ) (ends : List PortName) (line : ℕ) (q : StreamStage) → OpFrom b q
+    → OpFrom b (op_after_reset ends line q)
 cut_from b ends line q from = grind arith
 
-pub leads : (m : Manager) (e : Event) (w : Verdict) (p : KeyPlace) (b : ℕ) → b ≤ length m.begun
+pub leads : (m : StreamOperations) (e : Event) (w : Verdict) (p : KeyPlace) (b : ℕ) → b ≤ length m.begun
     → OpFrom b (m.ops p.line p.stream) → Leads b p (manager_after m e w) (touches m.ops (length m.begun) e w p)
 leads m (event.Establish l s loss) w p b low from = operated_leads m op.Establish l s (reach_of op.Establish w) p b low
     from

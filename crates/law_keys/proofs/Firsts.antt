@@ -2,11 +2,13 @@
 use Rattle.spec_keys.specs.Due.{has_refresh}
 use Rattle.law_keys.proofs.Terms.{None, ◌≡◌, ℕ, ◌≤◌, ◌==◌, Bool, true, false, Option, Some, List, [], ◌∷◌, length, refl}
 use Rattle.law_keys.proofs.Terms.{ap, sym, ◌∙◌, arith, ◌&&◌, if◌then◌else◌, is_some, nat_tests, Host, Loss, Verdict}
-use Rattle.law_keys.proofs.Terms.{KeyPlan, KeyPlace, Touch, keys, StreamStage, Idle, Establishing, Reach, Manager}
+use Rattle.law_keys.proofs.Terms.{KeyPlan, KeyPlace, Touch, keys, StreamStage, Idle, Establishing, Reach}
+use Rattle.law_keys.proofs.Terms.{StreamOperations}
 use Rattle.law_keys.proofs.Terms.{work_of, reach_of, manager_after_operation, History, manager, op_of, draws, moments}
 use Rattle.law_keys.proofs.Terms.{place_keys, base, begins_keyed, keeps_live, history_status, PortView, ports_at}
 use Rattle.law_keys.proofs.Terms.{establish_on, refresh_on, key_due, KeyCauseLaw, marks, Shape, keys_of, draws_used}
-use Rattle.law_keys.proofs.Terms.{draws_started, IsAt, Rising, FitsAt, fits, Operation, StreamStatus, op_cut, PortName}
+use Rattle.law_keys.proofs.Terms.{draws_started, IsAt, Rising, FitsAt, fits, Operation, StreamStatus, op_after_reset}
+use Rattle.law_keys.proofs.Terms.{PortName}
 use Rattle.std.proofs.Math.Bool.{and-false}
 use Rattle.script_events.specs.declared.event.Event.TheVariants as event
 use Rattle.event_verdicts.specs.declared.verdict.Operation.TheVariants as op
@@ -20,18 +22,19 @@ abbrev OpIs : ℕ → StreamStage → Type 0
 OpIs b (Establishing j n) = b ≡ j
 OpIs b _ = Unit {0}
 
-other_is : (m : Manager) (b : ℕ) (o : Operation) (l s line stream : ℕ) (r : Option Reach) → (o ≡ op.Establish → ⊥)
+other_is : (m : StreamOperations) (b : ℕ) (o : Operation) (l s line stream : ℕ) (r : Option Reach)
+    → (o ≡ op.Establish → ⊥)
     → OpIs b (m.ops line stream) → OpIs b ((manager_after_operation m o l s r).ops line stream)
 other_is m b o l s line stream r other is = grind arith
 
 -- an establish that begins makes its draw both the base and the draw of the state; any other leaves both
-established_is : (m : Manager) (b l s line stream : ℕ) (r : Option Reach) → OpIs b (m.ops line stream)
+established_is : (m : StreamOperations) (b l s line stream : ℕ) (r : Option Reach) → OpIs b (m.ops line stream)
     → OpIs (if (l == line) && (s == stream) && ((work_of op.Establish (m.ops l s) (length m.begun)).begins && is_some r)
     then length m.begun else b)
     ((manager_after_operation m op.Establish l s r).ops line stream)
 established_is m b l s line stream r is = grind (arith, nat_tests)
 
-cut_is : (b : ℕ) (ends : List PortName) (line : ℕ) (q : StreamStage) → OpIs b q → OpIs b (op_cut ends line q)
+cut_is : (b : ℕ) (ends : List PortName) (line : ℕ) (q : StreamStage) → OpIs b q → OpIs b (op_after_reset ends line q)
 cut_is b ends line q is = grind arith
 
 abbrev BaseIs : History → ℕ → ℕ → Type 0

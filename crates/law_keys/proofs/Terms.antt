@@ -9,8 +9,10 @@ pub use Rattle.spec_keys.proofs.Terms.{place_keys, draw_on_at, on_it, op_of, key
 pub use Rattle.spec_keys.proofs.Terms.{work_touches, KeyCauseLaw, GoesKept, SetGoFindsKey, NeverAgain, OperationsSettle}
 pub use Rattle.spec_keys.proofs.Terms.{SettledAt, StaysSecure, StaysSecureAt, KeysFollowOperations, went, nat_tests}
 pub use Rattle.spec_keys.proofs.Terms.{if◌then◌else◌, is_some, ◌&&◌, ◌||◌, Event, Loss, Operation, Verdict, Begun}
-pub use Rattle.spec_keys.proofs.Terms.{Establishing, Idle, Manager, StreamStage, Reach, Refreshing, Stopping, Up, Work}
-pub use Rattle.spec_keys.proofs.Terms.{manager_after, op_after_reach, manager_after_operation, op_cut, reach_of, whole}
+pub use Rattle.spec_keys.proofs.Terms.{Establishing, Idle, StreamOperations, StreamStage, Reach, Refreshing, Stopping}
+pub use Rattle.spec_keys.proofs.Terms.{Up, Work}
+pub use Rattle.spec_keys.proofs.Terms.{manager_after, op_after_reach, manager_after_operation, op_after_reset, reach_of}
+pub use Rattle.spec_keys.proofs.Terms.{whole}
 pub use Rattle.spec_keys.proofs.Terms.{work_of, PortView, establish_on, ports_at, refresh_on, finished_verdict}
 pub use Rattle.spec_keys.proofs.Terms.{may_establish, may_refresh, unless_open, Host, ◌⊎◌, begun_after_work, makes_draw}
 pub use Rattle.spec_keys.proofs.Terms.{is_hosted, is_cleared, PortName}

@@ -15,7 +15,7 @@ unfoldable use Rattle.spec_interfaces.specs.Devices.{devices, registers_locked}
 use Rattle.spec_interfaces.specs.Due.{interface_due, if_unlocked, if_locked}
 use Rattle.spec_interfaces.specs.Due.{if_reported, if_locked_or_running, reported_as}
 use Rattle.spec_interfaces.specs.Cause.{InterfaceCause}
-use Rattle.spec_interfaces.proofs.RunLaws.{run_law}
+use Rattle.spec_interfaces.proofs.RunLaws.{interface_run_law}
 use Rattle.spec_interfaces.proofs.Rests.{starts, rests_on, locks_it, not_accepted}
 use Rattle.spec_interfaces.proofs.Views.{managed_step, managed_own, managed_other, same_number, due_own, not_carried}
 use Rattle.law_mmio.proofs.RunLocks.{runs_unlocked, same_locks}
@@ -63,7 +63,8 @@ shown plan h i loss n report x at own cause =
       since = [];
       came = rw (number, n_is) refl;
       same_lock = omega arith;
-      report_is = (run_law plan ((event.Interface (ie.Report i loss), v.Interface (iv.Reported n report)) ∷ h) cause).1
+      report_is = (interface_run_law plan ((event.Interface (ie.Report i loss), v.Interface (iv.Reported n report)) ∷ h)
+          cause).1
           x (subst (λ (k : ℕ). site_at plan k ≡ Some x) (sym number) at);
     }
 

@@ -22,7 +22,7 @@ use Rattle.interface_state.specs.declared.states.TdiState.{TdiState}
 use Rattle.interface_state.specs.declared.states.TdiState.TheVariants.{ConfigUnlocked, ConfigLocked, Run, Error}
 use Rattle.interface_state.specs.Bindings.{binds}
 use Rattle.interface_state.specs.Held.{IsBound}
-use Rattle.interface_state.specs.Machine.{Tdi, is_locked, bindings_left, after_failure}
+use Rattle.interface_state.specs.Machine.{DeviceTdi, is_locked, bindings_left, after_failure}
 use Rattle.interface_state.specs.Machine as call
 use Rattle.interface_state.proofs.Bound.{left_bound}
 use Rattle.law_mmio.proofs.Secure.{interface_leaves_secure}
@@ -61,7 +61,7 @@ failed_rests (Run lock) = refl
 failed_rests Error = refl
 
 -- in ERROR none is left, and else none of them left Secure
-left_after : (before after : ℕ → Option ℕ) (own : Bool) (t : Tdi) (left : Bool) → IsBound t.state t.bindings
+left_after : (before after : ℕ → Option ℕ) (own : Bool) (t : DeviceTdi) (left : Bool) → IsBound t.state t.bindings
     → (own || any_leaves before after t.bindings) ≡ left → AreLive before t.bindings
     → AreLive after (interface_if_called left call.StreamLeft t).bindings
 left_after before after own t true held is are =
@@ -70,7 +70,7 @@ left_after before after own t true held is are =
 left_after before after own t false held is are =
     none_leaves before after t.bindings (or_parts own (any_leaves before after t.bindings) is).1 are
 
-reset_after : (before after : ℕ → Option ℕ) (resets own : Bool) (t : Tdi) → IsBound t.state t.bindings
+reset_after : (before after : ℕ → Option ℕ) (resets own : Bool) (t : DeviceTdi) → IsBound t.state t.bindings
     → AreLive before t.bindings → AreLive after
     (interface_if_called (resets || (own || any_leaves before after t.bindings)) (reset_call resets) t).bindings
 reset_after before after true own t held are = no_binding after [] refl

@@ -6,11 +6,12 @@ use Rattle.std.proofs.lemmas.Bool.Decides.{nat_tests}
 use Rattle.std.specs.Prelude.{nat_le, nat_lt}
 use Rattle.std.specs.Str.{bytes_eq}
 use Rattle.spec_interfaces.specs.Terms.{Plan, StreamStatus, View, Unlocked, Locked, Running, Doubt, Broken, Event}
-use Rattle.spec_interfaces.specs.Terms.{InterfaceEvent, Loss, Verdict, History, Lock, Tdi, TdiState, ConfigUnlocked}
+use Rattle.spec_interfaces.specs.Terms.{InterfaceEvent, Loss, Verdict, History, Lock, DeviceTdi, TdiState}
+use Rattle.spec_interfaces.specs.Terms.{ConfigUnlocked}
 use Rattle.spec_interfaces.specs.Terms.{ConfigLocked, Run, Error, lock_answer, start_answer, op_of, draws}
 use Rattle.spec_interfaces.specs.Terms.{lost_at, if_secure, Call, StartInterface, StopInterface, WriteRegister}
 use Rattle.spec_interfaces.specs.Terms.{LevelReset, FirmwareUpdate, StreamLeft, BindStream, UnbindStream}
-use Rattle.spec_interfaces.specs.Terms.{tdi_after, bind_answer, unbind_answer}
+use Rattle.spec_interfaces.specs.Terms.{interface_after_call, bind_answer, unbind_answer}
 use Rattle.spec_interfaces.specs.Sites.{Site, site_at}
 use Rattle.spec_interfaces.specs.Exchanges.{carries, changes_device}
 use Rattle.spec_interfaces.specs.Views.{Managed, on_lock, on_report, on_start, on_halt, on_state, on_bind, view_broken}
@@ -69,8 +70,8 @@ may_only_fail FirmwareUpdate = true
 may_only_fail StreamLeft = true
 may_only_fail _ = false
 
-failing_true : (view : View) (t : Tdi) (c : Call) → may_only_fail c ≡ true → IsTrueOf view t.state
-    → IsTrueOf view (tdi_after t c).state
+failing_true : (view : View) (t : DeviceTdi) (c : Call) → may_only_fail c ≡ true → IsTrueOf view t.state
+    → IsTrueOf view (interface_after_call t c).state
 failing_true view t (BindStream stream live) only is =
     subst (IsTrueOf view) (sym (bound_state t stream (bind_answer t stream live))) is
 failing_true view t (UnbindStream stream) only is =
@@ -81,7 +82,7 @@ failing_true view t FirmwareUpdate only is = changes_true view _ t.state is
 failing_true view t StreamLeft only is = fails_true view t.state is
 failing_true view t c only is = absurd (true≢false (sym only))
 
-called_true : (view : View) (b : Bool) (c : Call) (t : Tdi) → may_only_fail c ≡ true → IsTrueOf view t.state
+called_true : (view : View) (b : Bool) (c : Call) (t : DeviceTdi) → may_only_fail c ≡ true → IsTrueOf view t.state
     → IsTrueOf view (interface_if_called b c t).state
 called_true view true c t only is = failing_true view t c only is
 called_true view false c t only is = is
@@ -99,11 +100,11 @@ broken_true view false s is = is
 -- ---- verdicts
 
 -- what a verdict of an exchange with this number makes of both, if the request makes the interface `asked`
-abbrev After : (Managed → Verdict → Managed) → ℕ → Managed → Tdi → Tdi → Verdict → Type 0
+abbrev After : (Managed → Verdict → Managed) → ℕ → Managed → DeviceTdi → DeviceTdi → Verdict → Type 0
 After on n m t asked w = IsTrueOf (on m w).view (if carries w n then asked else t).state
 
 -- after a loss nothing is claimed, or the request did not come
-in_doubt : (m r : Managed) (t asked : Tdi) (b c : Bool) → r.view ≡ Doubt → (c ≡ false → b ≡ false)
+in_doubt : (m r : Managed) (t asked : DeviceTdi) (b c : Bool) → r.view ≡ Doubt → (c ≡ false → b ≡ false)
     → IsTrueOf m.view t.state → IsTrueOf (if c then r else m).view (if b then asked else t).state
 in_doubt m r t asked b true doubt not is = subst (λ view. IsTrueOf view (if b then asked else t).state) (sym doubt) tt
 in_doubt m r t asked true false doubt not is = absurd (true≢false (not refl))
@@ -131,27 +132,27 @@ unless P (Some loss) k w lost done = by (nat_le 1 loss.exchange && nat_le loss.e
 
 -- ---- lock
 
-lock_lost : (m : Managed) (t asked : Tdi) → IsTrueOf m.view t.state → (l : Lost) (n : ℕ) → n ≤ 3
+lock_lost : (m : Managed) (t asked : DeviceTdi) → IsTrueOf m.view t.state → (l : Lost) (n : ℕ) → n ≤ 3
     → After on_lock 3 m t asked (lost_at l n)
 lock_lost m t asked is Request n le = in_doubt m _ t asked (nat_lt 3 n) (n == 3) refl (no_request n 3 le) is
 lock_lost m t asked is Reply n le = in_doubt m _ t asked (nat_le 3 n) (n == 3) refl (no_reply n 3 le) is
 
-lock_done : (m : Managed) (t : Tdi) (x : Site) (new : Lock) (answer : Result (List ℕ) ℕ) → IsTrueOf m.view t.state
+lock_done : (m : Managed) (t : DeviceTdi) (x : Site) (new : Lock) (answer : Result (List ℕ) ℕ) → IsTrueOf m.view t.state
     → After on_lock 3 m t (interface_after_lock t new answer) (verdict_of_lock x answer)
 lock_done m t x new (Ok nonce) is = inl refl
 lock_done m t x new (Err code) is = is
 
-lock_secure : (m : Managed) (t asked : Tdi) (s : StreamStatus) (w : Verdict) → IsTrueOf m.view t.state
+lock_secure : (m : Managed) (t asked : DeviceTdi) (s : StreamStatus) (w : Verdict) → IsTrueOf m.view t.state
     → After on_lock 3 m t asked w → After on_lock 3 m t asked (if_secure s w)
 lock_secure m t asked status.Secure w is next = next
 lock_secure m t asked s w is next = is
 
-lock_view : (m : Managed) (t asked : Tdi) (view : View) (w : Verdict) → IsTrueOf m.view t.state
+lock_view : (m : Managed) (t asked : DeviceTdi) (view : View) (w : Verdict) → IsTrueOf m.view t.state
     → After on_lock 3 m t asked w → After on_lock 3 m t asked (if_unlocked view w)
 lock_view m t asked Unlocked w is next = next
 lock_view m t asked view w is next = is
 
-lock_true : (m : Managed) (t : Tdi) (x : Site) (s : StreamStatus) (loss : Option Loss) (new : Lock)
+lock_true : (m : Managed) (t : DeviceTdi) (x : Site) (s : StreamStatus) (loss : Option Loss) (new : Lock)
     (answer : Result (List ℕ) ℕ) → IsTrueOf m.view t.state
     → After on_lock 3 m t (interface_after_lock t new answer)
     (if_unlocked m.view (if_secure s (unless_lost loss 3 (verdict_of_lock x answer))))
@@ -163,7 +164,7 @@ lock_true m t x s loss new answer is =
 
 -- ---- start
 
-start_lost : (m : Managed) (t asked : Tdi) → IsTrueOf m.view t.state → (l : Lost) (n : ℕ) → n ≤ 1
+start_lost : (m : Managed) (t asked : DeviceTdi) → IsTrueOf m.view t.state → (l : Lost) (n : ℕ) → n ≤ 1
     → After on_start 1 m t asked (lost_at l n)
 start_lost m t asked is Request n le = in_doubt m _ t asked (nat_lt 1 n) (n == 1) refl (no_request n 1 le) is
 start_lost m t asked is Reply n le = in_doubt m _ t asked (nat_le 1 n) (n == 1) refl (no_reply n 1 le) is
@@ -183,14 +184,14 @@ starts_run ConfigUnlocked nonce done is = absurd cc
 starts_run (Run lock) nonce done is = absurd cc
 starts_run Error nonce done is = absurd cc
 
-start_done : (m : Managed) (t asked : Tdi) (x : Site) (draw : ℕ) (answer : Result (Unit {0}) ℕ)
+start_done : (m : Managed) (t asked : DeviceTdi) (x : Site) (draw : ℕ) (answer : Result (Unit {0}) ℕ)
     → asked.state ≡ after_start t.state m.nonce → start_answer t.state m.nonce ≡ answer
     → After on_start 1 m t asked (started_as x draw answer)
 start_done m t asked x draw (Ok done) state e =
     subst (IsTrueOf Running) (sym state) (starts_run t.state m.nonce done e)
 start_done m t asked x draw (Err code) state e = tt
 
-start_fresh : (m : Managed) (t asked : Tdi) (draw needs : ℕ) (w : Verdict) → IsTrueOf m.view t.state
+start_fresh : (m : Managed) (t asked : DeviceTdi) (draw needs : ℕ) (w : Verdict) → IsTrueOf m.view t.state
     → After on_start 1 m t asked w → After on_start 1 m t asked (if_fresh draw needs w)
 start_fresh m t asked draw needs w is next = by (nat_lt draw needs)
   where
@@ -198,27 +199,27 @@ start_fresh m t asked draw needs w is next = by (nat_lt draw needs)
     by true = is
     by false = next
 
-start_secure : (m : Managed) (t asked : Tdi) (s : StreamStatus) (w : Verdict) → IsTrueOf m.view t.state
+start_secure : (m : Managed) (t asked : DeviceTdi) (s : StreamStatus) (w : Verdict) → IsTrueOf m.view t.state
     → After on_start 1 m t asked w → After on_start 1 m t asked (if_secure s w)
 start_secure m t asked status.Secure w is next = next
 start_secure m t asked s w is next = is
 
-start_reported : (m : Managed) (t asked : Tdi) (b : Bool) (w : Verdict) → IsTrueOf m.view t.state
+start_reported : (m : Managed) (t asked : DeviceTdi) (b : Bool) (w : Verdict) → IsTrueOf m.view t.state
     → After on_start 1 m t asked w → After on_start 1 m t asked (if_reported b w)
 start_reported m t asked true w is next = next
 start_reported m t asked false w is next = is
 
-start_view : (m : Managed) (t asked : Tdi) (view : View) (w : Verdict) → IsTrueOf m.view t.state
+start_view : (m : Managed) (t asked : DeviceTdi) (view : View) (w : Verdict) → IsTrueOf m.view t.state
     → After on_start 1 m t asked w → After on_start 1 m t asked (if_locked view w)
 start_view m t asked Locked w is next = next
 start_view m t asked view w is next = is
 
-start_true : (m : Managed) (t : Tdi) (x : Site) (draw : ℕ) (s : StreamStatus) (loss : Option Loss)
-    → IsTrueOf m.view t.state → After on_start 1 m t (tdi_after t (StartInterface m.nonce))
+start_true : (m : Managed) (t : DeviceTdi) (x : Site) (draw : ℕ) (s : StreamStatus) (loss : Option Loss)
+    → IsTrueOf m.view t.state → After on_start 1 m t (interface_after_call t (StartInterface m.nonce))
     (if_locked m.view (if_reported m.reported (if_secure s (if_fresh draw m.needs
     (unless_lost loss 1 (started_as x draw (start_answer t.state m.nonce)))))))
 start_true m t x draw s loss is =
-    let asked = tdi_after t (StartInterface m.nonce) in
+    let asked = interface_after_call t (StartInterface m.nonce) in
     start_view m t asked m.view _ is (start_reported m t asked m.reported _ is (start_secure m t asked s _ is
     (start_fresh m t asked draw m.needs _ is
     (unless (After on_start 1 m t asked) loss 1 (started_as x draw (start_answer t.state m.nonce))
@@ -226,16 +227,17 @@ start_true m t x draw s loss is =
 
 -- ---- halt, state
 
-halt_lost : (drawn : ℕ) (m : Managed) (t asked : Tdi) → IsTrueOf m.view t.state → (l : Lost) (n : ℕ) → n ≤ 1
+halt_lost : (drawn : ℕ) (m : Managed) (t asked : DeviceTdi) → IsTrueOf m.view t.state → (l : Lost) (n : ℕ) → n ≤ 1
     → After (on_halt drawn) 1 m t asked (lost_at l n)
 halt_lost drawn m t asked is Request n le = in_doubt m _ t asked (nat_lt 1 n) (n == 1) refl (no_request n 1 le) is
 halt_lost drawn m t asked is Reply n le = in_doubt m _ t asked (nat_le 1 n) (n == 1) refl (no_reply n 1 le) is
 
-halt_true : (drawn : ℕ) (m : Managed) (t : Tdi) (i needs : ℕ) (loss : Option Loss) → IsTrueOf m.view t.state
-    → After (on_halt drawn) 1 m t (tdi_after t StopInterface) (unless_lost loss 1 (v.Interface (iv.Halted i needs)))
+halt_true : (drawn : ℕ) (m : Managed) (t : DeviceTdi) (i needs : ℕ) (loss : Option Loss) → IsTrueOf m.view t.state
+    → After (on_halt drawn) 1 m t (interface_after_call t StopInterface)
+    (unless_lost loss 1 (v.Interface (iv.Halted i needs)))
 halt_true drawn m t i needs loss is =
-    unless (After (on_halt drawn) 1 m t (tdi_after t StopInterface)) loss 1 _
-    (halt_lost drawn m t (tdi_after t StopInterface) is) refl
+    unless (After (on_halt drawn) 1 m t (interface_after_call t StopInterface)) loss 1 _
+    (halt_lost drawn m t (interface_after_call t StopInterface) is) refl
 
 told_true : (view : View) (state : ℕ) (s : TdiState) → IsTrueOf view s → IsTrueOf (view_told view state) s
 told_true Locked state s is = by (state == 1)
@@ -269,9 +271,10 @@ bind_view line m w = grind arith
 abbrev Holds : Plan → History → Site → Type 0
 Holds plan h x = IsTrueOf (view_at h x) (interface_at plan h x).state
 
-as_true : (m n : Managed) (s t : Tdi) → m ≡ n → s ≡ t → IsTrueOf n.view t.state → IsTrueOf m.view s.state
+as_true : (m n : Managed) (s t : DeviceTdi) → m ≡ n → s ≡ t → IsTrueOf n.view t.state → IsTrueOf m.view s.state
 as_true m n s t one two is =
-    subst (λ (k : Managed). IsTrueOf k.view s.state) (sym one) (subst (λ (k : Tdi). IsTrueOf n.view k.state) (sym two)
+    subst (λ (k : Managed). IsTrueOf k.view s.state) (sym one)
+    (subst (λ (k : DeviceTdi). IsTrueOf n.view k.state) (sym two)
     is)
 
 if_is : {A : Type 0} (b : Bool) (m n : A) → b ≡ true → (if b then m else n) ≡ m
@@ -293,7 +296,7 @@ interface_other : (plan : Plan) (h : History) (e : InterfaceEvent) (w : Verdict)
 unfolding devices
 interface_other plan h e w x other = if_not (is_number (number_in e) x.number) _ _ other
 
-called : (b : Bool) (c : Call) (t : Tdi) → interface_if_called b c t ≡ (if b then tdi_after t c else t)
+called : (b : Bool) (c : Call) (t : DeviceTdi) → interface_if_called b c t ≡ (if b then interface_after_call t c else t)
 called true c t = refl
 called false c t = refl
 
@@ -306,24 +309,25 @@ own_turn plan h (ie.Lock i loss) w x at own cause is =
     let a = around_at plan h x in
     let t = interface_at plan h x in
     let due = due_own plan h x (ie.Lock i loss) i w at refl own cause.0 in
-    subst (λ (k : Tdi). IsTrueOf (on_lock (managed_view h x) w).view k.state)
+    subst (λ (k : DeviceTdi). IsTrueOf (on_lock (managed_view h x) w).view k.state)
     (sym (called (carries w 3) (lock_call a x) t))
-    (subst (After on_lock 3 (managed_view h x) t (tdi_after t (lock_call a x))) (sym due)
+    (subst (After on_lock 3 (managed_view h x) t (interface_after_call t (lock_call a x))) (sym due)
     (lock_true (managed_view h x) t x (host_status h x) loss (new_lock t x.plan.flags x.plan.stream x.plan.offset)
     (lock_answer t x.plan.flags x.plan.offset a.secure a.drawn) is))
 own_turn plan h (ie.Start i loss) w x at own cause is =
     let t = interface_at plan h x in
     let due = due_own plan h x (ie.Start i loss) i w at refl own cause.0 in
-    subst (λ (k : Tdi). IsTrueOf (on_start (managed_view h x) w).view k.state)
+    subst (λ (k : DeviceTdi). IsTrueOf (on_start (managed_view h x) w).view k.state)
     (sym (called (carries w 1) (StartInterface (managed_view h x).nonce) t))
-    (subst (After on_start 1 (managed_view h x) t (tdi_after t (StartInterface (managed_view h x).nonce))) (sym due)
+    (subst (After on_start 1 (managed_view h x) t (interface_after_call t (StartInterface (managed_view h x).nonce)))
+    (sym due)
     (start_true (managed_view h x) t x _ (host_status h x) loss is))
 own_turn plan h (ie.Halt i loss) w x at own cause is =
     let t = interface_at plan h x in
     let due = due_own plan h x (ie.Halt i loss) i w at refl own cause.0 in
-    subst (λ (k : Tdi). IsTrueOf (on_halt (draws h) (managed_view h x) w).view k.state)
+    subst (λ (k : DeviceTdi). IsTrueOf (on_halt (draws h) (managed_view h x) w).view k.state)
     (sym (called (carries w 1) StopInterface t))
-    (subst (After (on_halt (draws h)) 1 (managed_view h x) t (tdi_after t StopInterface)) (sym due)
+    (subst (After (on_halt (draws h)) 1 (managed_view h x) t (interface_after_call t StopInterface)) (sym due)
     (halt_true (draws h) (managed_view h x) t x.number _ loss is))
 own_turn plan h (ie.State i loss) w x at own cause is = state_true (managed_view h x) w (interface_at plan h x).state is
 own_turn plan h (ie.Report i loss) w x at own cause is =
@@ -346,7 +350,7 @@ own_turn plan h (ie.Firmware i) w x at own cause is =
     called_true (view_at h x) (changes_device w) FirmwareUpdate (interface_at plan h x) refl is
 own_turn plan h e w x at own cause is = is
 
-reset_true : (b left : Bool) (m : Managed) (t : Tdi) → IsTrueOf m.view t.state
+reset_true : (b left : Bool) (m : Managed) (t : DeviceTdi) → IsTrueOf m.view t.state
     → IsTrueOf (if b then record m { view = view_broken m.view } else m).view
     (interface_if_called (b || left) (reset_call b) t).state
 reset_true true left m t is = by m.view
@@ -359,7 +363,7 @@ reset_true true left m t is = by m.view
     by Broken = tt
 reset_true false left m t is = called_true m.view left StreamLeft t refl is
 
-stop_true : (b left : Bool) (m : Managed) (t : Tdi) → IsTrueOf m.view t.state
+stop_true : (b left : Bool) (m : Managed) (t : DeviceTdi) → IsTrueOf m.view t.state
     → IsTrueOf (if b then record m { view = view_broken m.view } else m).view
     (interface_if_called left StreamLeft t).state
 stop_true true left m t is =

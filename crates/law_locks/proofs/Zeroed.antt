@@ -3,9 +3,10 @@ use Rattle.std.proofs.Common.{◌≡◌, ℕ, ◌==◌, ◌&&◌, ◌||◌, ◌�
 use Rattle.std.proofs.Common.{if◌then◌else◌, refl, sym, ap, ◌∙◌, arith}
 use Rattle.std.proofs.lemmas.Bool.{true≢false}
 use Rattle.std.proofs.lemmas.Bool.Decides.{nat_tests}
-use Rattle.spec_interfaces.specs.Terms.{Plan, Event, Verdict, History, Lock, Tdi, lock_answer}
+use Rattle.spec_interfaces.specs.Terms.{Plan, Event, Verdict, History, Lock, DeviceTdi, lock_answer}
 use Rattle.spec_interfaces.specs.Terms.{Call, LockInterface, StartInterface, StopInterface, WriteRegister, LevelReset}
-use Rattle.spec_interfaces.specs.Terms.{FirmwareUpdate, StreamLeft, LinkReset, BindStream, UnbindStream, tdi_after}
+use Rattle.spec_interfaces.specs.Terms.{FirmwareUpdate, StreamLeft, LinkReset, BindStream, UnbindStream}
+use Rattle.spec_interfaces.specs.Terms.{interface_after_call}
 use Rattle.spec_interfaces.specs.Terms.{bind_answer, unbind_answer}
 use Rattle.spec_interfaces.specs.Sites.{Site}
 use Rattle.spec_interfaces.specs.Exchanges.{carries, changes_device}
@@ -31,13 +32,13 @@ frees StopInterface = true
 frees LinkReset = true
 frees _ = false
 
-locked_stays : (t : Tdi) (new : Lock) (answer : Result (List ℕ) ℕ) → is_unlocked t.state ≡ false
+locked_stays : (t : DeviceTdi) (new : Lock) (answer : Result (List ℕ) ℕ) → is_unlocked t.state ≡ false
     → is_unlocked (interface_after_lock t new answer).state ≡ false
 locked_stays t new (Ok nonce) held = refl
 locked_stays t new (Err code) held = held
 
-after_stays : (t : Tdi) (c : Call) → frees c ≡ false → is_unlocked t.state ≡ false
-    → is_unlocked (tdi_after t c).state ≡ false
+after_stays : (t : DeviceTdi) (c : Call) → frees c ≡ false → is_unlocked t.state ≡ false
+    → is_unlocked (interface_after_call t c).state ≡ false
 after_stays t (LockInterface flags stream offset secure drawn) other held =
     locked_stays t (new_lock t flags stream offset) (lock_answer t flags offset secure drawn) held
 after_stays t (BindStream stream live) other held =
@@ -46,31 +47,31 @@ after_stays t (UnbindStream stream) other held =
     ap is_unlocked (unbound_state t stream (unbind_answer t stream)) ∙ held
 after_stays t c other held = grind (arith, nat_tests)
 
-called_stays : (b : Bool) (c : Call) (t : Tdi) → frees c ≡ false → is_unlocked t.state ≡ false
+called_stays : (b : Bool) (c : Call) (t : DeviceTdi) → frees c ≡ false → is_unlocked t.state ≡ false
     → is_unlocked (interface_if_called b c t).state ≡ false
 called_stays true c t other held = after_stays t c other held
 called_stays false c t other held = held
 
 -- what is left to show of a pair: it is not so, or the range is set to 0
-stays_not : {A : Type 0} (b c : Bool) (call : Call) (t : Tdi) → frees call ≡ false → is_unlocked t.state ≡ false
+stays_not : {A : Type 0} (b c : Bool) (call : Call) (t : DeviceTdi) → frees call ≡ false → is_unlocked t.state ≡ false
     → is_unlocked (if b then interface_if_called c call t else t).state ≡ true → A
 stays_not true c call t other held is = absurd (true≢false (sym is ∙ called_stays c call t other held))
 stays_not false c call t other held is = absurd (true≢false (sym is ∙ held))
 
-halts : (b c d : Bool) (t : Tdi) → is_unlocked t.state ≡ false → d ≡ false
+halts : (b c d : Bool) (t : DeviceTdi) → is_unlocked t.state ≡ false → d ≡ false
     → is_unlocked (if b then interface_if_called c StopInterface t else t).state ≡ true → (b && (c && not d)) ≡ true
 halts true true d t held closed is = rw closed refl
 halts true false d t held closed is = absurd (true≢false (sym is ∙ held))
 halts false c d t held closed is = absurd (true≢false (sym is ∙ held))
 
-resets : (b left : Bool) (t : Tdi) → is_unlocked t.state ≡ false
+resets : (b left : Bool) (t : DeviceTdi) → is_unlocked t.state ≡ false
     → is_unlocked (interface_if_called (b || left) (reset_call b) t).state ≡ true → b ≡ true
 resets true left t held is = refl
 resets false left t held is = stays_not true left StreamLeft t refl held is
 
 -- ---- the pair
 
-zeroed : (a : Around) (left : Bool) (x : Site) (e : Event) (w : Verdict) (t : Tdi) (bar : ℕ)
+zeroed : (a : Around) (left : Bool) (x : Site) (e : Event) (w : Verdict) (t : DeviceTdi) (bar : ℕ)
     → is_unlocked t.state ≡ false → has_open_range x.plan.bars bar ≡ false
     → is_unlocked (next_interface a left x e w t).state ≡ true → sets_to_zero e w x bar ≡ true
 zeroed a left x (event.Interface (ie.Halt i loss)) w t bar held closed is =

@@ -1,7 +1,7 @@
 -- The laws of interfaces and of trusted memory.
 use Rattle.law_memory.specs.Statements.{InterfacesHaveCauses, RunLawHolds, MemoryLawHolds, OriginLawHolds}
 use Rattle.law_memory.specs.Statements.{BindOriginLawHolds, ReadLawHolds, ReadOriginLawHolds}
-use Rattle.spec_interfaces.proofs.RunLaws.{run_law as runs}
+use Rattle.spec_interfaces.proofs.RunLaws.{interface_run_law as runs}
 use Rattle.law_key_facts.proofs.Draws.{draws}
 use Rattle.law_sealing.proofs.OfPlans.{streams_fit}
 use Rattle.law_memory.proofs.BoundPackets.{bind_origin_law as bound_origins}

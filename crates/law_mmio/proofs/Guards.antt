@@ -17,7 +17,8 @@ unfoldable use Rattle.spec_links.specs.Due.{due}
 use Rattle.spec_links.specs.Memory.{Policy, unit_ended, plain_of, policy_at, device_effect, effect_by, waiting_then}
 use Rattle.spec_links.specs.Memory.{effects_each, effects_of}
 use Rattle.spec_links.proofs.Tests.{same_port, eqb-refl}
-use Rattle.interface_state.specs.Machine.{all_bindings, Tdi, Call, StopInterface, LevelReset, tdi_after}
+use Rattle.interface_state.specs.Machine.{all_bindings, DeviceTdi, Call, StopInterface, LevelReset}
+use Rattle.interface_state.specs.Machine.{interface_after_call}
 use Rattle.interface_state.specs.Bindings.{floor_on}
 use Rattle.guarded_memory.specs.Laws.{is_from_floor, is_guarded, is_admitted}
 use Rattle.spec_interfaces.specs.Sites.{Site, site_at}
@@ -68,7 +69,7 @@ unlocked (inl e) = absurd cc
 unlocked (inr e) = absurd cc
 
 -- a call that ends a lock did not come
-not_called : (b c d : Bool) (call : Call) (t : Tdi) → (Held (tdi_after t call).state → ⊥)
+not_called : (b c d : Bool) (call : Call) (t : DeviceTdi) → (Held (interface_after_call t call).state → ⊥)
     → Held (if b then interface_if_called c call t else t).state → (b && (c && d)) ≡ false
 not_called true true d call t ends held = absurd (ends held)
 not_called true false d call t ends held = refl
@@ -78,7 +79,7 @@ and_true : (b : Bool) → (b && true) ≡ b
 and_true true = refl
 and_true false = refl
 
-asked_not : (a : Around) (left : Bool) (e : Event) (w : Verdict) (x : Site) (bar : ℕ) (t : Tdi)
+asked_not : (a : Around) (left : Bool) (e : Event) (w : Verdict) (x : Site) (bar : ℕ) (t : DeviceTdi)
     → Held (next_interface a left x e w t).state → asked_zero e w x bar ≡ false
 asked_not a left (event.Interface (ie.Halt i loss)) w x bar t held =
     not_called (i == x.number) (carries w 1) (not (has_open_range x.plan.bars bar)) StopInterface t unlocked held
@@ -87,12 +88,12 @@ asked_not a left (event.Interface (ie.Flr i)) w x bar t held =
     ∙ not_called (i == x.number) (changes_device w) true LevelReset t (not_failed t.state) held
 asked_not a left e w x bar t held = refl
 
-not_reset : (own left : Bool) (t : Tdi) → Held (interface_if_called (own || left) (reset_call own) t).state → own
+not_reset : (own left : Bool) (t : DeviceTdi) → Held (interface_if_called (own || left) (reset_call own) t).state → own
     ≡ false
 not_reset true left t held = absurd (unlocked held)
 not_reset false left t held = refl
 
-next_not : (a : Around) (left : Bool) (e : Event) (w : Verdict) (x : Site) (bar : ℕ) (t : Tdi)
+next_not : (a : Around) (left : Bool) (e : Event) (w : Verdict) (x : Site) (bar : ℕ) (t : DeviceTdi)
     → Held (next_interface a left x e w t).state → sets_to_zero e w x bar ≡ false
 next_not a left (event.Reset l ends) (v.Reset k) x bar t held = not_reset (l == x.link) left t held
 next_not a left e w x bar t held = asked_not a left e w x bar t held

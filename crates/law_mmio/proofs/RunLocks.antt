@@ -3,7 +3,7 @@ use Rattle.std.proofs.Common.{◌≡◌, ◌⊎◌, ℕ, ◌==◌, ◌&&◌, ◌
 use Rattle.std.proofs.Common.{if◌then◌else◌, refl, sym, ◌∙◌, inl, inr, arith}
 use Rattle.std.proofs.lemmas.Bool.{cases_Bool, true≢false}
 use Rattle.std.specs.Prelude.{is_ok}
-use Rattle.spec_interfaces.specs.Terms.{Plan, Event, Verdict, History, Lock, Tdi, lock_answer}
+use Rattle.spec_interfaces.specs.Terms.{Plan, Event, Verdict, History, Lock, DeviceTdi, lock_answer}
 use Rattle.spec_interfaces.specs.Sites.{Site}
 use Rattle.spec_interfaces.specs.Exchanges.{carries}
 use Rattle.spec_interfaces.specs.Devices.{Around, around_at, interface_if_called, lock_call, next_interface}
@@ -14,7 +14,7 @@ use Rattle.script_events.specs.declared.event.Event.TheVariants as event
 use Rattle.script_events.specs.declared.event.InterfaceEvent.TheVariants as ie
 
 -- an accepted lock leaves CONFIG_LOCKED
-taken_rests : (b c : Bool) (t : Tdi) (answer : Result (List ℕ) ℕ) (new : Lock) (call : Tdi)
+taken_rests : (b c : Bool) (t : DeviceTdi) (answer : Result (List ℕ) ℕ) (new : Lock) (call : DeviceTdi)
     → call ≡ interface_after_lock t new answer → (b && c && is_ok answer) ≡ true
     → is_run (if b then (if c then call else t) else t).state ≡ false
 taken_rests true true t (Ok nonce) new call e is = rw e refl
@@ -22,13 +22,13 @@ taken_rests true true t (Err code) new call e is = absurd (true≢false (sym is)
 taken_rests true false t answer new call e is = absurd (true≢false (sym is))
 taken_rests false c t answer new call e is = absurd (true≢false (sym is))
 
-pub called_if : (c : Bool) (a : Around) (x : Site) (t : Tdi) → interface_if_called c (lock_call a x) t
+pub called_if : (c : Bool) (a : Around) (x : Site) (t : DeviceTdi) → interface_if_called c (lock_call a x) t
     ≡ (if c then interface_after_lock t (new_lock t x.plan.flags x.plan.stream x.plan.offset)
     (lock_answer t x.plan.flags x.plan.offset a.secure a.drawn) else t)
 called_if true a x t = refl
 called_if false a x t = refl
 
-lock_rests : (a : Around) (left : Bool) (x : Site) (e : Event) (w : Verdict) (t : Tdi)
+lock_rests : (a : Around) (left : Bool) (x : Site) (e : Event) (w : Verdict) (t : DeviceTdi)
     → accepts_lock a x e w t ≡ true → is_run (next_interface a left x e w t).state ≡ false
 lock_rests a left x (event.Interface (ie.Lock i loss)) w t is =
     rw (called_if (carries w 3) a x t) (taken_rests (i == x.number) (carries w 3) t

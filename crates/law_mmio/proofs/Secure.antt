@@ -27,7 +27,7 @@ use Rattle.spec_interfaces.proofs.Locks.{Made, next_made}
 use Rattle.interface_state.specs.declared.states.Lock.{Lock}
 use Rattle.interface_state.specs.declared.states.TdiState.{TdiState}
 use Rattle.interface_state.specs.declared.states.TdiState.TheVariants as tdi
-use Rattle.interface_state.specs.Machine.{Tdi, state_code, lock_of, after_failure, StreamLeft}
+use Rattle.interface_state.specs.Machine.{DeviceTdi, state_code, lock_of, after_failure, StreamLeft}
 use Rattle.event_verdicts.specs.declared.verdict.Verdict.TheVariants as v
 use Rattle.script_events.specs.declared.event.Event.TheVariants as event
 
@@ -145,14 +145,15 @@ before plan h e w x earlier held =
     by l (inl stood) = earlier (lock_held (interface_at plan h x).state l stood.0)
     by l (inr made) = accepts_secure (around_at plan h x) x e w (interface_at plan h x) made.0
 
-not_left_by : (b c a : Bool) (t : Tdi) → Held (interface_if_called ((b && not c) || a) StreamLeft t).state → b ≡ true
+not_left_by : (b c a : Bool) (t : DeviceTdi) → Held (interface_if_called ((b && not c) || a) StreamLeft t).state → b
+    ≡ true
     → c ≡ true
 not_left_by true true a t held is = refl
 not_left_by true false a t held is = absurd (not_failed t.state held)
 not_left_by false c a t held is = absurd (true≢false (sym is))
 
 -- a reset that leaves it locked is of another link, and leaves no stream that it is bound to
-other_link : (own b c a : Bool) (t : Tdi)
+other_link : (own b c a : Bool) (t : DeviceTdi)
     → Held (interface_if_called (own || ((b && not c) || a)) (reset_call own) t).state → b ≡ true → c ≡ true
 other_link true b c a t (inl e) is = absurd cc
 other_link true b c a t (inr e) is = absurd cc

@@ -9,8 +9,8 @@ use Rattle.spec_keys.specs.Keys.{Keyed, Off, Loaded, On, Keys, key_in, on_in, is
 use Rattle.spec_keys.specs.History.{History, place_keys, keeps_live, has_key, has_all, failed_there}
 use Rattle.spec_links.specs.Terms.{Plan, Event, Verdict}
 use Rattle.spec_links.specs.Cause.{CauseLaw}
-use Rattle.interface_state.specs.Machine.{BindStream, UnbindStream, Tdi, Call, StartInterface, StopInterface}
-use Rattle.interface_state.specs.Machine.{WriteRegister, LevelReset, FirmwareUpdate, StreamLeft, tdi_after}
+use Rattle.interface_state.specs.Machine.{BindStream, UnbindStream, DeviceTdi, Call, StartInterface, StopInterface}
+use Rattle.interface_state.specs.Machine.{WriteRegister, LevelReset, FirmwareUpdate, StreamLeft, interface_after_call}
 use Rattle.spec_interfaces.specs.Sites.{Site}
 use Rattle.spec_interfaces.specs.Exchanges.{carries, changes_device}
 use Rattle.spec_interfaces.specs.Views.{is_number, number_in}
@@ -77,11 +77,12 @@ secure_on h x is =
 
 -- ---- only a start brings an interface into RUN
 
-start_held : (t : Tdi) (nonce : List ℕ) → is_run t.state ≡ false
-    → is_run (tdi_after t (StartInterface nonce)).state ≡ true → Held t.state
+start_held : (t : DeviceTdi) (nonce : List ℕ) → is_run t.state ≡ false
+    → is_run (interface_after_call t (StartInterface nonce)).state ≡ true → Held t.state
 start_held t nonce rests runs = by t.state rests runs
   where
-    by : (s : TdiState) → is_run s ≡ false → is_run (tdi_after (record t { state = s }) (StartInterface nonce)).state
+    by : (s : TdiState) → is_run s ≡ false → is_run
+        (interface_after_call (record t { state = s }) (StartInterface nonce)).state
         ≡ true
         → Held s
     by tdi.ConfigUnlocked rests runs = absurd (true≢false (sym runs))
@@ -90,29 +91,29 @@ start_held t nonce rests runs = by t.state rests runs
     by tdi.Error rests runs = absurd (true≢false (sym runs))
 
 -- a call other than a start, if it comes, and if it is this interface's, leaves it out of RUN
-left_at_rest : (n b : Bool) (c : Call) (t : Tdi) → is_start c ≡ false → is_run t.state ≡ false
+left_at_rest : (n b : Bool) (c : Call) (t : DeviceTdi) → is_start c ≡ false → is_run t.state ≡ false
     → is_run (if n then interface_if_called b c t else t).state ≡ true → ⊥
 left_at_rest true true c t other rests runs = true≢false (sym runs ∙ after_rests t c other rests)
 left_at_rest true false c t other rests runs = true≢false (sym runs ∙ rests)
 left_at_rest false b c t other rests runs = true≢false (sym runs ∙ rests)
 
-same_at_rest : (n : Bool) (t : Tdi) → is_run t.state ≡ false → is_run (if n then t else t).state ≡ true → ⊥
+same_at_rest : (n : Bool) (t : DeviceTdi) → is_run t.state ≡ false → is_run (if n then t else t).state ≡ true → ⊥
 same_at_rest true t rests runs = true≢false (sym runs ∙ rests)
 same_at_rest false t rests runs = true≢false (sym runs ∙ rests)
 
 -- it is a start of this interface, from CONFIG_LOCKED: the floor is the draw
-record StartsIt (e : Event) (x : Site) (t : Tdi) (draw floor : ℕ) : Type 0 where
+record StartsIt (e : Event) (x : Site) (t : DeviceTdi) (draw floor : ℕ) : Type 0 where
   floor_is : floor_after_event e x false true draw floor ≡ draw
   held : Held t.state
 
-start_starts : (n b : Bool) (nonce : List ℕ) (t : Tdi) (draw floor : ℕ) → is_run t.state ≡ false
+start_starts : (n b : Bool) (nonce : List ℕ) (t : DeviceTdi) (draw floor : ℕ) → is_run t.state ≡ false
     → is_run (if n then interface_if_called b (StartInterface nonce) t else t).state ≡ true
     → ((if n && (not false && true) then draw else floor) ≡ draw) × Held t.state
 start_starts true true nonce t draw floor rests runs = (refl, start_held t nonce rests runs)
 start_starts true false nonce t draw floor rests runs = absurd (true≢false (sym runs ∙ rests))
 start_starts false b nonce t draw floor rests runs = absurd (true≢false (sym runs ∙ rests))
 
-starts_it : (a : Around) (left : Bool) (e : Event) (w : Verdict) (x : Site) (t : Tdi) (draw floor : ℕ)
+starts_it : (a : Around) (left : Bool) (e : Event) (w : Verdict) (x : Site) (t : DeviceTdi) (draw floor : ℕ)
     → is_run t.state ≡ false → is_run (next_interface a left x e w t).state ≡ true → StartsIt e x t draw floor
 starts_it a left (event.Interface (ie.Start i loss)) w x t draw floor rests runs =
     let r = start_starts (i == x.number) (carries w 1) a.nonce t draw floor rests runs in

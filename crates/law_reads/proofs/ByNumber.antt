@@ -4,7 +4,7 @@ use Rattle.spec_links.specs.Ports.{port_of}
 use Rattle.spec_links.proofs.Terms.{◌≡◌, ℕ, ◌==◌, ◌&&◌, ◌-◌, Bool, true, false, List, [], ◌∷◌, ◌++◌, slice_get, Option}
 use Rattle.spec_links.proofs.Terms.{Some, None, refl, ap, sym, subst, ◌∙◌, append_assoc, if◌then◌else◌, Plan, History}
 use Rattle.spec_links.proofs.Terms.{Event, Verdict, Accepted, Held, UnitName, Effect, Packet, PortName, SubStream}
-use Rattle.spec_links.proofs.Terms.{CauseLaw, SealedList, SealedPacket, Arrival, arrived_packet, packet_by_number}
+use Rattle.spec_links.proofs.Terms.{CauseLaw, SealedList, SealedPacket, ArrivedBytes, arrived_packet, packet_by_number}
 use Rattle.spec_links.proofs.Terms.{arrival_packet, received_in, sealed_packets, Pass, Alter, Cut, Reset}
 unfoldable use Rattle.spec_links.proofs.Terms.{arrival_of_event, packets_in_hold}
 use Rattle.spec_links.proofs.Causes.{held_by, accepted_by}
@@ -31,19 +31,19 @@ packet_more xs more n x is = by (n == 0) is
     by true is = absurd cc
     by false is = (at_front xs more (n - 1) x is).0
 
-passed_more : (xs more : SealedList) (n : ℕ) (f : SealedPacket × Packet → Option Arrival) (a : Arrival)
+passed_more : (xs more : SealedList) (n : ℕ) (f : SealedPacket × Packet → Option ArrivedBytes) (a : ArrivedBytes)
     (o : Option (SealedPacket × Packet)) → packet_by_number xs n ≡ o
     → option_and_then f o ≡ Some a → option_and_then f (packet_by_number (xs ++ more) n) ≡ Some a
 passed_more xs more n f a None found is = absurd cc
 passed_more xs more n f a (Some x) found is = ap (option_and_then f) (packet_more xs more n x found) ∙ is
 
-mapped_more : (xs more : SealedList) (n : ℕ) (f : SealedPacket × Packet → Arrival) (a : Arrival)
+mapped_more : (xs more : SealedList) (n : ℕ) (f : SealedPacket × Packet → ArrivedBytes) (a : ArrivedBytes)
     (o : Option (SealedPacket × Packet)) → packet_by_number xs n ≡ o
     → option_map f o ≡ Some a → option_map f (packet_by_number (xs ++ more) n) ≡ Some a
 mapped_more xs more n f a None found is = absurd cc
 mapped_more xs more n f a (Some x) found is = ap (option_map f) (packet_more xs more n x found) ∙ is
 
-arrived_more : (plan : Plan) (xs more : SealedList) (e : Event) (a : Arrival) → arrived_in plan xs e ≡ Some a
+arrived_more : (plan : Plan) (xs more : SealedList) (e : Event) (a : ArrivedBytes) → arrived_in plan xs e ≡ Some a
     → arrived_in plan (xs ++ more) e ≡ Some a
 arrived_more plan xs more (Pass n) a is = mapped_more xs more n
     (λ (x : SealedPacket × Packet). arrival_at_partner plan x (packet_bytes x.1)) a (packet_by_number xs n) refl is
@@ -68,7 +68,7 @@ behind_earlier plan h e w xs behind =
           (ap (λ (ys : SealedList). ys ++ behind.0) grown.1 ∙ behind.1),
     )
 
-arrived_same : (plan : Plan) (h : History) (e : Event) (a : Arrival) (xs : SealedList) → arrival_of_event plan h e
+arrived_same : (plan : Plan) (h : History) (e : Event) (a : ArrivedBytes) (xs : SealedList) → arrival_of_event plan h e
     ≡ Some a
     → IsBehind plan h xs → arrival_packet (arrived_in plan xs e) ≡ arrived_packet plan h e
 unfolding arrival_of_event

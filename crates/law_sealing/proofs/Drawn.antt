@@ -9,7 +9,8 @@ use Rattle.script_events.specs.declared.event.Event.TheVariants as event
 use Rattle.event_verdicts.specs.declared.verdict.Operation.TheVariants as op
 use Rattle.event_verdicts.specs.declared.verdict.Verdict.TheVariants as v
 use Rattle.spec_keys.specs.Places.{KeyPlan}
-use Rattle.spec_keys.specs.Operations.{StreamStage, Idle, Establishing, Up, Refreshing, Work, Reach, Manager, work_of}
+use Rattle.spec_keys.specs.Operations.{StreamStage, Idle, Establishing, Up, Refreshing, Work, Reach, StreamOperations}
+use Rattle.spec_keys.specs.Operations.{work_of}
 use Rattle.spec_keys.specs.Operations.{reach_of, makes_draw, manager_after_operation}
 use Rattle.spec_keys.specs.Due.{PortView, ports_at, begun_if_pool_has, may_establish, may_refresh, unless_open}
 use Rattle.spec_keys.specs.Due.{if_secure, has_refresh, is_live_sender}
@@ -72,7 +73,8 @@ refresh_finds kp next (Up current j) host ports line stream set w begins =
 refresh_finds kp next (Refreshing current j n) host ports line stream set w begins = absurd cc
 refresh_finds kp next _ host ports line stream set w begins = inr refl
 
-begun_within : (pool : ℕ) (m : Manager) (o : Operation) (line stream : ℕ) (r : Option Reach) → length m.begun ≤ pool
+begun_within : (pool : ℕ) (m : StreamOperations) (o : Operation) (line stream : ℕ) (r : Option Reach)
+    → length m.begun ≤ pool
     → ((work_of o (m.ops line stream) (length m.begun)).begins ≡ true → makes_draw o ≡ true
     → Finds pool (length m.begun) r) → length (manager_after_operation m o line stream r).begun ≤ pool
 begun_within pool m o line stream None within finds = within

@@ -43,7 +43,7 @@ pub use Rattle.spec_links.specs.History.{ahead_of_packet, SealedList, KeyName, w
 pub use Rattle.spec_links.specs.History.{is_sealed_from_draw, sub_stream_of, ends_unit_since, sent_packets}
 pub use Rattle.spec_links.specs.History.{is_sealed_under, is_of_unit, live_key, untagged_packet, unit_tag, port_keys}
 pub use Rattle.spec_links.specs.History.{posted_count, received_in, arrived_packet, is_received_under, ahead_due}
-pub use Rattle.spec_links.specs.History.{pending_packets, Arrival, on_draw, has_failed}
+pub use Rattle.spec_links.specs.History.{pending_packets, ArrivedBytes, on_draw, has_failed}
 unfoldable pub use Rattle.spec_links.specs.History.{sealed_packets, packet_of, sub_stream_packets, posted_since_last}
 unfoldable pub use Rattle.spec_links.specs.History.{total_in, ahead_of_unit, ahead_sent, units_got, draws_got}
 unfoldable pub use Rattle.spec_links.specs.History.{units_since, packets_in_hold, accepted_packets, got_since}

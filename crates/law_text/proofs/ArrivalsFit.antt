@@ -45,7 +45,7 @@ use Rattle.ide_prefix.proofs.Grammar.{bytes_of, spelled_whole}
 use Rattle.spec_keys.specs.Keys.{Keyed, Off, Loaded, On, key_in, on_in}
 use Rattle.spec_keys.specs.History.{History, base}
 use Rattle.spec_links.specs.Plan.{SubStream, has_port, has_stream, stream_plan, partner}
-use Rattle.spec_links.specs.History.{SealedList, Arrival, arrival_of_event, altered_arrival, arrival_at_partner}
+use Rattle.spec_links.specs.History.{SealedList, ArrivedBytes, arrival_of_event, altered_arrival, arrival_at_partner}
 use Rattle.spec_links.specs.History.{shortened_arrival, packet_by_number, sealed_packets, ahead_of_packet}
 use Rattle.spec_links.specs.History.{sub_stream_of, units_got, is_received_under, port_keys, on_draw, has_failed}
 use Rattle.spec_links.specs.History.{meets_counts, received_in, sent_bytes, sending_port}
@@ -137,15 +137,15 @@ bytes_of_packet p fits =
 
 -- ---- what arrives
 
-record FitsArrival (plan : Plan) (a : Arrival) : Type 0 where
+record FitsArrival (plan : Plan) (a : ArrivedBytes) : Type 0 where
   port : is_port (port_of plan a.port) ≡ true
   size : length a.bytes < 2 ^ 64
 
-same_arrival : (a b : Arrival) → Some a ≡ Some b → a ≡ b
+same_arrival : (a b : ArrivedBytes) → Some a ≡ Some b → a ≡ b
 same_arrival a b is = cc
 
 brought_fits : (plan : Plan) → FitsPlan plan
-    → (h : History) (n : ℕ) (x : SealedPacket × Packet) (bytes : List ℕ) (a : Arrival) → Known plan h n x
+    → (h : History) (n : ℕ) (x : SealedPacket × Packet) (bytes : List ℕ) (a : ArrivedBytes) → Known plan h n x
     → length bytes ≤ length (packet_bytes x.1) → Some (arrival_at_partner plan x bytes) ≡ Some a → FitsArrival plan a
 brought_fits plan fits h n x bytes a known small is =
     subst (FitsArrival plan) (same_arrival (arrival_at_partner plan x bytes) a is)
@@ -157,14 +157,14 @@ brought_fits plan fits h n x bytes a known small is =
 
 -- bytes of a packet that come or do not
 if_brought : (plan : Plan) → FitsPlan plan → (h : History) (n : ℕ) (x : SealedPacket × Packet) (bytes : List ℕ)
-    (a : Arrival)
+    (a : ArrivedBytes)
     → Known plan h n x → length bytes ≤ length (packet_bytes x.1) → (b : Bool)
     → (if b then Some (arrival_at_partner plan x bytes) else None) ≡ Some a → FitsArrival plan a
 if_brought plan fits h n x bytes a known small true is = brought_fits plan fits h n x bytes a known small is
 if_brought plan fits h n x bytes a known small false is = absurd cc
 
 arrival_fits : (plan : Plan) → FitsPlan plan → (h : History) → CauseLaw plan h → (e : Event) → IsAllowed e
-    → (a : Arrival) → arrival_of_event plan h e ≡ Some a → FitsArrival plan a
+    → (a : ArrivedBytes) → arrival_of_event plan h e ≡ Some a → FitsArrival plan a
 unfolding arrival_of_event
 arrival_fits plan fits h cause (Pass n) allowed a is = by_packet (packet_by_number (sealed_packets plan h) n) refl is
   where
@@ -261,7 +261,8 @@ under_fits plan h port p there few stream (Some j) other is =
     by_tests false true = unit
     by_tests false false = unit
 
-cut_step_fits : (plan : Plan) → FitsPlan plan → (h : History) (a : Arrival) → FitsArrival plan a → length h < 2 ^ 28
+cut_step_fits : (plan : Plan) → FitsPlan plan → (h : History) (a : ArrivedBytes) → FitsArrival plan a
+    → length h < 2 ^ 28
     → (r : Result CutValue PacketFault) → cut_of a.bytes ≡ r → FitsStep plan a.port (before_tag_of plan h a.port r)
 cut_step_fits plan plan_fits h a fits few (Err f) cut = (fits.port, omega (arith, fits.size, cut_place a.bytes f cut))
 cut_step_fits plan plan_fits h a fits few (Ok PlainTlp) cut = fits.port
@@ -284,7 +285,8 @@ cut_step_fits plan plan_fits h a fits few (Ok (IdePacket p)) cut = by_tests (has
     by_tests true false is = under_fits plan h a.port p (there is) few stream _ _ refl
 
 -- bytes that a switch leaves unread, or a step
-through_fits : (plan : Plan) (h : History) (a : Arrival) → FitsArrival plan a → (b : Bool) (r : Result Ending Verdict)
+through_fits : (plan : Plan) (h : History) (a : ArrivedBytes) → FitsArrival plan a
+    → (b : Bool) (r : Result Ending Verdict)
     → FitsStep plan a.port r → FitsStep plan a.port (if b then Err (through_due plan a.port) else r)
 through_fits plan h a fits true r step = fits.port
 through_fits plan h a fits false r step = step
@@ -304,7 +306,7 @@ settled_fits plan h port (Ok x) step = by_tests (is_verified plan h port x)
     by_tests true true = step
 
 pub arrival_due_fits : (plan : Plan) → FitsPlan plan → (h : History) → CauseLaw plan h → length h < 2 ^ 28 → (e : Event)
-    → IsAllowed e → (o : Option Arrival) → arrival_of_event plan h e ≡ o → Fits plan (arrival_due plan h o)
+    → IsAllowed e → (o : Option ArrivedBytes) → arrival_of_event plan h e ≡ o → Fits plan (arrival_due plan h o)
 unfolding before_tag
 arrival_due_fits plan fits h cause few e allowed None is = tt
 arrival_due_fits plan fits h cause few e allowed (Some a) is =

@@ -10,7 +10,8 @@ use Rattle.event_verdicts.specs.declared.verdict.Operation.TheVariants as op
 use Rattle.event_verdicts.specs.declared.verdict.Verdict.{Verdict}
 use Rattle.event_verdicts.specs.declared.verdict.Verdict.TheVariants as v
 use Rattle.spec_keys.specs.Keys.{On, key_in}
-use Rattle.spec_keys.specs.Operations.{StreamStage, Idle, Establishing, Up, Refreshing, Stopping, Work, Reach, Manager}
+use Rattle.spec_keys.specs.Operations.{StreamStage, Idle, Establishing, Up, Refreshing, Stopping, Work, Reach}
+use Rattle.spec_keys.specs.Operations.{StreamOperations}
 use Rattle.spec_keys.specs.Operations.{Begun, work_of, reach_of, manager_after_operation, manager_after, makes_draw}
 use Rattle.spec_keys.specs.Operations.{begun_after_work}
 use Rattle.spec_keys.specs.History.{History, op_of, draws, manager}
@@ -29,13 +30,13 @@ one_more bs line stream w = by_test (w.begins && makes_draw w.operation)
     by_test true = omega arith
     by_test false = omega arith
 
-one_operation : (m : Manager) (o : Operation) (line stream : ℕ) (r : Option Reach) (n : ℕ) → length m.begun ≤ n
+one_operation : (m : StreamOperations) (o : Operation) (line stream : ℕ) (r : Option Reach) (n : ℕ) → length m.begun ≤ n
     → length (manager_after_operation m o line stream r).begun ≤ suc n
 one_operation m o line stream None n few = omega (arith, few)
 one_operation m o line stream (Some r) n few = omega
     (arith, few, one_more m.begun line stream (work_of o (m.ops line stream) (length m.begun)))
 
-one_event : (m : Manager) (e : Event) (verdict : Verdict) (n : ℕ) → length m.begun ≤ n
+one_event : (m : StreamOperations) (e : Event) (verdict : Verdict) (n : ℕ) → length m.begun ≤ n
     → length (manager_after m e verdict).begun ≤ suc n
 one_event m (event.Establish line stream loss) verdict n few = one_operation m op.Establish line stream
     (reach_of op.Establish verdict) n few

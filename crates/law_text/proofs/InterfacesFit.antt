@@ -31,7 +31,7 @@ use Rattle.interface_state.specs.declared.states.Lock.{Lock}
 use Rattle.interface_state.specs.declared.states.TdiState.{TdiState}
 use Rattle.interface_state.specs.declared.states.TdiState.TheVariants.{ConfigUnlocked, ConfigLocked, Run, Error}
 use Rattle.interface_state.specs.Kept.{kept_report, interface_report}
-use Rattle.interface_state.specs.Machine.{state_code, lock_of, nonce_answer, start_answer, Tdi, bind_answer}
+use Rattle.interface_state.specs.Machine.{state_code, lock_of, nonce_answer, start_answer, DeviceTdi, bind_answer}
 use Rattle.interface_state.specs.Machine.{unbind_answer}
 use Rattle.interface_state.proofs.KeptReports.{kept_short}
 use Rattle.spec_keys.specs.History.{History, op_of, draws}
@@ -211,7 +211,8 @@ bound_fits : (plan : Plan) (x : Site) (line : ℕ) (answer : Result ℕ ℕ) →
 bound_fits plan x line (Ok draw) site at codes = (site.number, at)
 bound_fits plan x line (Err code) site at codes = (omega arith, codes code refl)
 
-bind_code : (t : Tdi) (stream : ℕ) (live : Option ℕ) (code : ℕ) → bind_answer t stream live ≡ Err code → code < 2 ^ 64
+bind_code : (t : DeviceTdi) (stream : ℕ) (live : Option ℕ) (code : ℕ) → bind_answer t stream live ≡ Err code
+    → code < 2 ^ 64
 bind_code t stream live code is = grind arith
 
 bind_fits : (plan : Plan) (x : Site) (s : AskedState) (line stream : ℕ) (loss : Option Loss) → SiteFits x
@@ -230,7 +231,7 @@ unbound_fits : (plan : Plan) (x : Site) (line : ℕ) (answer : Result (Unit {0})
 unbound_fits plan x line (Ok done) site at codes = (site.number, at)
 unbound_fits plan x line (Err code) site at codes = (omega arith, codes code refl)
 
-unbind_code : (t : Tdi) (stream code : ℕ) → unbind_answer t stream ≡ Err code → code < 2 ^ 64
+unbind_code : (t : DeviceTdi) (stream code : ℕ) → unbind_answer t stream ≡ Err code → code < 2 ^ 64
 unbind_code t stream code is = grind arith
 
 unbind_fits : (plan : Plan) (x : Site) (s : AskedState) (line stream : ℕ) (loss : Option Loss) → SiteFits x

@@ -37,8 +37,9 @@ use Rattle.spec_links.specs.Ports.{at_switch, port_of}
 use Rattle.spec_links.specs.Admission.{switch_effect}
 use Rattle.spec_links.specs.Memory.{Policy, policy_at, unit_grant, host_effect, device_effect, effect_by}
 use Rattle.spec_links.specs.Memory.{effects_each, waiting_then, unit_ended}
-use Rattle.law_verdicts.specs.Effects.{is_queued, is_full, asks_granted_read, packet_asks_read, asks_read, before_64}
-use Rattle.law_verdicts.specs.Effects.{behind_64, takes_as, takes_claimed, takes_claim, takes_span, takes_write}
+use Rattle.law_verdicts.specs.Effects.{is_queued, is_full, asks_granted_read, packet_asks_read, asks_read, which_wait}
+use Rattle.law_verdicts.specs.Effects.{which_find_no_room, takes_as, takes_claimed, takes_claim, takes_span}
+use Rattle.law_verdicts.specs.Effects.{takes_write}
 use Rattle.law_verdicts.specs.Effects.{is_waiting_effect, waits_at, HasExactEffects}
 use Rattle.event_verdicts.specs.declared.verdict.BlockCause.{BlockCause}
 use Rattle.event_verdicts.specs.declared.verdict.BlockCause.TheVariants as blocks
@@ -368,12 +369,12 @@ counts_of e n m false says counts = rw (waiting_is e n, says.queued) counts
 abbrev all_queued_so : Plan → Policy → PortName → UnitName → List Packet → Type 0
 all_queued_so plan policy port unit ps = (n m : ℕ) → Counts n m
     → map is_queued (effects_each plan policy n port unit ps)
-    ≡ before_64 m (map (asks_read plan policy.grants port unit) ps)
+    ≡ which_wait m (map (asks_read plan policy.grants port unit) ps)
 
 all_queued_step : (plan : Plan) (policy : Policy) (n m : ℕ) (port : PortName) (unit : UnitName) (ps : List Packet)
     (e : Effect) (ask : Bool) → Counts n m → Says e ask n → all_queued_so plan policy port unit ps
     → (is_queued e ∷ map is_queued (effects_each plan policy (waiting_then e n) port unit ps))
-    ≡ before_64 m (ask ∷ map (asks_read plan policy.grants port unit) ps)
+    ≡ which_wait m (ask ∷ map (asks_read plan policy.grants port unit) ps)
 all_queued_step plan policy n m port unit ps e true counts says later =
     let first = says.queued ∙ (same_tests n m counts).0 in
     let rest = later (waiting_then e n) (m + 1) (counts_of e n m true says counts) in
@@ -393,12 +394,12 @@ all_queued plan policy port unit (p ∷ ps) n m counts =
 
 abbrev all_full_so : Plan → Policy → PortName → UnitName → List Packet → Type 0
 all_full_so plan policy port unit ps = (n m : ℕ) → Counts n m → map is_full (effects_each plan policy n port unit ps)
-    ≡ behind_64 m (map (asks_read plan policy.grants port unit) ps)
+    ≡ which_find_no_room m (map (asks_read plan policy.grants port unit) ps)
 
 all_full_step : (plan : Plan) (policy : Policy) (n m : ℕ) (port : PortName) (unit : UnitName) (ps : List Packet)
     (e : Effect) (ask : Bool) → Counts n m → Says e ask n → all_full_so plan policy port unit ps
     → (is_full e ∷ map is_full (effects_each plan policy (waiting_then e n) port unit ps))
-    ≡ behind_64 m (ask ∷ map (asks_read plan policy.grants port unit) ps)
+    ≡ which_find_no_room m (ask ∷ map (asks_read plan policy.grants port unit) ps)
 all_full_step plan policy n m port unit ps e true counts says later =
     let first = says.full ∙ (same_tests n m counts).1 in
     let rest = later (waiting_then e n) (m + 1) (counts_of e n m true says counts) in

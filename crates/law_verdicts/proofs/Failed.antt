@@ -6,7 +6,7 @@ use Rattle.spec_links.proofs.Terms.{Establish, Refresh, Stop, Reset, Status, Int
 use Rattle.spec_links.proofs.Terms.{UnitName, has_failed, is_quiet, first_that_holds, refusals, lanes_at, send_due}
 use Rattle.spec_links.proofs.Terms.{answer_first, site_answer, completion_verdict, outgoing_completion, judged_by}
 use Rattle.spec_links.proofs.Terms.{answer_judged, binding_cause, is_before, WaitingRead, waiting_reads, Site}
-use Rattle.spec_links.proofs.Terms.{site_of_requester, granted_to, live_key, lane_out, Cpl, Arrival, arrival_due}
+use Rattle.spec_links.proofs.Terms.{site_of_requester, granted_to, live_key, lane_out, Cpl, ArrivedBytes, arrival_due}
 use Rattle.spec_links.proofs.Terms.{before_tag_of, has_link, sending_port, arrival_of_event, packet_by_number}
 use Rattle.spec_links.proofs.Terms.{sealed_packets, dump_due, stream_plan}
 use Rattle.spec_links.specs.Terms.{CutValue, PacketFault}
@@ -123,7 +123,7 @@ cut_fails plan h port (Err f) = tt
 cut_fails plan h port (Ok PlainTlp) = tt
 cut_fails plan h port (Ok (IdePacket p)) = packet_fails plan h port p
 
-arrival_fails : (plan : Plan) (h : History) (o : Option Arrival) → Fails h (arrival_due plan h o)
+arrival_fails : (plan : Plan) (h : History) (o : Option ArrivedBytes) → Fails h (arrival_due plan h o)
 unfolding before_tag
 arrival_fails plan h None = tt
 arrival_fails plan h (Some a) = by (goes_through plan a.port a.bytes)

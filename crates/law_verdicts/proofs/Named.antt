@@ -5,7 +5,8 @@ use Rattle.spec_links.proofs.Terms.{ap, ◌∙◌, unless_open, draws, op_of, St
 use Rattle.spec_links.proofs.Terms.{stream_plan, History, Host, KeyPlan, Plan, Event, Verdict, if◌then◌else◌, is_some}
 use Rattle.spec_links.proofs.Terms.{history_status, has_link, List, [], ◌∷◌, Some, None, Result, Ok, Err, length, not}
 use Rattle.spec_links.proofs.Terms.{unwrap_or, InterfaceEvent, AllByRecursion, PortName, Packet, SealedPacket, CauseLaw}
-use Rattle.spec_links.proofs.Terms.{Arrival, arrival_due, before_tag_of, Access, WaitingRead, waiting_reads, send_due}
+use Rattle.spec_links.proofs.Terms.{ArrivedBytes, arrival_due, before_tag_of, Access, WaitingRead, waiting_reads}
+use Rattle.spec_links.proofs.Terms.{send_due}
 use Rattle.spec_links.proofs.Terms.{answer_first, site_answer, completion_verdict, outgoing_completion, is_before}
 use Rattle.spec_links.proofs.Terms.{judged_by, answer_judged, binding_cause, first_that_holds, refusals, lanes_at}
 use Rattle.spec_links.proofs.Terms.{live_key, lane_out, Cpl, dump_due, Site, granted_to, site_of_requester}
@@ -276,7 +277,7 @@ cut_value_some plan h port (Err f) = refl
 cut_value_some plan h port (Ok PlainTlp) = refl
 cut_value_some plan h port (Ok (IdePacket p)) = packet_some plan h port p
 
-arrival_exact : (plan : Plan) (h : History) (o : Option Arrival) → is_none_at_all (arrival_due plan h o)
+arrival_exact : (plan : Plan) (h : History) (o : Option ArrivedBytes) → is_none_at_all (arrival_due plan h o)
     ≡ not (is_some o)
 unfolding before_tag
 arrival_exact plan h None = refl
@@ -293,7 +294,7 @@ dump_exact : (n : ℕ) (o : Option (SealedPacket × Packet)) → is_none_at_all 
 dump_exact n None = refl
 dump_exact n (Some x) = refl
 
-port_some : (b : Bool) (a : Arrival) → is_some (if b then Some a else None) ≡ b
+port_some : (b : Bool) (a : ArrivedBytes) → is_some (if b then Some a else None) ≡ b
 port_some true a = refl
 port_some false a = refl
 

@@ -50,15 +50,15 @@ asks_read plan grants port unit p =
 
 -- Of packets in order, those that ask, while so many wait ahead of the first: the ones that come before 64 wait, and
 -- the ones that come after.
-abbrev pub before_64 : ℕ → List Bool → List Bool
-before_64 n [] = []
-before_64 n (true ∷ asks) = nat_lt n 64 ∷ before_64 (n + 1) asks
-before_64 n (false ∷ asks) = false ∷ before_64 n asks
+abbrev pub which_wait : ℕ → List Bool → List Bool
+which_wait n [] = []
+which_wait n (true ∷ asks) = nat_lt n 64 ∷ which_wait (n + 1) asks
+which_wait n (false ∷ asks) = false ∷ which_wait n asks
 
-abbrev pub behind_64 : ℕ → List Bool → List Bool
-behind_64 n [] = []
-behind_64 n (true ∷ asks) = nat_le 64 n ∷ behind_64 (n + 1) asks
-behind_64 n (false ∷ asks) = false ∷ behind_64 n asks
+abbrev pub which_find_no_room : ℕ → List Bool → List Bool
+which_find_no_room n [] = []
+which_find_no_room n (true ∷ asks) = nat_le 64 n ∷ which_find_no_room (n + 1) asks
+which_find_no_room n (false ∷ asks) = false ∷ which_find_no_room n asks
 
 abbrev pub asks_by_packet : Plan → History → Event → PortName → UnitName → List Bool
 asks_by_packet plan h e port unit = map (asks_read plan (grant_at plan h) (port_of plan port) unit)
@@ -67,9 +67,9 @@ asks_by_packet plan h e port unit = map (asks_read plan (grant_at plan h) (port_
 pub record QueuesAsked (plan : Plan) (h : History) (e : Event) (port : PortName) (unit : UnitName)
     (effects : List Effect) : Type 0 where
   pub queued : map is_queued effects
-      ≡ before_64 (length (waiting_reads plan h (port_of plan port).line)) (asks_by_packet plan h e port unit)
+      ≡ which_wait (length (waiting_reads plan h (port_of plan port).line)) (asks_by_packet plan h e port unit)
   pub full : map is_full effects
-      ≡ behind_64 (length (waiting_reads plan h (port_of plan port).line)) (asks_by_packet plan h e port unit)
+      ≡ which_find_no_room (length (waiting_reads plan h (port_of plan port).line)) (asks_by_packet plan h e port unit)
 
 -- ---- stores
 

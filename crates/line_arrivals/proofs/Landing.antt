@@ -42,7 +42,7 @@ use Rattle.guarded_memory.specs.Contents.{mmio_byte}
 use Rattle.spec_keys.proofs.Tests.{same-true}
 use Rattle.spec_links.specs.Plan.{has_port, is_same_port}
 use Rattle.spec_links.specs.Ports.{port_of, at_switch, goes_through, end_reached}
-use Rattle.spec_links.specs.History.{Arrival}
+use Rattle.spec_links.specs.History.{ArrivedBytes}
 use Rattle.spec_links.specs.Hops.{entering_end, tlps_with}
 use Rattle.spec_links.specs.Guarded.{happens_by, unit_happenings}
 use Rattle.spec_links.specs.Memory.{Policy, Grants, effects_under_policy, plain_of}
@@ -89,7 +89,7 @@ unread_turn plan (Some port) ps statuses e xs quiet = rests_all _ _ _ _ xs (λ k
   carried_rest = λ d ts. either_way (is_link_line k) ts;
 })
 
-unread_writes : (plan : Plan) (grants : Grants) (st : LinkState) (a : Option Arrival) (o : Option PortName)
+unread_writes : (plan : Plan) (grants : Grants) (st : LinkState) (a : Option ArrivedBytes) (o : Option PortName)
     → writes_by plan grants st a (left_unread o) ≡ []
 unread_writes plan grants st a None = refl
 unread_writes plan grants st a (Some port) = refl
@@ -313,7 +313,7 @@ module _ (plan : Plan) (end : PortName) (link : ℕ) (d : Direction) (end_is : e
   abbrev waits : Came → List HopTlp
   waits answer = of_unit answer (λ unit. tlps_with (plain_of plan end unit ended) ended)
 
-  no_writes : (grants : Grants) (st : LinkState) (a : Option Arrival) (c : MemoryContents) (answer : Came)
+  no_writes : (grants : Grants) (st : LinkState) (a : Option ArrivedBytes) (c : MemoryContents) (answer : Came)
       → unit_in plan st a ≡ ended → Leads c (writes_by plan grants st a (says answer)) c
   no_writes grants st a c (came.Malformed fault) is older left = left
   no_writes grants st a c came.Plain is older left = left

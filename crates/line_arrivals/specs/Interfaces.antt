@@ -11,7 +11,7 @@ use Rattle.script_events.specs.declared.event.InterfaceEvent.{InterfaceEvent}
 use Rattle.script_events.specs.declared.event.InterfaceEvent.TheVariants as ie
 use Rattle.event_verdicts.specs.declared.verdict.Verdict.{Verdict}
 use Rattle.event_verdicts.specs.declared.verdict.Verdict.TheVariants as verdict
-use Rattle.interface_state.specs.Machine.{Tdi, WriteRegister, LevelReset, FirmwareUpdate}
+use Rattle.interface_state.specs.Machine.{DeviceTdi, WriteRegister, LevelReset, FirmwareUpdate}
 use Rattle.interface_ends.specs.Replies.{DeviceTdis}
 use Rattle.interface_host.specs.declared.operation.InterfaceOperation.{InterfaceOperation}
 use Rattle.interface_host.specs.declared.operation.InterfaceOperation.TheVariants as op
@@ -80,24 +80,24 @@ abbrev pub device_interfaces : Option LinkEnds → Option DeviceTdis
 device_interfaces None = None
 device_interfaces (Some l) = Some l.device.interfaces
 
-abbrev pub interface_of_ends : List LinkEnds → ℕ × ℕ → Option Tdi
+abbrev pub interface_of_ends : List LinkEnds → ℕ × ℕ → Option DeviceTdi
 interface_of_ends ends at = option_and_then (λ d. slice_get d.interfaces at.1) (device_interfaces (slice_get ends at.0))
 
-abbrev pub tdi_named : InterfaceManagerView → List LinkEnds → ℕ → Option Tdi
-tdi_named m ends i = option_and_then (interface_of_ends ends) (interface_named m ends i)
+abbrev pub named_device_interface : InterfaceManagerView → List LinkEnds → ℕ → Option DeviceTdi
+named_device_interface m ends i = option_and_then (interface_of_ends ends) (interface_named m ends i)
 
-abbrev pub written_as : ℕ → Register → ℕ → Option Tdi → Verdict
+abbrev pub written_as : ℕ → Register → ℕ → Option DeviceTdi → Verdict
 written_as i register value None = verdict.Nothing
 written_as i register value (Some tdi) =
     if has_register tdi.plan register then verdict.Interface
     (iv.Written i (code_behind tdi (WriteRegister register value)))
     else verdict.Nothing
 
-abbrev pub flr_as : ℕ → Option Tdi → Verdict
+abbrev pub flr_as : ℕ → Option DeviceTdi → Verdict
 flr_as i None = verdict.Nothing
 flr_as i (Some tdi) = verdict.Interface (iv.Flr i (code_behind tdi LevelReset))
 
-abbrev pub firmware_as : ℕ → Option Tdi → Verdict
+abbrev pub firmware_as : ℕ → Option DeviceTdi → Verdict
 firmware_as i None = verdict.Nothing
 firmware_as i (Some tdi) = verdict.Interface (iv.Firmware i (code_behind tdi FirmwareUpdate))
 
@@ -131,8 +131,8 @@ verdict_at_ends v k memory (ie.Unbind i line stream loss) =
 verdict_at_ends v k memory (ie.View i) =
     Some (viewed_as i (interface_seen_at k.interfaces i (interface_named k.interfaces v.links i)))
 verdict_at_ends v k memory (ie.Write i register value) =
-    Some (written_as i register value (tdi_named k.interfaces v.links i))
-verdict_at_ends v k memory (ie.Flr i) = Some (flr_as i (tdi_named k.interfaces v.links i))
-verdict_at_ends v k memory (ie.Firmware i) = Some (firmware_as i (tdi_named k.interfaces v.links i))
+    Some (written_as i register value (named_device_interface k.interfaces v.links i))
+verdict_at_ends v k memory (ie.Flr i) = Some (flr_as i (named_device_interface k.interfaces v.links i))
+verdict_at_ends v k memory (ie.Firmware i) = Some (firmware_as i (named_device_interface k.interfaces v.links i))
 verdict_at_ends v k memory (ie.Memory at len) =
     Some (memory_verdict (in_one_region memory.regions at len) (bytes_from (byte_at memory) at len))

@@ -9,7 +9,7 @@ use Rattle.spec_keys.specs.History.{History}
 use Rattle.spec_links.specs.Plan.{has_port}
 use Rattle.spec_links.specs.Ports.{port_of}
 use Rattle.spec_links.specs.Packets.{arrival_at}
-use Rattle.spec_links.specs.History.{Arrival}
+use Rattle.spec_links.specs.History.{ArrivedBytes}
 use Rattle.spec_links.specs.Memory.{effects_under_policy}
 use Rattle.spec_links.specs.Guarded.{asked_happens, happens_by}
 use Rattle.join_interfaces.specs.{BesidePorts, LinkPacket, stepped_arrival, PortsStandFor, unit_tlps}
@@ -44,7 +44,7 @@ ComesTo old end bytes link direction verdict xs new ys =
 abbrev pub IsQuiet : Plan → Event → Type 0
 IsQuiet plan e = (w : Verdict) (k : ℕ) → asked_happens plan e w k ≡ []
 
-abbrev pub arrival_on : Plan → PortName → List ℕ → Option Arrival
+abbrev pub arrival_on : Plan → PortName → List ℕ → Option ArrivedBytes
 arrival_on plan end bytes = Some (arrival_at plan end bytes)
 
 -- effects are by what the manager says, by the reads that wait and by how the devices' interfaces stand

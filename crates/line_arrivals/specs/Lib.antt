@@ -13,7 +13,7 @@ pub use Rattle.all_ends.specs.{cut_packets, new_ends, port_in, InterfacesView, k
 pub use Rattle.all_ends.specs.{operated_on, status_for, stopped_if, manager_told, IsAtBothEnds, IsOperated, IsWalked}
 pub use Rattle.all_ends.specs.{KeeperView, Operates, ends_found, arrival_verdict, end_sent_verdict, grants_in}
 pub use Rattle.all_ends.specs.{packet_effect, packet_write, unit_writes, writes_by, LinkEnds, HostKeeper}
-pub use Rattle.all_ends.specs.AllEnds.{ArrivesAt, AsksAt, CallsAt, IsThere, OperatesAt, OperatesIn, OperatesOnLink}
+pub use Rattle.all_ends.specs.AllEnds.{ArrivesAt, AsksAt, CallsAt, IsThere, OperatesAt, OperatesByPlace, OperatesOnLink}
 pub use Rattle.all_ends.specs.AllEnds.{OperatesOnPair, ResetsAt, SendsAt, both_of, drawn_on_line, drawn_at_place}
 pub use Rattle.all_ends.specs.AllEnds.{statuses_of, told_by_line, told_by_place, IsTakenAtHost}
 pub use Rattle.all_ends.specs.Ends.{EndsView, all_cleared, bound_on, bound_trust, changed_at, cleared_ends, cleared_on}

@@ -1,7 +1,7 @@
 //! Hops of links.
 
 ghost use Rattle.std.specs.Prelude.{◌≡◌, ◌<◌};
-ghost use Rattle.spec_keys.specs.Places.{is_cut};
+ghost use Rattle.spec_keys.specs.Places.{is_line_reset};
 ghost use Rattle.spec_links.specs.Hops.{has_hop as has_hop_in, leaving_end as leaving_end_of};
 ghost use Rattle.spec_links.specs.Hops.{clears_hop as clears_hop_of};
 
@@ -32,8 +32,8 @@ pub fn leaving_end(link: u8, direction: Direction) -> PortName
     }
 }
 
-fn is_cut(ends: &[PortName], line: u8) -> bool
-    ensures { result ≡ is_cut ends.now line }
+fn is_line_reset(ends: &[PortName], line: u8) -> bool
+    ensures { result ≡ is_line_reset ends.now line }
 {
     ends.iter().any(|end| end.line == line)
 }
@@ -43,5 +43,5 @@ pub fn clears_hop(ends: &[PortName], link: u8) -> bool
     requires { link < 8 }
     ensures { result ≡ clears_hop_of ends.now link }
 {
-    is_cut(ends, 8 + link) && is_cut(ends, 16 + link)
+    is_line_reset(ends, 8 + link) && is_line_reset(ends, 16 + link)
 }

@@ -18,7 +18,7 @@ use Rattle.key_messages.specs.Objects as objects
 use Rattle.script_events.specs.declared.event.Lost.{Lost}
 use Rattle.key_host.specs.Streams.{wire_asked, end_asked, has_host}
 use Rattle.key_host.specs.declared.exchange.Exchange.TheVariants as exchange
-use Rattle.join_keys.specs.Paired.{PairEnds as PairStreams, PairExchanged, pair_exchanged, pair_after, came_to_end}
+use Rattle.join_keys.specs.Paired.{PairStreams, PairExchanged, pair_exchanged, pair_after, came_to_end}
 use Rattle.join_keys.specs.Paired.{pair_unless_lost}
 use Rattle.join_keys.proofs.PairTurns.{PairTurn, pair_puts, pair_goes, pair_stops, pair_turn}
 use Rattle.link_ends.specs.LineEnds.{own_direction, at_end, shown_end, line_end_after, answered_end, end_reply, end_in}

@@ -7,7 +7,7 @@ use Rattle.link_ends.proofs.Terms.{asking_after, IsAsked, Found, ap, subst}
 use Rattle.key_slots.specs.{is_one}
 use Rattle.key_host.specs.declared.judge.Judged.TheVariants.{Lost as NotCarried}
 use Rattle.key_host.specs.declared.operation.StreamOutcome.TheVariants as outcome
-use Rattle.join_keys.specs.Paired.{PairEnds as PairStreams, PairExchanged, pair_exchanged, pair_after, PairWalked}
+use Rattle.join_keys.specs.Paired.{PairStreams, PairExchanged, pair_exchanged, pair_after, PairWalked}
 use Rattle.join_keys.specs.Paired.{pair_walk, pair_goes_on}
 use Rattle.link_ends.specs.declared.pair.PairEnds.{PairEnds}
 use Rattle.link_ends.specs.PairKeepers.{IsAtBoth, DiffersInPair, IsPairExchanged, PairExchanges, IsPairWalked}

@@ -10,7 +10,7 @@ use Rattle.ide_types.specs.declared.stream.StreamPlan.{StreamPlan}
 use Rattle.tlp_layout.specs.declared.head.HeadView.{HeadView}
 use Rattle.tlp_layout.specs.Choice.{id_of}
 use Rattle.key_messages.specs.{PlaceCall, call_of, is_done, reply_bytes}
-use Rattle.interface_ends.specs.Replies.{DeviceTdis, new_tdis, settled_interfaces, interfaces_set_t}
+use Rattle.interface_ends.specs.Replies.{DeviceTdis, new_device_interfaces, settled_interfaces, interfaces_set_t}
 use Rattle.interface_ends.specs.Replies.{interfaces_set_peer_t}
 use Rattle.ide_port.specs.{PortEnd, new_port, slot_pair_at, called_port, port_stream_status}
 use Rattle.link_ends.specs.declared.device.Device.{Device}
@@ -23,7 +23,7 @@ abbrev pub new_device : ℕ → List StreamPlan → ℕ → ℕ → List Interfa
 new_device link plans limit requester interfaces nonces = record {
   port = new_port (device_port link) plans limit;
   requester = requester;
-  interfaces = new_tdis interfaces nonces;
+  interfaces = new_device_interfaces interfaces nonces;
 }
 
 -- ---- streams

@@ -5,7 +5,7 @@ use Rattle.ide_types.specs.declared.interface.InterfacePlan.{InterfacePlan}
 use Rattle.ide_types.specs.declared.plan.LinkPlan.{LinkPlan}
 use Rattle.event_verdicts.specs.declared.verdict.Effect.{Effect}
 use Rattle.tlp_layout.specs.declared.head.HeadView.{HeadView}
-use Rattle.interface_state.specs.Machine.{Tdi}
+use Rattle.interface_state.specs.Machine.{DeviceTdi}
 use Rattle.interface_ends.specs.Replies.{DeviceTdis}
 use Rattle.trusted_memory.specs.declared.read.MemReadView.{MemReadView}
 use Rattle.trusted_memory.specs.declared.queue.WaitingRead.{WaitingRead}
@@ -43,7 +43,7 @@ new_accesses links = map new_at_link links
 -- ---- how interfaces stand
 
 -- those from this place on, with floors by place
-abbrev pub numbered_statuses : List ℕ → ℕ → List Tdi → List InterfaceStatus
+abbrev pub numbered_statuses : List ℕ → ℕ → List DeviceTdi → List InterfaceStatus
 numbered_statuses floors n [] = []
 numbered_statuses floors n (t ∷ ts) = interface_status t (slice_index floors n) ∷ numbered_statuses floors (n + 1) ts
 

@@ -3,7 +3,8 @@ use Rattle.machine_operations.proofs.Terms.{◌≡◌, ℕ, Bool, true, false, O
 use Rattle.machine_operations.proofs.Terms.{ap, sym, ◌∙◌, subst, arith, if◌then◌else◌, is_some, nat_lt, Device, due}
 use Rattle.machine_operations.proofs.Terms.{Establish, establish_found, establish_on, Event, facts, find_op}
 use Rattle.machine_operations.proofs.Terms.{found_by_id, History, Host, is_of_packets, is_quiet, IsNoOperation, key_due}
-use Rattle.machine_operations.proofs.Terms.{key_plan, LinkState, Loss, Manager, manager, nat_tests, none_of_packets}
+use Rattle.machine_operations.proofs.Terms.{key_plan, LinkState, Loss, StreamOperations, manager, nat_tests}
+use Rattle.machine_operations.proofs.Terms.{none_of_packets}
 use Rattle.machine_operations.proofs.Terms.{StreamStage, op_at, op_of, stepped_operation, operated_manager, operates}
 use Rattle.machine_operations.proofs.Terms.{Operation, Plan, ports_of, quiet, reach_of, Refresh, refresh_found}
 use Rattle.machine_operations.proofs.Terms.{refresh_on, Reset, reset_state, Side, slice_index_or, PortsStandFor, Status}
@@ -27,15 +28,16 @@ use Rattle.machine_operations.proofs.Resets.{reset_stands, reset_nothing}
 use Rattle.machine_operations.proofs.Worked.{asked_stands}
 use Rattle.ide_types.specs.Lines.{is_link_line}
 use Rattle.ide_types.specs.declared.port.PortName.{PortName}
-use Rattle.spec_keys.specs.Operations.{op_cut}
-use Rattle.spec_keys.specs.Places.{is_cut}
+use Rattle.spec_keys.specs.Operations.{op_after_reset}
+use Rattle.spec_keys.specs.Places.{is_line_reset}
 
 abbrev AllStep : Plan → History → Event → Stepped → Type 0
 AllStep plan h e r = (r.0 ≡ due plan h e) × PortsStandFor plan r.1 ((e, r.0) ∷ h)
 
 -- ---- events that are no operations
 
-uncut : (ends : List PortName) (line : ℕ) (q : StreamStage) → is_cut ends line ≡ false → op_cut ends line q ≡ q
+uncut : (ends : List PortName) (line : ℕ) (q : StreamStage) → is_line_reset ends line ≡ false
+    → op_after_reset ends line q ≡ q
 uncut ends line q none = rw none refl
 
 manager_same : (h : History) (e : Event) (x : Verdict) → IsNoOperation e → manager ((e, x) ∷ h) ≡ manager h
@@ -44,12 +46,12 @@ manager_same h (Establish l s lose) x still = absurd (grind (arith, nat_tests, s
 manager_same h (Refresh l s lose) x still = absurd (grind (arith, nat_tests, still l s))
 manager_same h (Stop l s lose) x still = absurd (grind (arith, nat_tests, still l s))
 manager_same h (Reset l ends) (v.Reset k) still =
-    let same : (a s : ℕ) → op_cut ends a ((manager h).ops a s) ≡ (manager h).ops a s =
+    let same : (a s : ℕ) → op_after_reset ends a ((manager h).ops a s) ≡ (manager h).ops a s =
     λ a s. uncut ends a ((manager h).ops a s) (still a s) in
     λ i. record { ops = λ a s. same a s i; begun = (manager h).begun }
 manager_same h _ x still = refl
 
-abbrev ops_of : Plan → ℕ → ℕ → Manager → Option StreamStage
+abbrev ops_of : Plan → ℕ → ℕ → StreamOperations → Option StreamStage
 ops_of plan l s m = if is_some (stream_plan plan l s) then Some (m.ops l s) else None
 
 plain : (plan : Plan) (st : LinkState) (h : History) (e : Event) (r : Stepped) → IsNoOperation e
@@ -62,7 +64,8 @@ plain plan st h e r still stands step kept = (
     ops_is = λ l s.
         ap (λ (zs : List (List StreamStage)). found_by_id (streams_of plan l) (slice_index_or zs l []) s) kept.0
         ∙ (stands.ops_is l s ∙ ap (ops_of plan l s) (sym (manager_same h e r.0 still)));
-    draws_is = kept.1 ∙ (stands.draws_is ∙ ap (λ (m : Manager). length m.begun) (sym (manager_same h e r.0 still)));
+    draws_is = kept.1 ∙ (stands.draws_is ∙ ap (λ (m : StreamOperations). length m.begun)
+        (sym (manager_same h e r.0 still)));
   },
 )
 
@@ -102,7 +105,7 @@ module _ (plan : Plan) (st : LinkState) (h : History) (stands : PortsStandFor pl
                   ap
                   (ops_of plan l s) after;
               draws_is = draws_worked plan st h o line stream (reach_of o x) stands.draws_is ∙ ap
-                  (λ (m : Manager). length m.begun) after;
+                  (λ (m : StreamOperations). length m.begun) after;
             }),
       )
 
@@ -114,7 +117,7 @@ module _ (plan : Plan) (st : LinkState) (h : History) (stands : PortsStandFor pl
         record {
           ports_stand = asked_stands plan st h o line stream lose v.Nothing stands.ports_stand is;
           ops_is = λ l s. stands.ops_is l s ∙ ap (ops_of plan l s) after;
-          draws_is = stands.draws_is ∙ ap (λ (m : Manager). length m.begun) after;
+          draws_is = stands.draws_is ∙ ap (λ (m : StreamOperations). length m.begun) after;
         },
       )
 

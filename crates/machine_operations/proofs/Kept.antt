@@ -9,7 +9,7 @@ use Rattle.ide_types.specs.declared.verdict.InterfaceVerdict.TheVariants as iv
 use Rattle.ide_types.specs.declared.port.Side.TheVariants.{Host}
 use Rattle.ide_types.specs.declared.sub.SubKind.TheVariants.{Cpl}
 use Rattle.machine_operations.proofs.Terms.{◌≡◌, ℕ, Bool, true, false, List, Option, Some, None, Result, Ok, Err, refl}
-use Rattle.machine_operations.proofs.Terms.{arith, if◌then◌else◌, Alter, stepped_answer, Arrival, Arrive}
+use Rattle.machine_operations.proofs.Terms.{arith, if◌then◌else◌, Alter, stepped_answer, ArrivedBytes, Arrive}
 use Rattle.machine_operations.proofs.Terms.{stepped_arrival, Cut, Dump, Event, find, has_port, is_of_packets, LinkState}
 use Rattle.machine_operations.proofs.Terms.{Pass, Plan, PortName, with_stream_state, Send, stepped_on_stream}
 use Rattle.machine_operations.proofs.Terms.{stepped_send, streams_of, Sending, step_of, Stepped, StreamState, Verdict}
@@ -26,7 +26,7 @@ use Rattle.tlp_layout.specs.Outgoing.{Outgoing, NoTlp, OnNone, OnStream, outgoin
 abbrev pub Kept : LinkState → Stepped → Type 0
 Kept st r = (r.1.ops ≡ st.ops) × (r.1.draws ≡ st.draws)
 
-arrive_kept : (plan : Plan) (beside : BesidePorts) (st : LinkState) (a : Option Arrival)
+arrive_kept : (plan : Plan) (beside : BesidePorts) (st : LinkState) (a : Option ArrivedBytes)
     → Kept st (stepped_arrival plan beside st a)
 unfolding with_stream_state
 arrive_kept plan beside st a = grind arith

@@ -19,11 +19,11 @@ use Rattle.machine_operations.proofs.Terms.{total_in, tx_slots, units_since, wit
 use Rattle.event_verdicts.specs.declared.verdict.Verdict.TheVariants as v
 use Rattle.ide_types.specs.declared.stream.StreamPlan.{StreamPlan}
 use Rattle.machine_operations.proofs.Worked.{Still, StillAt, untouched, still_stands, still_standing}
-use Rattle.machine_ports.specs.Machine.{row_cleared, rows_cleared, all_rows_cleared, op_when_cut, all_cut}
+use Rattle.machine_ports.specs.Machine.{row_cleared, rows_cleared, all_rows_cleared, reset_op, all_ops_reset}
 use Rattle.machine_ports.proofs.Puts.{place_is}
 use Rattle.machine_ports.proofs.{same_port, seat_same}
 use Rattle.machine_ports.specs.{is_same_port}
-use Rattle.spec_keys.specs.Places.{is_cleared, is_cut, is_between_devices, is_same_side}
+use Rattle.spec_keys.specs.Places.{is_cleared, is_line_reset, is_between_devices, is_same_side}
 use Rattle.spec_keys.specs.Keys.{Clear}
 use Rattle.spec_keys.specs.History.{touches_after, touches_if}
 use Rattle.std.specs.List.{list_any}
@@ -248,9 +248,9 @@ more_cleared e es port = by (is_between_devices port.line)
   where
     by : (peer : Bool) → ((if peer then is_same_side e.side port.side && (e.line == port.line) else e.line == port.line)
         || (if peer then list_any (λ d. is_same_side d.side port.side && (d.line == port.line)) es
-        else is_cut es port.line))
+        else is_line_reset es port.line))
         ≡ (if peer then list_any (λ d. is_same_side d.side port.side && (d.line == port.line)) (e ∷ es)
-        else is_cut (e ∷ es) port.line)
+        else is_line_reset (e ∷ es) port.line)
     by true = refl
     by false = refl
 
@@ -313,10 +313,10 @@ ShapedOps plan rows = (line s : ℕ) → is_some (with_id (streams_of plan line)
     → is_some (seen_op plan rows line s) ≡ true
 
 abbrev cut_op : Plan → ℕ → ℕ → Option StreamStage
-cut_op plan line s = if is_some (with_id (streams_of plan line) s) then Some (op_when_cut line) else None
+cut_op plan line s = if is_some (with_id (streams_of plan line) s) then Some (reset_op line) else None
 
 abbrev row_cut : Plan → ℕ → List (List StreamStage) → List (List StreamStage)
-row_cut plan line rows = slice_set rows line (map (λ (s : StreamPlan). op_when_cut line) (streams_of plan line))
+row_cut plan line rows = slice_set rows line (map (λ (s : StreamPlan). reset_op line) (streams_of plan line))
 
 op_seen : (plan : Plan) (rows : List (List StreamStage)) (l : ℕ) → ShapedOps plan rows → (line s : ℕ)
     → seen_op plan (row_cut plan l rows) line s ≡ (if l == line then cut_op plan line s else seen_op plan rows line s)
@@ -327,9 +327,9 @@ op_seen plan rows l shaped line s = by (l == line) refl
     by true same =
         let one : l ≡ line = grind (arith, nat_tests) in
         subst (λ (n : ℕ). seen_op plan (row_cut plan l rows) n s ≡ cut_op plan n s) one
-        (filled (streams_of plan l) rows l s (op_when_cut l) (shaped l s))
+        (filled (streams_of plan l) rows l s (reset_op l) (shaped l s))
     by false other = ap (λ (xs : List StreamStage). found_by_id (streams_of plan line) xs s)
-        (get_or-set_other rows l line (map (λ (x : StreamPlan). op_when_cut l) (streams_of plan l)) []
+        (get_or-set_other rows l line (map (λ (x : StreamPlan). reset_op l) (streams_of plan l)) []
         (λ same. grind (arith, nat_tests)))
 
 if_shaped_op : (b known : Bool) (q : StreamStage) (o : Option StreamStage) → known ≡ true → is_some o ≡ true
@@ -339,17 +339,17 @@ if_shaped_op b known q o is there = grind arith
 ops_shaped : (plan : Plan) (rows : List (List StreamStage)) (l : ℕ) → ShapedOps plan rows
     → ShapedOps plan (row_cut plan l rows)
 ops_shaped plan rows l shaped line s known = ap is_some (op_seen plan rows l shaped line s)
-    ∙ if_shaped_op (l == line) _ (op_when_cut line) (seen_op plan rows line s) known (shaped line s known)
+    ∙ if_shaped_op (l == line) _ (reset_op line) (seen_op plan rows line s) known (shaped line s known)
 
 ops_seen : (plan : Plan) (ends : List PortName) (rows : List (List StreamStage)) → ShapedOps plan rows → (line s : ℕ)
-    → seen_op plan (all_cut plan ends rows) line s
-    ≡ (if is_cut ends line then cut_op plan line s else seen_op plan rows line s)
+    → seen_op plan (all_ops_reset plan ends rows) line s
+    ≡ (if is_line_reset ends line then cut_op plan line s else seen_op plan rows line s)
 ops_seen plan [] rows shaped line s = refl
 ops_seen plan (e ∷ es) rows shaped line s =
     ops_seen plan es (row_cut plan e.line rows) (ops_shaped plan rows e.line shaped) line s
-    ∙ (ap (λ (o : Option StreamStage). if is_cut es line then cut_op plan line s else o)
+    ∙ (ap (λ (o : Option StreamStage). if is_line_reset es line then cut_op plan line s else o)
     (op_seen plan rows e.line shaped line s)
-    ∙ either (e.line == line) (is_cut es line) (cut_op plan line s) (seen_op plan rows line s))
+    ∙ either (e.line == line) (is_line_reset es line) (cut_op plan line s) (seen_op plan rows line s))
 
 if_known : (cut known : Bool) (q o : StreamStage) → (if cut then (if known then Some q else None)
     else if known then Some o else None) ≡ (if known then Some (if cut then q else o) else None)
@@ -360,8 +360,8 @@ reset_ops : (plan : Plan) (st : LinkState) (h : History) (l : ℕ) (ends : List 
 unfolding find_op stream_plan manager
 reset_ops plan st h l ends stands a s =
     ops_seen plan ends st.ops (λ line n known. ap is_some (stands.ops_is line n) ∙ rw known refl) a s
-    ∙ (ap (λ (o : Option StreamStage). if is_cut ends a then cut_op plan a s else o) (stands.ops_is a s)
-    ∙ if_known (is_cut ends a) (is_some (with_id (streams_of plan a) s)) (op_when_cut a) (op_of h a s))
+    ∙ (ap (λ (o : Option StreamStage). if is_line_reset ends a then cut_op plan a s else o) (stands.ops_is a s)
+    ∙ if_known (is_line_reset ends a) (is_some (with_id (streams_of plan a) s)) (reset_op a) (op_of h a s))
 
 reset_draws : (h : History) (l : ℕ) (ends : List PortName) → draws_made h ≡ draws_made ((Reset l ends, v.Reset l) ∷ h)
 unfolding manager

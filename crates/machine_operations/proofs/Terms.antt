@@ -3,7 +3,7 @@ pub use Rattle.std.proofs.Common.{suc, zero, ◌*◌}
 pub use Rattle.machine_ports.proofs.Terms.{[], ap, arith, Bool, Err, false, if◌then◌else◌, is_some, length, List, map}
 pub use Rattle.machine_ports.proofs.Terms.{nat_lt, None, not, Ok, Option, option_map, refl, Result, slice_set, Some}
 pub use Rattle.machine_ports.proofs.Terms.{subst, sym, true, ℕ, ◌&&◌, ◌+◌, ◌<◌, ◌==◌, ◌||◌, ◌∙◌, ◌∷◌, ◌≡◌, ◌≢◌, ◌≤◌}
-pub use Rattle.machine_ports.proofs.Terms.{Alter, Arrival, Arrive, CauseLaw, Cpl, Cut, Dump, Event, History}
+pub use Rattle.machine_ports.proofs.Terms.{Alter, ArrivedBytes, Arrive, CauseLaw, Cpl, Cut, Dump, Event, History}
 pub use Rattle.machine_ports.proofs.Terms.{IsNoOperation, KeyFacts, Keys, LinkState, Live, Loaded, Npr, Off, On, Pass}
 pub use Rattle.machine_ports.proofs.Terms.{Plan, PortName, PortsStand, Pr, RxSub, SealedList, Send, Sending, LaneSlots}
 pub use Rattle.machine_ports.proofs.Terms.{Status, Stepped, StreamState, SubKind, SubStream, TxSub, Verdict}
@@ -33,7 +33,8 @@ pub use Rattle.spec_keys.specs.Keys.{Clear as ClearTouch, Go as GoTouch, Program
 pub use Rattle.spec_keys.specs.Keys.{Touch, is_live_draw as is_live_there, draw_of_keyed, no_keys, refuses}
 pub use Rattle.spec_keys.specs.Keys.{without_outlived, slot_of, keys_after_touch, with_key}
 unfoldable pub use Rattle.spec_keys.specs.Keys.{is_open, keys}
-pub use Rattle.spec_keys.specs.Operations.{Begun, Idle, Manager, StreamStage, Reach, Work, makes_draw, op_after_reach}
+pub use Rattle.spec_keys.specs.Operations.{Begun, Idle, StreamOperations, StreamStage, Reach, Work, makes_draw}
+pub use Rattle.spec_keys.specs.Operations.{op_after_reach}
 pub use Rattle.spec_keys.specs.Operations.{manager_after_operation as operated_manager, reach_of, work_of}
 pub use Rattle.spec_keys.specs.Places.{KeyPlace, is_on_stream, sent_direction}
 pub use Rattle.script_events.specs.declared.event.Event.TheVariants.{Establish, Refresh, Reset, Stop}

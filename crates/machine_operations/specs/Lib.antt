@@ -10,7 +10,7 @@ pub use Rattle.machine_ports.specs.Machine.{touches_at, verdict_of_taken}
 pub use Rattle.machine_ports.specs.Replies.{BoundCompletion, completion_first, site_completion, link_completion}
 pub use Rattle.machine_ports.specs.Stands.{PortsStand, PortsStandFor, beside_at, receiving_key, rx_slot, rx_slots}
 pub use Rattle.machine_ports.specs.Stands.{state_due_if_planned, tx_slots}
-pub use Rattle.machine_ports.specs.Stream.{Accepted, Failed, Held, Insecure, NotKeyed, StreamState, Taken}
+pub use Rattle.machine_ports.specs.Stream.{Accepted, Failed, Held, Insecure, NotKeyed, StreamState, PacketOutcome}
 pub use Rattle.machine_ports.specs.Stream.{receiving_draw, stream_outcome}
 pub use Rattle.machine_ports.specs.Touches.{slots_touched, taken_touches, touched_stream}
 unfoldable pub use Rattle.machine_ports.specs.Stands.{stream_state_due}

@@ -12,7 +12,8 @@ use Rattle.machine_ports.proofs.Terms.{is_verified, key_in, key_of, Keys, port_k
 use Rattle.machine_ports.proofs.Terms.{meets_counts, aggregation_of, NotKeyed, Npr, on_draw, on_in, Packet}
 use Rattle.machine_ports.proofs.Terms.{pending_packets, Plan, PortName, Pr, receiving_sub_stream, rx_slots}
 use Rattle.machine_ports.proofs.Terms.{rx_state_due, RxSub, ending_due, slot_in_set, LaneSlots, stream_state_due}
-use Rattle.machine_ports.proofs.Terms.{SubKind, SubStream, sum_by-append, Taken, stream_outcome, stream_outcome_by_keys}
+use Rattle.machine_ports.proofs.Terms.{SubKind, SubStream, sum_by-append, PacketOutcome, stream_outcome}
+use Rattle.machine_ports.proofs.Terms.{stream_outcome_by_keys}
 use Rattle.machine_ports.proofs.Terms.{Three, under_keys, next_unit_name, units_got, units_since, Verdict}
 use Rattle.machine_ports.proofs.Terms.{verdict_of_taken}
 use Rattle.ide_types.specs.declared.sub.FailCause.TheVariants as fail
@@ -66,7 +67,7 @@ abbrev receivers : Plan → History → PortName → ℕ → Three RxSub
 receivers plan h port stream = each_sub (λ u. rx_state_due plan h port (lane_in port stream u))
 
 -- what the machine makes of a packet there, under the draws of its set and of the other one
-abbrev taken_from : Plan → History → PortName → Packet → Option ℕ → Option ℕ → Taken
+abbrev taken_from : Plan → History → PortName → Packet → Option ℕ → Option ℕ → PacketOutcome
 taken_from plan h port p o other =
     stream_outcome_by_keys (aggregation_of plan port.line p.prefix.stream) (is_closed plan port.line p.prefix.stream)
     (receivers plan h port p.prefix.stream) p
@@ -145,12 +146,12 @@ packet_due plan h port p =
     (on_draw h port (receiving_sub_stream port p) (not p.prefix.k)))
 
 -- what the machine finds in the receivers that stand for the history
-abbrev found_keys : Plan → History → PortName → Packet → Taken
+abbrev found_keys : Plan → History → PortName → Packet → PacketOutcome
 found_keys plan h port p = taken_from plan h port p (on_draw h port (receiving_sub_stream port p) p.prefix.k)
     (on_draw h port (receiving_sub_stream port p) (not p.prefix.k))
 
 -- the answer of the machine
-abbrev pub taken_at : Plan → History → PortName → Packet → Taken
+abbrev pub taken_at : Plan → History → PortName → Packet → PacketOutcome
 taken_at plan h port p = stream_outcome (aggregation_of plan port.line p.prefix.stream)
     (is_closed plan port.line p.prefix.stream)
     (stream_state_due plan h port p.prefix.stream) p
@@ -163,7 +164,7 @@ taken_by_is plan h port p = by_failure (has_failed h port p.prefix.stream) refl
     rx : SubKind → RxSub
     rx = λ w. rx_state_due plan h port (lane_in port p.prefix.stream w)
 
-    under : LaneSlots → Taken
+    under : LaneSlots → PacketOutcome
     under slots =
         stream_outcome_by_keys (aggregation_of plan port.line p.prefix.stream)
         (is_closed plan port.line p.prefix.stream)
@@ -201,7 +202,7 @@ answer_is plan h port p = ap (verdict_of_taken (beside_at plan h) port p) (taken
 
 -- ---- what an answer says
 
-abbrev pub Says : Plan → History → PortName → Packet → Taken → Type 0
+abbrev pub Says : Plan → History → PortName → Packet → PacketOutcome → Type 0
 Says plan h port p Insecure = Unit {0}
 Says plan h port p NotKeyed = Unit {0}
 Says plan h port p (Failed cause) = has_live_in h port p.prefix.stream ≡ true

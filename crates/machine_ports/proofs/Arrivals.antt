@@ -5,13 +5,14 @@ use Rattle.machine_ports.specs.Stands.{beside_at}
 use Rattle.spec_links.specs.Due.{through_due}
 unfoldable use Rattle.spec_links.specs.Ports.{port_of, goes_through}
 use Rattle.machine_ports.proofs.Terms.{if◌then◌else◌, Bool, false, ◌≡◌, true, List, [], ◌∷◌, ◌++◌, Option, Some, None}
-use Rattle.machine_ports.proofs.Terms.{Result, Ok, Err, refl, ap, sym, ◌∙◌, subst, arith, Accepted, Arrival}
+use Rattle.machine_ports.proofs.Terms.{Result, Ok, Err, refl, ap, sym, ◌∙◌, subst, arith, Accepted, ArrivedBytes}
 use Rattle.machine_ports.proofs.Terms.{arrival_due, arrival_of_event, before_tag, before_tag_of, Came, due, effects_of}
 use Rattle.machine_ports.proofs.Terms.{Event, Failed, find, has_stream, Held, History, Insecure, IsNoOperation}
 use Rattle.machine_ports.proofs.Terms.{KeyFacts, LinkState, NotKeyed, Packet, packet_that_came, packet_word}
 use Rattle.machine_ports.proofs.Terms.{pending_packets, Plan, PortName, PortsStand, with_stream_state}
 use Rattle.machine_ports.proofs.Terms.{receiving_sub_stream, sealed_same, seals_none, ending_due, stream_state_due}
-use Rattle.machine_ports.proofs.Terms.{state_after, StreamState, stepped_packet, stepped_cut, stepped_arrival, Taken}
+use Rattle.machine_ports.proofs.Terms.{state_after, StreamState, stepped_packet, stepped_cut, stepped_arrival}
+use Rattle.machine_ports.proofs.Terms.{PacketOutcome}
 use Rattle.machine_ports.proofs.Terms.{verdict_of_taken}
 use Rattle.event_verdicts.specs.declared.verdict.Verdict.TheVariants as v
 use Rattle.ide_prefix.specs.declared.fault.PacketFault.{PacketFault}
@@ -23,17 +24,17 @@ use Rattle.machine_ports.proofs.Changes.{Steps, IsOnlyAt, kept_is, not_kept, cha
 use Rattle.machine_ports.proofs.Answers.{answer_is, packet_due, taken_at, Says, says}
 use Rattle.machine_ports.proofs.Takes.{after_failure, after_held, after_accepted}
 
-only_there : (beside : BesidePorts) (port : PortName) (p : Packet) (t : Taken)
+only_there : (beside : BesidePorts) (port : PortName) (p : Packet) (t : PacketOutcome)
     → IsOnlyAt port p.prefix.stream (verdict_of_taken beside port p t)
 only_there beside port p t q s other = grind arith
 
-seals_nothing : (beside : BesidePorts) (port : PortName) (p : Packet) (t : Taken)
+seals_nothing : (beside : BesidePorts) (port : PortName) (p : Packet) (t : PacketOutcome)
     → seals_none (verdict_of_taken beside port p t) ≡ true
 seals_nothing beside port p t = grind arith
 
 module _ (plan : Plan) (facts : KeyFacts plan) (st : LinkState) (h : History) (e : Event) (still : IsNoOperation e)
     (stands : PortsStand plan st h) where
-  after : (port : PortName) (p : Packet) → Came plan h e port p → (t : Taken) → Says plan h port p t
+  after : (port : PortName) (p : Packet) → Came plan h e port p → (t : PacketOutcome) → Says plan h port p t
       → verdict_of_taken (beside_at plan h) port p t ≡ due plan h e
       → state_after (stream_state_due plan h port p.prefix.stream) p t
       ≡ stream_state_due plan ((e, verdict_of_taken (beside_at plan h) port p t) ∷ h) port p.prefix.stream
@@ -102,7 +103,8 @@ module _ (plan : Plan) (facts : KeyFacts plan) (st : LinkState) (h : History) (e
       → Steps plan h e (stepped_packet plan (beside_at plan h) st port p (Some y))) (sym kept.same)
       (standing_takes port p came (rw kept.known at is) kept.known) found
 
-  by_cut : (a : Arrival) → arrival_of_event plan h e ≡ Some a → (r : Result CutValue PacketFault) → cut_of a.bytes ≡ r
+  by_cut : (a : ArrivedBytes) → arrival_of_event plan h e ≡ Some a → (r : Result CutValue PacketFault) → cut_of a.bytes
+      ≡ r
       → ending_due plan h a.port (before_tag_of plan h a.port r) ≡ due plan h e
       → Steps plan h e (stepped_cut plan (beside_at plan h) st a.port r)
   by_cut a arrival (Err f) cut is = quiet plan facts st h e
@@ -112,7 +114,7 @@ module _ (plan : Plan) (facts : KeyFacts plan) (st : LinkState) (h : History) (e
       by_found a.port p (record { bytes = a.bytes; arrival = arrival; cut = cut }) is
       (find plan st a.port p.prefix.stream) refl
 
-  pub arrives : (o : Option Arrival) → arrival_of_event plan h e ≡ o → arrival_due plan h o ≡ due plan h e
+  pub arrives : (o : Option ArrivedBytes) → arrival_of_event plan h e ≡ o → arrival_due plan h o ≡ due plan h e
       → Steps plan h e (stepped_arrival plan (beside_at plan h) st o)
   unfolding before_tag
   arrives None arrival is = quiet plan facts st h e v.Nothing stands refl is still

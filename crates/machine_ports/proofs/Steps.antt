@@ -3,7 +3,7 @@ use Rattle.machine_ports.specs.Stands.{beside_at}
 use Rattle.spec_links.specs.Packets.{arrival_at}
 use Rattle.machine_ports.proofs.Terms.{◌≡◌, ℕ, Bool, true, false, List, Option, Some, None, option_map, option_and_then}
 use Rattle.machine_ports.proofs.Terms.{refl, ap, sym, ◌∙◌, arith, if◌then◌else◌, Alter, altered_arrival, altered_to}
-use Rattle.machine_ports.proofs.Terms.{Arrival, arrival_due, Arrive, arrival_of_event, arrival_at_partner, Cut}
+use Rattle.machine_ports.proofs.Terms.{ArrivedBytes, arrival_due, Arrive, arrival_of_event, arrival_at_partner, Cut}
 use Rattle.machine_ports.proofs.Terms.{cut_short, due, Dump, dump_due, Event, has_port, History, is_of_packets}
 use Rattle.machine_ports.proofs.Terms.{IsNoOperation, KeyFacts, LinkPacket, LinkState, operates, packet_bytes}
 use Rattle.machine_ports.proofs.Terms.{packet_numbered, PacketsStand, Pass, whole_arrival, Plan, PortName, PortsStand}
@@ -25,7 +25,7 @@ none_status l s line stream = refl
 
 -- the machine finds what the event brings
 brought_to : (plan : Plan) → KeyFacts plan → (st : LinkState) (h : History) (e : Event) → is_of_packets e ≡ true
-    → PortsStand plan st h → (o : Option Arrival) → o ≡ arrival_of_event plan h e
+    → PortsStand plan st h → (o : Option ArrivedBytes) → o ≡ arrival_of_event plan h e
     → arrival_due plan h (arrival_of_event plan h e) ≡ due plan h e
     → Steps plan h e (stepped_arrival plan (beside_at plan h) st o)
 brought_to plan facts st h e of stands o found is = arrives plan facts st h e (none_of_packets e of) stands o

@@ -34,7 +34,7 @@ pub use Rattle.spec_links.specs.Due.{lanes_at, needs_sync, no_key, receiving_sub
 pub use Rattle.spec_links.specs.Due.{send_due, verdict_of_send}
 pub use Rattle.spec_links.specs.Due.{packets_under_key, ending_due, under_keys, next_unit_name}
 unfoldable pub use Rattle.spec_links.specs.Due.{before_tag, due, is_verified}
-pub use Rattle.spec_links.specs.History.{Arrival, KeyName, SealedList, accepted_keys, after_ends, ahead_of_packet}
+pub use Rattle.spec_links.specs.History.{ArrivedBytes, KeyName, SealedList, accepted_keys, after_ends, ahead_of_packet}
 pub use Rattle.spec_links.specs.History.{altered_arrival, arrived_packet, arrival_at_partner, ended_keys}
 pub use Rattle.spec_links.specs.History.{ends_port_unit, has_failed, fails_at, total_ahead, has_live_key}
 pub use Rattle.spec_links.specs.History.{packets_in_hold as held_in, is_sealed_from_draw, is_keyed, is_received_under}
@@ -60,7 +60,8 @@ pub use Rattle.machine_ports.specs.Stands.{rx_state_due}
 pub use Rattle.machine_ports.specs.Stands.{sealing_key, state_due_if_planned, tx_slot, tx_slots, tx_state_due}
 unfoldable pub use Rattle.machine_ports.specs.Stands.{stream_state_due}
 pub use Rattle.machine_ports.specs.Stream.{Accepted, Failed, Held, Insecure, Live, LiveKey, NotKeyed, RxSub, LaneSlot}
-pub use Rattle.machine_ports.specs.Stream.{LaneSlots, StreamState, Taken, Three, TxSub, accepted_slots, accepted_sub}
+pub use Rattle.machine_ports.specs.Stream.{LaneSlots, StreamState, PacketOutcome, Three, TxSub, accepted_slots}
+pub use Rattle.machine_ports.specs.Stream.{accepted_sub}
 pub use Rattle.machine_ports.specs.Stream.{at_sub, outcome_of_checks, counted_unit, slot_without_packets, dropped_held}
 pub use Rattle.machine_ports.specs.Stream.{each_sub, ended_slots, gone_on, held_sub, holds_any, is_allowed, is_tagged}
 pub use Rattle.machine_ports.specs.Stream.{lane_of, lanes_of, live_in, live_sender, packet_under, posted_sum}

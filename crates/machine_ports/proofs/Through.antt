@@ -1,6 +1,6 @@
 -- A step that answers `through` leaves the state: no packet that is looked at gets that answer.
 use Rattle.machine_ports.proofs.Terms.{◌≡◌, ℕ, Bool, true, false, Option, Some, None, Ok, Err, Result, arith, refl}
-use Rattle.machine_ports.proofs.Terms.{option_and_then, if◌then◌else◌, Plan, PortName, LinkState, Arrival, Event}
+use Rattle.machine_ports.proofs.Terms.{option_and_then, if◌then◌else◌, Plan, PortName, LinkState, ArrivedBytes, Event}
 use Rattle.machine_ports.proofs.Terms.{Packet, has_port, packet_numbered, whole_arrival, altered_to, cut_short, find}
 use Rattle.machine_ports.proofs.Terms.{StreamState, stepped_arrival, step_of, Pass, Alter, Cut, Arrive}
 use Rattle.ide_prefix.specs.declared.fault.PacketFault.{PacketFault}
@@ -11,10 +11,10 @@ unfoldable use Rattle.spec_links.specs.Ports.{goes_through}
 use Rattle.spec_links.specs.Packets.{arrival_at}
 use Rattle.spec_links.specs.Plan.{aggregation_of, is_closed}
 use Rattle.machine_ports.specs.Machine.{BesidePorts, stepped_cut, stepped_packet, verdict_of_taken}
-use Rattle.machine_ports.specs.Stream.{Taken, stream_outcome}
+use Rattle.machine_ports.specs.Stream.{PacketOutcome, stream_outcome}
 use Rattle.machine_ports.specs.Through.{ThroughStays}
 
-not_taken : (beside : BesidePorts) (port q : PortName) (p : Packet) (t : Taken)
+not_taken : (beside : BesidePorts) (port q : PortName) (p : Packet) (t : PacketOutcome)
     → verdict_of_taken beside port p t ≡ v.Through q → ⊥
 not_taken beside port q p t is = grind arith
 
@@ -32,7 +32,7 @@ cut_stays plan beside st port q (Ok PlainTlp) is = refl
 cut_stays plan beside st port q (Ok (IdePacket p)) is =
     packet_stays plan beside st port q p (find plan st port p.prefix.stream) is
 
-arrival_stays : (plan : Plan) (beside : BesidePorts) (st : LinkState) (q : PortName) (o : Option Arrival)
+arrival_stays : (plan : Plan) (beside : BesidePorts) (st : LinkState) (q : PortName) (o : Option ArrivedBytes)
     → (stepped_arrival plan beside st o).0 ≡ v.Through q → (stepped_arrival plan beside st o).1 ≡ st
 arrival_stays plan beside st q None is = refl
 arrival_stays plan beside st q (Some a) is = by (goes_through plan a.port a.bytes) is
@@ -44,7 +44,7 @@ arrival_stays plan beside st q (Some a) is = by (goes_through plan a.port a.byte
     by true is = refl
     by false is = cut_stays plan beside st a.port q (cut_of a.bytes) is
 
-given_stays : (plan : Plan) (beside : BesidePorts) (st : LinkState) (q : PortName) (o : Option Arrival) (b : Bool)
+given_stays : (plan : Plan) (beside : BesidePorts) (st : LinkState) (q : PortName) (o : Option ArrivedBytes) (b : Bool)
     → (if b then stepped_arrival plan beside st o else (v.Nothing, st)).0 ≡ v.Through q
     → (if b then stepped_arrival plan beside st o else (v.Nothing, st)).1 ≡ st
 given_stays plan beside st q o true is = arrival_stays plan beside st q o is

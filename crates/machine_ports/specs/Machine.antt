@@ -69,13 +69,13 @@ use Rattle.tlp_layout.specs.declared.head.HeadView.{HeadView}
 use Rattle.event_verdicts.specs.declared.verdict.Effect.{Effect}
 use Rattle.script_events.specs.declared.event.InterfaceEvent.{InterfaceEvent}
 use Rattle.spec_links.specs.Due.{Sending, refusals, sealed_with_syncs, first_that_holds, through_due}
-use Rattle.spec_links.specs.History.{Arrival}
+use Rattle.spec_links.specs.History.{ArrivedBytes}
 use Rattle.ide_types.specs.declared.direction.Direction.{Direction}
 use Rattle.spec_links.specs.Hops.{HopTlp, leaving_end}
 use Rattle.machine_ports.specs.Replies.{BoundCompletion}
 use Rattle.machine_ports.specs.Stream.{LaneSlot, LaneSlots, slot_in_set, LiveKey, Live, StreamState}
 use Rattle.machine_ports.specs.Stream.{is_live_slot, slots_at, stream_status, no_stream, sealing_draw, receiving_draw}
-use Rattle.machine_ports.specs.Stream.{Taken, Insecure, NotKeyed, Failed, Held, Accepted, lanes_of, sealed_all}
+use Rattle.machine_ports.specs.Stream.{PacketOutcome, Insecure, NotKeyed, Failed, Held, Accepted, lanes_of, sealed_all}
 use Rattle.machine_ports.specs.Stream.{stream_outcome, state_after}
 use Rattle.script_events.specs.declared.event.Event.{Event}
 
@@ -214,7 +214,7 @@ stepped_forward plan beside st port (Ok x) = stepped_bytes plan beside st port x
 
 -- ---- arrivals
 
-abbrev pub verdict_of_taken : BesidePorts → PortName → Packet → Taken → Verdict
+abbrev pub verdict_of_taken : BesidePorts → PortName → Packet → PacketOutcome → Verdict
 verdict_of_taken beside port p Insecure = v.Insecure port p.prefix.stream
 verdict_of_taken beside port p NotKeyed = v.NotKeyed port p.prefix.stream p.prefix.sub
 verdict_of_taken beside port p (Failed cause) = v.Fail port p.prefix.stream p.prefix.sub cause
@@ -236,7 +236,7 @@ stepped_cut plan beside st port (Ok PlainTlp) = (v.Plain (port_of plan port), st
 stepped_cut plan beside st port (Ok (IdePacket p)) = stepped_packet plan beside st port p
     (find plan st port p.prefix.stream)
 
-abbrev pub stepped_arrival : Plan → BesidePorts → LinkState → Option Arrival → Stepped
+abbrev pub stepped_arrival : Plan → BesidePorts → LinkState → Option ArrivedBytes → Stepped
 stepped_arrival plan beside st None = (v.Nothing, st)
 stepped_arrival plan beside st (Some a) =
     if goes_through plan a.port a.bytes then (through_due plan a.port, st)
@@ -248,19 +248,19 @@ abbrev pub packet_numbered : List LinkPacket → ℕ → Option LinkPacket
 packet_numbered xs n = if n == 0 then None else slice_get xs (n - 1)
 
 -- bytes of it arrive at the port of the other end of the line on which it was sealed
-abbrev pub brought_to : Plan → LinkPacket → List ℕ → Arrival
+abbrev pub brought_to : Plan → LinkPacket → List ℕ → ArrivedBytes
 brought_to plan x bytes = arrival_at plan (partner x.port) bytes
 
 -- the whole packet arrives
-abbrev pub whole_arrival : Plan → LinkPacket → Option Arrival
+abbrev pub whole_arrival : Plan → LinkPacket → Option ArrivedBytes
 whole_arrival plan x = Some (brought_to plan x x.bytes)
 
-abbrev pub altered_to : Plan → ℕ → ℕ → LinkPacket → Option Arrival
+abbrev pub altered_to : Plan → ℕ → ℕ → LinkPacket → Option ArrivedBytes
 altered_to plan at mask x =
     if nat_lt at (length x.bytes)
     then Some (brought_to plan x (slice_set x.bytes at (bit_xor (slice_index x.bytes at) mask))) else None
 
-abbrev pub cut_short : Plan → ℕ → LinkPacket → Option Arrival
+abbrev pub cut_short : Plan → ℕ → LinkPacket → Option ArrivedBytes
 cut_short plan len x =
     if nat_le len (length x.bytes) then Some (brought_to plan x (take len x.bytes)) else None
 
@@ -388,18 +388,18 @@ all_rows_cleared plan [] rows = rows
 all_rows_cleared plan (e ∷ es) rows = all_rows_cleared plan es (rows_cleared plan e rows)
 
 -- the manager's operations on the lines of these ends
-abbrev pub op_when_cut : ℕ → StreamStage
-op_when_cut line = if is_between_devices line then Stopping 1 else Idle
+abbrev pub reset_op : ℕ → StreamStage
+reset_op line = if is_between_devices line then Stopping 1 else Idle
 
-abbrev pub all_cut : Plan → List PortName → List (List StreamStage) → List (List StreamStage)
-all_cut plan [] rows = rows
-all_cut plan (e ∷ es) rows =
-    all_cut plan es (slice_set rows e.line (map (λ (s : StreamPlan). op_when_cut e.line) (streams_of plan e.line)))
+abbrev pub all_ops_reset : Plan → List PortName → List (List StreamStage) → List (List StreamStage)
+all_ops_reset plan [] rows = rows
+all_ops_reset plan (e ∷ es) rows =
+    all_ops_reset plan es (slice_set rows e.line (map (λ (s : StreamPlan). reset_op e.line) (streams_of plan e.line)))
 
 -- the state after a reset that clears these ends
 abbrev pub reset_state : Plan → LinkState → List PortName → LinkState
 reset_state plan st ends =
-    record st { ports = all_rows_cleared plan ends st.ports; ops = all_cut plan ends st.ops }
+    record st { ports = all_rows_cleared plan ends st.ports; ops = all_ops_reset plan ends st.ops }
 
 -- the verdict of an event, and the state after it
 unfoldable pub step_of : Plan → BesidePorts → LinkState → Event → Stepped

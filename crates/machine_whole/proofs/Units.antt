@@ -23,7 +23,7 @@ use Rattle.spec_links.specs.Ports.{goes_through}
 use Rattle.spec_links.specs.Memory.{unit_ended}
 use Rattle.spec_links.proofs.Causes.{Came, Passed, AcceptedBy, accepted_by, unit_ending, packet_that_came}
 use Rattle.spec_links.proofs.Causes.{received_there, numbered}
-use Rattle.machine_operations.specs.{Taken, Insecure, NotKeyed, Failed, Held, Accepted, LinkState, find}
+use Rattle.machine_operations.specs.{PacketOutcome, Insecure, NotKeyed, Failed, Held, Accepted, LinkState, find}
 use Rattle.machine_operations.specs.{verdict_of_taken, whole_arrival, altered_to, cut_short, PortsStand}
 use Rattle.machine_operations.specs.{stream_state_due, state_due_if_planned, beside_at}
 use Rattle.machine_operations.proofs.{of_numbered, answer_is, packet_due, taken_at, Says, says}
@@ -75,7 +75,8 @@ due_accepted plan h e port unit effects by =
           (by.verified, by.counts) refl,
     )
 
-taken_unit : (plan : Plan) (h : History) (port : PortName) (p : Packet) (unit : UnitName) (es : List Effect) (t : Taken)
+taken_unit : (plan : Plan) (h : History) (port : PortName) (p : Packet) (unit : UnitName) (es : List Effect)
+    (t : PacketOutcome)
     → verdict_of_taken (beside_at plan h) port p t ≡ v.Accepted port unit es → Says plan h port p t → unit_taken t
     ≡ pending_packets plan h (receiving_sub_stream port p) unit.draw ++ p ∷ []
 taken_unit plan h port p unit es (Accepted j n u) is said =

@@ -29,13 +29,13 @@ use Rattle.law_reads.specs.Waiting.{waiting_next}
 -- of each link the reads that wait, the oldest first, and what happened to its device's memory, the newest first; of
 -- each interface, in the topology's order, the least draw that its device takes trusted writes under; and of each
 -- link's hop the TLPs that wait in a direction, the first first
-pub record Accesses : Type 0 where
+pub record AccessState : Type 0 where
   pub waiting : ℕ → List WaitingRead
   pub floors : List ℕ
   pub happened : ℕ → List Happened
   pub carried : ℕ → Direction → List HopTlp
 
-abbrev pub first_accesses : Plan → Accesses
+abbrev pub first_accesses : Plan → AccessState
 first_accesses plan =
     record {
       waiting = λ link. [];
@@ -83,7 +83,7 @@ floors_after e draw (x ∷ xs) (f ∷ fs) (g ∷ gs) (n ∷ ns) =
 floors_after e draw _ _ _ _ = []
 
 -- by the ports before the event
-abbrev pub accesses_after : Plan → LinkState → Faces → Faces → List Packet → Event → Verdict → Accesses → Accesses
+abbrev pub accesses_after : Plan → LinkState → Faces → Faces → List Packet → Event → Verdict → AccessState → AccessState
 accesses_after plan st before after ps e w a = record {
   waiting = λ link. waiting_reads_after plan ps e w link (a.waiting link);
   floors = floors_after e (device_draw_at plan st) (sites plan) before.list after.list a.floors;

@@ -2,7 +2,8 @@
 use Rattle.std.specs.Prelude.{ℕ, ◌+◌, ◌==◌, ◌&&◌, ◌||◌, ◌∷◌, Bool, false, not, if◌then◌else◌, List, [], map, Option}
 use Rattle.std.specs.Prelude.{Some, None}
 use Rattle.spec_interfaces.specs.Terms.{list_any, option_and_then, option_map_or, StreamStatus, Plan, Event}
-use Rattle.spec_interfaces.specs.Terms.{InterfaceEvent, Verdict, StreamStage, Tdi, new_tdi, PortName, binds, Binding}
+use Rattle.spec_interfaces.specs.Terms.{InterfaceEvent, Verdict, StreamStage, DeviceTdi, new_device_interface, PortName}
+use Rattle.spec_interfaces.specs.Terms.{binds, Binding}
 use Rattle.spec_interfaces.specs.Peers.{live_by_id, any_leaves}
 use Rattle.spec_interfaces.specs.Sites.{Site, sites, nonce_behind}
 use Rattle.spec_interfaces.specs.Views.{Managed, new_managed, managed_after, number_in, bound_if}
@@ -14,7 +15,7 @@ use Rattle.event_verdicts.specs.declared.verdict.Verdict.TheVariants as v
 
 -- of an interface: at its device, and at the manager
 pub record Face : Type 0 where
-  pub tdi : Tdi
+  pub tdi : DeviceTdi
   pub managed : Managed
 
 -- of all interfaces, in the topology's order; and how many nonces the device of each link gave
@@ -23,7 +24,7 @@ pub record Faces : Type 0 where
   pub used : ℕ → ℕ
 
 abbrev pub new_face : Site → Face
-new_face x = record { tdi = new_tdi x.plan; managed = new_managed }
+new_face x = record { tdi = new_device_interface x.plan; managed = new_managed }
 
 abbrev pub new_faces : Plan → Faces
 new_faces plan = record { list = map new_face (sites plan); used = λ link. 0 }
@@ -71,7 +72,7 @@ abbrev pub ends_of_streams : Streams → EndsRead
 ends_of_streams s = record { secure = s.secure; live = s.live }
 
 -- a stream that an interface is bound to is Secure at the device by the one reading, and not by the other
-abbrev pub left_by : Plan → Streams → EndsRead → Site → Tdi → Bool
+abbrev pub left_by : Plan → Streams → EndsRead → Site → DeviceTdi → Bool
 left_by plan s after x tdi =
     (s.secure x.link x.plan.stream && not (after.secure x.link x.plan.stream))
     || any_leaves (live_by_id s.live plan.peers x.link) (live_by_id after.live plan.peers x.link) tdi.bindings

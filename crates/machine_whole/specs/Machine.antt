@@ -18,12 +18,13 @@ use Rattle.spec_interfaces.specs.Devices.{is_secure}
 use Rattle.spec_interfaces.specs.Cause.{is_peer, owner_id, owners_link}
 use Rattle.machine_whole.specs.Interfaces.{Faces, new_faces, Streams, EndsRead, faces_after, interface_answer, t_of}
 use Rattle.machine_whole.specs.Interfaces.{peer_t_of, grant_of}
-use Rattle.machine_operations.specs.{forward_of, StreamState, Taken, Accepted, stream_outcome, BesidePorts, LinkState}
+use Rattle.machine_operations.specs.{forward_of, StreamState, PacketOutcome, Accepted, stream_outcome, BesidePorts}
+use Rattle.machine_operations.specs.{LinkState}
 use Rattle.machine_operations.specs.{find, find_op, machine_status, step_of, first_state, whole_arrival, altered_to}
 use Rattle.machine_operations.specs.{cut_short, packet_numbered, BoundCompletion, link_completion}
 use Rattle.spec_links.specs.Memory.{Policy, effects_under_policy, admitted_writes, shown_if}
 use Rattle.spec_links.specs.Guarded.{mmio_by}
-use Rattle.spec_links.specs.History.{Arrival}
+use Rattle.spec_links.specs.History.{ArrivedBytes}
 use Rattle.spec_links.specs.Plan.{has_port, aggregation_of, is_closed}
 use Rattle.spec_links.specs.Ports.{port_of, at_switch}
 use Rattle.spec_links.specs.Packets.{arrival_at}
@@ -37,7 +38,7 @@ use Rattle.script_events.specs.declared.event.InterfaceEvent.TheVariants as ie
 use Rattle.spec_interfaces.specs.Sites.{sites}
 use Rattle.spec_links.specs.{WaitingRead}
 unfoldable use Rattle.spec_links.specs.{completion_bytes}
-use Rattle.machine_whole.specs.Accesses.{Accesses, first_accesses, face_statuses, posted_draw_at, accesses_after}
+use Rattle.machine_whole.specs.Accesses.{AccessState, first_accesses, face_statuses, posted_draw_at, accesses_after}
 
 -- ---- what is kept
 
@@ -48,7 +49,7 @@ pub record Whole : Type 0 where
   pub faces : Faces
   pub draw : ℕ → ℕ → ℕ
   pub written : List Write
-  pub accesses : Accesses
+  pub accesses : AccessState
 
 abbrev pub new_whole : Plan → Whole
 new_whole plan = record {
@@ -109,7 +110,7 @@ memory_shown plan written (ie.Memory at len) =
 memory_shown plan written e = v.Nothing
 
 -- what an event brings
-abbrev pub arrival_of : Plan → LinkState → Event → Option Arrival
+abbrev pub arrival_of : Plan → LinkState → Event → Option ArrivedBytes
 arrival_of plan st (event.Pass n) = option_and_then (whole_arrival plan) (packet_numbered st.packets n)
 arrival_of plan st (event.Alter n at mask) = option_and_then (altered_to plan at mask) (packet_numbered st.packets n)
 arrival_of plan st (event.Cut n len) = option_and_then (cut_short plan len) (packet_numbered st.packets n)
@@ -117,7 +118,7 @@ arrival_of plan st (event.Arrive port bytes) =
     if has_port plan port then Some (arrival_at plan port bytes) else None
 arrival_of plan st e = None
 
-abbrev pub unit_taken : Taken → List Packet
+abbrev pub unit_taken : PacketOutcome → List Packet
 unit_taken (Accepted j n unit) = unit
 unit_taken _ = []
 
@@ -132,7 +133,7 @@ unit_cut plan st port (Ok (IdePacket p)) = unit_found plan port p (find plan st 
 unit_cut plan st port _ = []
 
 -- the unit that it ends
-abbrev pub unit_in : Plan → LinkState → Option Arrival → List Packet
+abbrev pub unit_in : Plan → LinkState → Option ArrivedBytes → List Packet
 unit_in plan st None = []
 unit_in plan st (Some a) = unit_cut plan st a.port (cut_of a.bytes)
 

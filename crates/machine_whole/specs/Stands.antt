@@ -10,12 +10,12 @@ use Rattle.spec_links.specs.Memory.{writes, waiting_reads, hop_waiting}
 use Rattle.spec_links.specs.Guarded.{link_happenings}
 use Rattle.spec_interfaces.specs.Sites.{sites}
 use Rattle.spec_interfaces.specs.Floors.{device_floor}
-use Rattle.machine_whole.specs.Accesses.{Accesses}
+use Rattle.machine_whole.specs.Accesses.{AccessState}
 use Rattle.spec_links.specs.Due.{due}
 use Rattle.machine_operations.specs.{PortsStandFor}
 use Rattle.machine_whole.specs.Machine.{Whole, new_whole, whole_step}
 
-pub record AccessesStandFor (plan : Plan) (a : Accesses) (h : History) : Type 0 where
+pub record AccessesStandFor (plan : Plan) (a : AccessState) (h : History) : Type 0 where
   pub waiting : (link : ℕ) → a.waiting link ≡ waiting_reads plan h link
   pub floors : a.floors ≡ map (device_floor plan h) (sites plan)
   pub happened : (link : ℕ) → a.happened link ≡ link_happenings plan h link

@@ -227,7 +227,7 @@ fn some_event(alloc: Global, first: &[u8], rest: &[&[u8]]) -> Result<Option<Scri
     }
 }
 
-fn event_of(alloc: Global, words: &[&[u8]]) -> Result<Option<ScriptEvent>, LineError>
+fn event_or_none(alloc: Global, words: &[&[u8]]) -> Result<Option<ScriptEvent>, LineError>
     ensures gives { IsLineAnswer (event_in (map (λ w. w.now) words.now)) result }
     ensures exact { begins_bytes (map (λ w. w.now) words.now) ≡ false
         → result ≡ line_answer (event_in (map (λ w. w.now) words.now)) }
@@ -239,12 +239,12 @@ fn event_of(alloc: Global, words: &[&[u8]]) -> Result<Option<ScriptEvent>, LineE
 }
 
 // The event that the words of a line spell.
-fn event_on(alloc: Global, line: &[u8]) -> Result<Option<ScriptEvent>, LineError>
+fn spelled_event(alloc: Global, line: &[u8]) -> Result<Option<ScriptEvent>, LineError>
     ensures gives { IsLineAnswer (event_in (words_in line.now)) result }
     ensures exact { begins_bytes (words_in line.now) ≡ false → result ≡ line_answer (event_in (words_in line.now)) }
 {
     let words = words_of(line);
-    event_of(alloc, words.as_slice())
+    event_or_none(alloc, words.as_slice())
 }
 
 // The event that a line spells, or its fault.
@@ -261,7 +261,7 @@ fn event_in_line(alloc: Global, line: &[u8]) -> Result<Option<ScriptEvent>, Line
     if !is_printed(line) {
         return Err(LineError::Fault(LineFault::NotAscii));
     }
-    event_on(alloc, line)
+    spelled_event(alloc, line)
 }
 
 /// The event that a line without its line feed spells, `None` on a line of spaces and on one that begins with `#`, or

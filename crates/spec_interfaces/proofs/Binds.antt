@@ -14,7 +14,7 @@ use Rattle.interface_state.specs.declared.states.TdiState.{TdiState}
 use Rattle.interface_state.specs.declared.states.TdiState.TheVariants.{ConfigUnlocked, ConfigLocked}
 use Rattle.interface_state.specs.declared.states.Lock.{Lock}
 use Rattle.interface_state.specs.Bindings.{binds, without, is_binding_on}
-use Rattle.interface_state.specs.Machine.{Tdi, Call, tdi_after, is_locked}
+use Rattle.interface_state.specs.Machine.{DeviceTdi, Call, interface_after_call, is_locked}
 use Rattle.interface_state.specs.Machine.{bind_answer, interface_after_bind, unbind_answer, unbound_with}
 use Rattle.interface_state.specs.Machine.{lock_answer, interface_after_lock, new_lock, lock_flags, bindings_after}
 use Rattle.interface_state.specs.Machine.{after_start, after_change, after_failure, firmware_updated}
@@ -38,7 +38,7 @@ ended_or : (live : ℕ → Option ℕ) (b : Bool) (bs : List Binding) → AreLiv
 ended_or live true bs are = no_binding live [] refl
 ended_or live false bs are = are
 
-left_live : (live : ℕ → Option ℕ) (tdi : Tdi) (next : TdiState) → AreLive live tdi.bindings
+left_live : (live : ℕ → Option ℕ) (tdi : DeviceTdi) (next : TdiState) → AreLive live tdi.bindings
     → AreLive live (bindings_after tdi next)
 left_live live tdi next are = ended_or live (not (is_locked next) && is_locked tdi.state) tdi.bindings are
 
@@ -71,12 +71,12 @@ bound_without stream other (b ∷ bs) is =
     filtered_by stream (not (is_binding_on other b)) b bs (without other bs) (bound_without stream other bs) is
 
 -- a bind is accepted only if the stream is Secure
-answer_live : (tdi : Tdi) (stream draw : ℕ) (live : Option ℕ) → bind_answer tdi stream live ≡ Ok draw
+answer_live : (tdi : DeviceTdi) (stream draw : ℕ) (live : Option ℕ) → bind_answer tdi stream live ≡ Ok draw
     → is_some live ≡ true
 answer_live tdi stream draw None is = grind arith
 answer_live tdi stream draw (Some floor) is = refl
 
-bind_live : (live : ℕ → Option ℕ) (tdi : Tdi) (stream : ℕ) (answer : Result ℕ ℕ)
+bind_live : (live : ℕ → Option ℕ) (tdi : DeviceTdi) (stream : ℕ) (answer : Result ℕ ℕ)
     → ((draw : ℕ) → answer ≡ Ok draw → is_some (live stream) ≡ true) → AreLive live tdi.bindings
     → AreLive live (interface_after_bind tdi stream answer).bindings
 bind_live live tdi stream (Err code) given are s is = are s is
@@ -84,12 +84,12 @@ bind_live live tdi stream (Ok draw) given are s is =
     ⊎_elim (are s) (λ here. ap (λ n. is_some (live n)) (sym (eqb-true stream s here)) ∙ given draw refl)
     (bound_either s tdi.bindings (record { stream = stream; floor = draw }) is)
 
-unbind_live : (live : ℕ → Option ℕ) (tdi : Tdi) (stream : ℕ) (answer : Result (Unit {0}) ℕ)
+unbind_live : (live : ℕ → Option ℕ) (tdi : DeviceTdi) (stream : ℕ) (answer : Result (Unit {0}) ℕ)
     → AreLive live tdi.bindings → AreLive live (unbound_with tdi stream answer).bindings
 unbind_live live tdi stream (Err code) are s is = are s is
 unbind_live live tdi stream (Ok done) are s is = are s (bound_without s stream tdi.bindings is)
 
-lock_live : (live : ℕ → Option ℕ) (tdi : Tdi) (lock : Lock) (answer : Result (List ℕ) ℕ)
+lock_live : (live : ℕ → Option ℕ) (tdi : DeviceTdi) (lock : Lock) (answer : Result (List ℕ) ℕ)
     → AreLive live tdi.bindings → AreLive live (interface_after_lock tdi lock answer).bindings
 lock_live live tdi lock (Err code) are = are
 lock_live live tdi lock (Ok nonce) are = left_live live tdi (ConfigLocked lock nonce) are
@@ -99,8 +99,8 @@ abbrev FitsCall : (ℕ → Option ℕ) → Call → Type 0
 FitsCall live (call.BindStream stream said) = said ≡ live stream
 FitsCall live c = Unit {0}
 
-called_live : (live : ℕ → Option ℕ) (tdi : Tdi) (c : Call) → FitsCall live c → AreLive live tdi.bindings
-    → AreLive live (tdi_after tdi c).bindings
+called_live : (live : ℕ → Option ℕ) (tdi : DeviceTdi) (c : Call) → FitsCall live c → AreLive live tdi.bindings
+    → AreLive live (interface_after_call tdi c).bindings
 called_live live tdi (call.LockInterface flags stream offset secure drawn) fits are =
     lock_live live tdi (new_lock tdi flags stream offset) (lock_answer tdi flags offset secure drawn) are
 called_live live tdi (call.StartInterface nonce) fits are = left_live live tdi (after_start tdi.state nonce) are
@@ -120,12 +120,12 @@ called_live live tdi call.LinkReset fits are = no_binding live [] refl
 
 -- ---- an event on an interface
 
-called_if : (live : ℕ → Option ℕ) (b : Bool) (c : Call) (tdi : Tdi) → FitsCall live c → AreLive live tdi.bindings
+called_if : (live : ℕ → Option ℕ) (b : Bool) (c : Call) (tdi : DeviceTdi) → FitsCall live c → AreLive live tdi.bindings
     → AreLive live (interface_if_called b c tdi).bindings
 called_if live true c tdi fits are = called_live live tdi c fits are
 called_if live false c tdi fits are = are
 
-asked_live : (live : ℕ → Option ℕ) (a : Around) (x : Site) (e : InterfaceEvent) (w : Verdict) (tdi : Tdi)
+asked_live : (live : ℕ → Option ℕ) (a : Around) (x : Site) (e : InterfaceEvent) (w : Verdict) (tdi : DeviceTdi)
     → a.live ≡ live → AreLive live tdi.bindings → AreLive live (interface_asked a x e w tdi).bindings
 asked_live live a x (ie.Lock i loss) w tdi says are = called_if live (carries w 3) (lock_call a x) tdi tt are
 asked_live live a x (ie.Start i loss) w tdi says are =
@@ -145,7 +145,8 @@ asked_live live a x (ie.State i loss) w tdi says are = are
 asked_live live a x (ie.View i) w tdi says are = are
 asked_live live a x (ie.Memory at len) w tdi says are = are
 
-pub next_live : (live : ℕ → Option ℕ) (b : Bool) (a : Around) (x : Site) (e : InterfaceEvent) (w : Verdict) (tdi : Tdi)
+pub next_live : (live : ℕ → Option ℕ) (b : Bool) (a : Around) (x : Site) (e : InterfaceEvent) (w : Verdict)
+    (tdi : DeviceTdi)
     → a.live ≡ live → AreLive live tdi.bindings → AreLive live (if b then interface_asked a x e w tdi else tdi).bindings
 next_live live true a x e w tdi says are = asked_live live a x e w tdi says are
 next_live live false a x e w tdi says are = are
@@ -153,12 +154,13 @@ next_live live false a x e w tdi says are = are
 -- ---- the lock
 
 -- a lock is accepted only if the stream is Secure
-given_secure : (tdi : Tdi) (flags offset : ℕ) (secure : Bool) (drawn : Option (List ℕ))
+given_secure : (tdi : DeviceTdi) (flags offset : ℕ) (secure : Bool) (drawn : Option (List ℕ))
     → is_ok (lock_answer tdi flags offset secure drawn) ≡ true → secure ≡ true
 given_secure tdi flags offset true drawn is = refl
 given_secure tdi flags offset false drawn is = grind arith
 
-pub accepts_secure : (a : Around) (x : Site) (e : Event) (w : Verdict) (tdi : Tdi) → accepts_lock a x e w tdi ≡ true
+pub accepts_secure : (a : Around) (x : Site) (e : Event) (w : Verdict) (tdi : DeviceTdi) → accepts_lock a x e w tdi
+    ≡ true
     → a.secure ≡ true
 accepts_secure a x (event.Interface (ie.Lock i loss)) w tdi is =
     let given = is_ok (lock_answer tdi x.plan.flags x.plan.offset a.secure a.drawn) in

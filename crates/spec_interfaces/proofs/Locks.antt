@@ -3,9 +3,11 @@ use Rattle.std.proofs.Common.{◌≡◌, ℕ, ◌==◌, ◌&&◌, ◌||◌, ◌�
 use Rattle.std.proofs.Common.{Ok, Err, if◌then◌else◌, refl, sym, ap, ◌∙◌, arith}
 use Rattle.std.proofs.lemmas.Bool.Decides.{nat_tests}
 use Rattle.std.specs.Prelude.{is_ok}
-use Rattle.spec_interfaces.specs.Terms.{Plan, Event, InterfaceEvent, Verdict, History, Registers, Lock, Tdi, lock_of}
+use Rattle.spec_interfaces.specs.Terms.{Plan, Event, InterfaceEvent, Verdict, History, Registers, Lock, DeviceTdi}
+use Rattle.spec_interfaces.specs.Terms.{lock_of}
 use Rattle.spec_interfaces.specs.Terms.{lock_answer, Call, LockInterface, StartInterface, StopInterface, WriteRegister}
-use Rattle.spec_interfaces.specs.Terms.{LevelReset, FirmwareUpdate, StreamLeft, LinkReset, tdi_after, BindStream}
+use Rattle.spec_interfaces.specs.Terms.{LevelReset, FirmwareUpdate, StreamLeft, LinkReset, interface_after_call}
+use Rattle.spec_interfaces.specs.Terms.{BindStream}
 use Rattle.spec_interfaces.specs.Terms.{UnbindStream, TdiState, bind_answer, unbind_answer}
 use Rattle.interface_state.specs.Machine.{new_lock, interface_after_lock, interface_after_bind, unbound_with}
 use Rattle.interface_state.specs.Machine.{KeepsListed}
@@ -29,7 +31,8 @@ is_lock (LockInterface flags stream offset secure drawn) = true
 is_lock _ = false
 
 -- no call but LOCK_INTERFACE makes a lock
-after_stood : (tdi : Tdi) (c : Call) (l : Lock) → is_lock c ≡ false → lock_of (tdi_after tdi c).state ≡ Some l
+after_stood : (tdi : DeviceTdi) (c : Call) (l : Lock) → is_lock c ≡ false → lock_of (interface_after_call tdi c).state
+    ≡ Some l
     → lock_of tdi.state ≡ Some l
 after_stood tdi (BindStream stream live) l other is =
     sym (ap (λ (s : TdiState). lock_of s) (bound_state tdi stream (bind_answer tdi stream live))) ∙ is
@@ -37,20 +40,21 @@ after_stood tdi (UnbindStream stream) l other is =
     sym (ap (λ (s : TdiState). lock_of s) (unbound_state tdi stream (unbind_answer tdi stream))) ∙ is
 after_stood tdi c l other is = grind (arith, nat_tests)
 
-locked_layout : (tdi : Tdi) (new : Lock) (answer : Result (List ℕ) ℕ) → (interface_after_lock tdi new answer).plan
+locked_layout : (tdi : DeviceTdi) (new : Lock) (answer : Result (List ℕ) ℕ) → (interface_after_lock tdi new answer).plan
     ≡ tdi.plan
 locked_layout tdi new answer = grind arith
 
-bound_layout : (tdi : Tdi) (stream : ℕ) (answer : Result ℕ ℕ) → (interface_after_bind tdi stream answer).plan ≡ tdi.plan
+bound_layout : (tdi : DeviceTdi) (stream : ℕ) (answer : Result ℕ ℕ) → (interface_after_bind tdi stream answer).plan
+    ≡ tdi.plan
 bound_layout tdi stream (Ok draw) = refl
 bound_layout tdi stream (Err code) = refl
 
-unbound_layout : (tdi : Tdi) (stream : ℕ) (answer : Result (Unit {0}) ℕ)
+unbound_layout : (tdi : DeviceTdi) (stream : ℕ) (answer : Result (Unit {0}) ℕ)
     → (unbound_with tdi stream answer).plan ≡ tdi.plan
 unbound_layout tdi stream (Ok done) = refl
 unbound_layout tdi stream (Err code) = refl
 
-after_layout : (tdi : Tdi) (c : Call) → (tdi_after tdi c).plan ≡ tdi.plan
+after_layout : (tdi : DeviceTdi) (c : Call) → (interface_after_call tdi c).plan ≡ tdi.plan
 after_layout tdi (LockInterface flags stream offset secure drawn) = locked_layout tdi (new_lock tdi flags stream offset)
     (lock_answer tdi flags offset secure drawn)
 after_layout tdi (StartInterface nonce) = refl
@@ -63,16 +67,16 @@ after_layout tdi FirmwareUpdate = refl
 after_layout tdi StreamLeft = refl
 after_layout tdi LinkReset = refl
 
-called_stood : (b : Bool) (c : Call) (tdi : Tdi) (l : Lock) → is_lock c ≡ false
+called_stood : (b : Bool) (c : Call) (tdi : DeviceTdi) (l : Lock) → is_lock c ≡ false
     → lock_of (interface_if_called b c tdi).state ≡ Some l → lock_of tdi.state ≡ Some l
 called_stood true c tdi l other is = after_stood tdi c l other is
 called_stood false c tdi l other is = is
 
-called_layout : (b : Bool) (c : Call) (tdi : Tdi) → (interface_if_called b c tdi).plan ≡ tdi.plan
+called_layout : (b : Bool) (c : Call) (tdi : DeviceTdi) → (interface_if_called b c tdi).plan ≡ tdi.plan
 called_layout true c tdi = after_layout tdi c
 called_layout false c tdi = refl
 
-called_listed : (b : Bool) (c : Call) (tdi : Tdi) → KeepsListed tdi.registers tdi.state
+called_listed : (b : Bool) (c : Call) (tdi : DeviceTdi) → KeepsListed tdi.registers tdi.state
     → KeepsListed (interface_if_called b c tdi).registers (interface_if_called b c tdi).state
 called_listed true c tdi keeps = listed_is_kept tdi c keeps
 called_listed false c tdi keeps = keeps
@@ -80,14 +84,15 @@ called_listed false c tdi keeps = keeps
 -- ---- what a pair leaves
 
 -- P of what the pair leaves, if each call keeps it
-abbrev Keeps : (Tdi → Type 0) → Type 0
-Keeps P = (b : Bool) (c : Call) (tdi : Tdi) → P tdi → P (interface_if_called b c tdi)
+abbrev Keeps : (DeviceTdi → Type 0) → Type 0
+Keeps P = (b : Bool) (c : Call) (tdi : DeviceTdi) → P tdi → P (interface_if_called b c tdi)
 
-if_keeps : (P : Tdi → Type 0) (b : Bool) (s t : Tdi) → P s → P t → P (if b then s else t)
+if_keeps : (P : DeviceTdi → Type 0) (b : Bool) (s t : DeviceTdi) → P s → P t → P (if b then s else t)
 if_keeps P true s t one two = one
 if_keeps P false s t one two = two
 
-asked_keeps : (P : Tdi → Type 0) → Keeps P → (a : Around) (x : Site) (e : InterfaceEvent) (w : Verdict) (tdi : Tdi)
+asked_keeps : (P : DeviceTdi → Type 0) → Keeps P → (a : Around) (x : Site) (e : InterfaceEvent) (w : Verdict)
+    (tdi : DeviceTdi)
     → P tdi → P (interface_asked a x e w tdi)
 asked_keeps P keeps a x (ie.Lock i loss) w tdi p = keeps (carries w 3) (lock_call a x) tdi p
 asked_keeps P keeps a x (ie.Start i loss) w tdi p = keeps (carries w 1) (StartInterface a.nonce) tdi p
@@ -101,8 +106,8 @@ asked_keeps P keeps a x (ie.Flr i) w tdi p = keeps (changes_device w) LevelReset
 asked_keeps P keeps a x (ie.Firmware i) w tdi p = keeps (changes_device w) FirmwareUpdate tdi p
 asked_keeps P keeps a x e w tdi p = p
 
-pub next_keeps : (P : Tdi → Type 0) → Keeps P
-    → (a : Around) (left : Bool) (x : Site) (e : Event) (w : Verdict) (tdi : Tdi) → P tdi
+pub next_keeps : (P : DeviceTdi → Type 0) → Keeps P
+    → (a : Around) (left : Bool) (x : Site) (e : Event) (w : Verdict) (tdi : DeviceTdi) → P tdi
     → P (next_interface a left x e w tdi)
 next_keeps P keeps a left x (event.Interface e) w tdi p =
     if_keeps P (is_number (number_in e) x.number) (interface_asked a x e w tdi) tdi (asked_keeps P keeps a x e w tdi p)
@@ -114,17 +119,17 @@ next_keeps P keeps a left x e w tdi p = keeps left StreamLeft tdi p
 -- ---- locks
 
 -- the lock that stands after a pair stood before it, or was made by it
-abbrev pub Made : Around → Site → Event → Verdict → Tdi → Lock → Type 0
+abbrev pub Made : Around → Site → Event → Verdict → DeviceTdi → Lock → Type 0
 Made a x e w tdi l = ((lock_of tdi.state ≡ Some l) × (accepts_lock a x e w tdi ≡ false))
     ⊎ ((accepts_lock a x e w tdi ≡ true) × (l ≡ new_lock tdi x.plan.flags x.plan.stream x.plan.offset))
 
-given_made : (tdi : Tdi) (new l : Lock) (answer : Result (List ℕ) ℕ)
+given_made : (tdi : DeviceTdi) (new l : Lock) (answer : Result (List ℕ) ℕ)
     → lock_of (interface_after_lock tdi new answer).state ≡ Some l
     → ((lock_of tdi.state ≡ Some l) × (is_ok answer ≡ false)) ⊎ ((is_ok answer ≡ true) × (l ≡ new))
 given_made tdi new l (Ok nonce) is = inr (refl, grind arith)
 given_made tdi new l (Err code) is = inl (is, refl)
 
-lock_made : (a : Around) (x : Site) (b c : Bool) (tdi : Tdi) (l : Lock)
+lock_made : (a : Around) (x : Site) (b c : Bool) (tdi : DeviceTdi) (l : Lock)
     → lock_of (if b then interface_if_called c (lock_call a x) tdi else tdi).state ≡ Some l
     → let accepts = b && c && is_ok (lock_answer tdi x.plan.flags x.plan.offset a.secure a.drawn) in
     ((lock_of tdi.state ≡ Some l) × (accepts ≡ false)) ⊎
@@ -135,7 +140,7 @@ lock_made a x true true tdi l is =
     given_made tdi (new_lock tdi x.plan.flags x.plan.stream x.plan.offset) l
     (lock_answer tdi x.plan.flags x.plan.offset a.secure a.drawn) is
 
-if_stood : (b : Bool) (s t : Tdi) (l : Lock) → (lock_of s.state ≡ Some l → lock_of t.state ≡ Some l)
+if_stood : (b : Bool) (s t : DeviceTdi) (l : Lock) → (lock_of s.state ≡ Some l → lock_of t.state ≡ Some l)
     → lock_of (if b then s else t).state ≡ Some l → lock_of t.state ≡ Some l
 if_stood true s t l stood is = stood is
 if_stood false s t l stood is = is
@@ -143,7 +148,7 @@ if_stood false s t l stood is = is
 reset_locks_none : (own : Bool) → is_lock (reset_call own) ≡ false
 reset_locks_none own = grind arith
 
-pub next_made : (a : Around) (left : Bool) (x : Site) (e : Event) (w : Verdict) (tdi : Tdi) (l : Lock)
+pub next_made : (a : Around) (left : Bool) (x : Site) (e : Event) (w : Verdict) (tdi : DeviceTdi) (l : Lock)
     → lock_of (next_interface a left x e w tdi).state ≡ Some l → Made a x e w tdi l
 next_made a left x (event.Interface (ie.Lock i loss)) w tdi l is = lock_made a x (i == x.number) (carries w 3) tdi l is
 next_made a left x (event.Interface (ie.Start i loss)) w tdi l is =
@@ -195,7 +200,7 @@ listed_at plan ((e, w) ∷ h) x =
     (interface_at plan h x)) x e w
     (interface_at plan h x) (listed_at plan h x)
 
-called_bound : (b : Bool) (c : Call) (tdi : Tdi) → IsBound tdi.state tdi.bindings
+called_bound : (b : Bool) (c : Call) (tdi : DeviceTdi) → IsBound tdi.state tdi.bindings
     → IsBound (interface_if_called b c tdi).state (interface_if_called b c tdi).bindings
 called_bound true c tdi is = bindings_end.later tdi c is
 called_bound false c tdi is = is

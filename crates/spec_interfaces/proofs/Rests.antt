@@ -2,9 +2,11 @@
 use Rattle.std.proofs.Common.{◌≡◌, ℕ, ◌==◌, ◌&&◌, ◌||◌, ◌∷◌, Bool, true, false, List, Result, Ok, Err, if◌then◌else◌}
 use Rattle.std.proofs.Common.{refl, ap, ◌∙◌, arith}
 use Rattle.std.proofs.lemmas.Bool.Decides.{nat_tests}
-use Rattle.spec_interfaces.specs.Terms.{Plan, Event, Verdict, History, Lock, Tdi, lock_answer, Call, LockInterface}
+use Rattle.spec_interfaces.specs.Terms.{Plan, Event, Verdict, History, Lock, DeviceTdi, lock_answer, Call}
+use Rattle.spec_interfaces.specs.Terms.{LockInterface}
 use Rattle.spec_interfaces.specs.Terms.{StartInterface, StopInterface, WriteRegister, LevelReset, FirmwareUpdate}
-use Rattle.spec_interfaces.specs.Terms.{StreamLeft, BindStream, UnbindStream, tdi_after, bind_answer, unbind_answer}
+use Rattle.spec_interfaces.specs.Terms.{StreamLeft, BindStream, UnbindStream, interface_after_call, bind_answer}
+use Rattle.spec_interfaces.specs.Terms.{unbind_answer}
 use Rattle.interface_state.proofs.Bound.{bound_state, unbound_state}
 use Rattle.interface_state.specs.Machine.{new_lock, interface_after_lock}
 use Rattle.spec_interfaces.specs.Sites.{Site}
@@ -23,13 +25,13 @@ abbrev pub is_start : Call → Bool
 is_start (StartInterface nonce) = true
 is_start _ = false
 
-locked_rests : (tdi : Tdi) (new : Lock) (answer : Result (List ℕ) ℕ) → is_run tdi.state ≡ false
+locked_rests : (tdi : DeviceTdi) (new : Lock) (answer : Result (List ℕ) ℕ) → is_run tdi.state ≡ false
     → is_run (interface_after_lock tdi new answer).state ≡ false
 locked_rests tdi new (Ok nonce) rests = refl
 locked_rests tdi new (Err code) rests = rests
 
-pub after_rests : (tdi : Tdi) (c : Call) → is_start c ≡ false → is_run tdi.state ≡ false
-    → is_run (tdi_after tdi c).state ≡ false
+pub after_rests : (tdi : DeviceTdi) (c : Call) → is_start c ≡ false → is_run tdi.state ≡ false
+    → is_run (interface_after_call tdi c).state ≡ false
 after_rests tdi (LockInterface flags stream offset secure drawn) other rests =
     locked_rests tdi (new_lock tdi flags stream offset) (lock_answer tdi flags offset secure drawn) rests
 after_rests tdi (BindStream stream live) other rests =
@@ -38,7 +40,7 @@ after_rests tdi (UnbindStream stream) other rests =
     ap is_run (unbound_state tdi stream (unbind_answer tdi stream)) ∙ rests
 after_rests tdi c other rests = grind (arith, nat_tests)
 
-called_rests : (b : Bool) (c : Call) (tdi : Tdi) → is_start c ≡ false → is_run tdi.state ≡ false
+called_rests : (b : Bool) (c : Call) (tdi : DeviceTdi) → is_start c ≡ false → is_run tdi.state ≡ false
     → is_run (interface_if_called b c tdi).state ≡ false
 called_rests true c tdi other rests = after_rests tdi c other rests
 called_rests false c tdi other rests = rests
@@ -48,12 +50,13 @@ abbrev pub starts : Site → Event → Verdict → Bool
 starts x (event.Interface (ie.Start i loss)) w = (i == x.number) && carries w 1
 starts x e w = false
 
-if_rests : (b : Bool) (s t : Tdi) → is_run s.state ≡ false → is_run t.state ≡ false → is_run (if b then s else t).state
+if_rests : (b : Bool) (s t : DeviceTdi) → is_run s.state ≡ false → is_run t.state ≡ false
+    → is_run (if b then s else t).state
     ≡ false
 if_rests true s t one two = one
 if_rests false s t one two = two
 
-start_rests : (b c : Bool) (call : Call) (tdi : Tdi) → (b && c) ≡ false → is_run tdi.state ≡ false
+start_rests : (b c : Bool) (call : Call) (tdi : DeviceTdi) → (b && c) ≡ false → is_run tdi.state ≡ false
     → is_run (if b then interface_if_called c call tdi else tdi).state ≡ false
 start_rests false c call tdi none rests = rests
 start_rests true false call tdi none rests = rests
@@ -62,7 +65,7 @@ start_rests true true call tdi none rests = absurd cc
 pub reset_starts_none : (own : Bool) → is_start (reset_call own) ≡ false
 reset_starts_none own = grind arith
 
-next_rests : (a : Around) (left : Bool) (x : Site) (e : Event) (w : Verdict) (tdi : Tdi) → starts x e w ≡ false
+next_rests : (a : Around) (left : Bool) (x : Site) (e : Event) (w : Verdict) (tdi : DeviceTdi) → starts x e w ≡ false
     → is_run tdi.state ≡ false → is_run (next_interface a left x e w tdi).state ≡ false
 next_rests a left x (event.Interface (ie.Lock i loss)) w tdi none rests = if_rests (i == x.number) _ tdi
     (called_rests (carries w 3) (lock_call a x) tdi refl rests) rests
@@ -104,7 +107,7 @@ locks_it x e w = false
 not_given : (b c d : Bool) → (b && c) ≡ false → (b && c && d) ≡ false
 not_given b c d none = grind arith
 
-pub not_accepted : (a : Around) (x : Site) (e : Event) (w : Verdict) (tdi : Tdi) → locks_it x e w ≡ false
+pub not_accepted : (a : Around) (x : Site) (e : Event) (w : Verdict) (tdi : DeviceTdi) → locks_it x e w ≡ false
     → accepts_lock a x e w tdi ≡ false
 not_accepted a x (event.Interface (ie.Lock i loss)) w tdi none = not_given (i == x.number) (carries w 3) _ none
 not_accepted a x (event.Interface e) w tdi none = refl

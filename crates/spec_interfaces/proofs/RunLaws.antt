@@ -153,10 +153,10 @@ shown_at plan h (event.Interface (ie.Firmware i)) w cause = λ x at. firmware_sh
 shown_at plan h (event.Interface e) w cause = tt
 shown_at plan h e w cause = tt
 
-pub run_law : InterfaceRunLawHolds
-run_law plan [] cause = tt
-run_law plan ((e, w) ∷ h) cause = (
+pub interface_run_law : InterfaceRunLawHolds
+interface_run_law plan [] cause = tt
+interface_run_law plan ((e, w) ∷ h) cause = (
   λ i x at. keeps_reported plan ((e, w) ∷ h) x,
   shown_at plan h e w cause.0,
-  run_law plan h cause.1,
+  interface_run_law plan h cause.1,
 )

@@ -15,7 +15,8 @@ use Rattle.tlp_layout.specs.Reading.{read_of}
 use Rattle.spec_keys.specs.Laws.{KeyCauseLaw}
 use Rattle.spec_keys.specs.Places.{KeyPlan, KeyPlace}
 use Rattle.spec_keys.specs.Keys.{Touch, Seal}
-use Rattle.spec_keys.specs.Operations.{Manager, Reach, manager_after_operation, manager_after, work_of, reach_of}
+use Rattle.spec_keys.specs.Operations.{StreamOperations, Reach, manager_after_operation, manager_after, work_of}
+use Rattle.spec_keys.specs.Operations.{reach_of}
 use Rattle.spec_keys.specs.History.{manager, moments, touches_after, is_sender, seal_touches, touches_if}
 use Rattle.spec_keys.specs.Terms.{Operation}
 use Rattle.spec_keys.proofs.Shapes.{draws_used}
@@ -26,13 +27,13 @@ use Rattle.event_verdicts.specs.declared.verdict.Verdict.TheVariants as v
 
 -- ---- draws
 
-operated_grows : (m : Manager) (o : Operation) (line stream : ℕ) (r : Option Reach)
+operated_grows : (m : StreamOperations) (o : Operation) (line stream : ℕ) (r : Option Reach)
     → length m.begun ≤ length (manager_after_operation m o line stream r).begun
 operated_grows m o line stream None = omega arith
 operated_grows m o line stream (Some r) = more_begun m.begun line stream
     (work_of o (m.ops line stream) (length m.begun))
 
-after_grows : (m : Manager) (e : Event) (w : Verdict) → length m.begun ≤ length (manager_after m e w).begun
+after_grows : (m : StreamOperations) (e : Event) (w : Verdict) → length m.begun ≤ length (manager_after m e w).begun
 after_grows m (event.Establish line stream loss) w = operated_grows m op.Establish line stream (reach_of op.Establish w)
 after_grows m (event.Refresh line stream loss) w = operated_grows m op.Refresh line stream (reach_of op.Refresh w)
 after_grows m (event.Stop line stream loss) w = operated_grows m op.Stop line stream (reach_of op.Stop w)

@@ -5,7 +5,8 @@ use Rattle.std.proofs.lemmas.Bool.Decides.{nat_tests}
 use Rattle.std.proofs.lemmas.Bool.{cases_Bool}
 use Rattle.std.specs.Prelude.{nat_lt, nat_le, slice_set}
 use Rattle.spec_interfaces.specs.Terms.{StreamStatus, Plan, View, Unlocked, Locked, Running, Doubt, Broken, Event}
-use Rattle.spec_interfaces.specs.Terms.{InterfaceEvent, Loss, Verdict, History, op_of, draws, lost_at, if_secure, Tdi}
+use Rattle.spec_interfaces.specs.Terms.{InterfaceEvent, Loss, Verdict, History, op_of, draws, lost_at, if_secure}
+use Rattle.spec_interfaces.specs.Terms.{DeviceTdi}
 use Rattle.spec_interfaces.specs.Terms.{start_answer, StopInterface}
 use Rattle.spec_interfaces.specs.Sites.{Site, site_at}
 use Rattle.spec_interfaces.specs.Exchanges.{carries, is_asked_at}
@@ -351,7 +352,7 @@ halt_of : (m : Managed) (drawn n k : ℕ) (loss : Option Loss) → HaltsAs m dra
 halt_of m drawn n k None = inl (record { carried = refl; view = refl; needs = refl })
 halt_of m drawn n k (Some loss) = some_halts m drawn n k loss (nat_le 1 loss.exchange && nat_le loss.exchange 1) refl
 
-stopped_interface : (b c : Bool) (tdi : Tdi) → b ≡ true → c ≡ true → is_run
+stopped_interface : (b c : Bool) (tdi : DeviceTdi) → b ≡ true → c ≡ true → is_run
     (if b then interface_if_called c StopInterface tdi else tdi).state ≡ false
 stopped_interface b c tdi own carried = rw (own, carried) refl
 

@@ -2,9 +2,11 @@
 use Rattle.std.specs.Prelude.{ℕ, ◌+◌, ◌==◌, ◌&&◌, ◌||◌, ◌∷◌, Bool, true, false, not, if◌then◌else◌, List, [], Option}
 use Rattle.std.specs.Prelude.{Some, None, is_ok}
 use Rattle.spec_interfaces.specs.Terms.{list_any, Device, Plan, Event, InterfaceEvent, Verdict, History, history_status}
-use Rattle.spec_interfaces.specs.Terms.{TdiState, Run, planned_registers, Tdi, new_tdi, lock_answer, Call, Registers}
+use Rattle.spec_interfaces.specs.Terms.{TdiState, Run, planned_registers, DeviceTdi, new_device_interface, lock_answer}
+use Rattle.spec_interfaces.specs.Terms.{Call, Registers}
 use Rattle.spec_interfaces.specs.Terms.{LockInterface, StartInterface, StopInterface, WriteRegister, LevelReset}
-use Rattle.spec_interfaces.specs.Terms.{FirmwareUpdate, StreamLeft, LinkReset, BindStream, UnbindStream, tdi_after}
+use Rattle.spec_interfaces.specs.Terms.{FirmwareUpdate, StreamLeft, LinkReset, BindStream, UnbindStream}
+use Rattle.spec_interfaces.specs.Terms.{interface_after_call}
 use Rattle.spec_interfaces.specs.Terms.{binds}
 pub use Rattle.spec_interfaces.specs.Peers.{is_secure}
 use Rattle.spec_interfaces.specs.Peers.{live_at, live_by_id, any_leaves}
@@ -41,15 +43,15 @@ around plan h used x = record {
 
 -- ---- what reaches it
 
-abbrev pub interface_if_called : Bool → Call → Tdi → Tdi
-interface_if_called true call tdi = tdi_after tdi call
+abbrev pub interface_if_called : Bool → Call → DeviceTdi → DeviceTdi
+interface_if_called true call tdi = interface_after_call tdi call
 interface_if_called false call tdi = tdi
 
 abbrev pub lock_call : Around → Site → Call
 lock_call a x = LockInterface x.plan.flags x.plan.stream x.plan.offset a.secure a.drawn
 
 -- by what it is asked, or written to
-abbrev pub interface_asked : Around → Site → InterfaceEvent → Verdict → Tdi → Tdi
+abbrev pub interface_asked : Around → Site → InterfaceEvent → Verdict → DeviceTdi → DeviceTdi
 interface_asked a x (ie.Lock i loss) w tdi = interface_if_called (carries w 3) (lock_call a x) tdi
 interface_asked a x (ie.Start i loss) w tdi = interface_if_called (carries w 1) (StartInterface a.nonce) tdi
 interface_asked a x (ie.Halt i loss) w tdi = interface_if_called (carries w 1) StopInterface tdi
@@ -68,7 +70,7 @@ reset_call true = LinkReset
 reset_call false = StreamLeft
 
 -- `left` says that a stream that it is bound to was Secure at the device before the pair, and is not after it
-abbrev pub next_interface : Around → Bool → Site → Event → Verdict → Tdi → Tdi
+abbrev pub next_interface : Around → Bool → Site → Event → Verdict → DeviceTdi → DeviceTdi
 next_interface a left x (event.Interface e) w tdi = if is_number (number_in e) x.number then interface_asked a x e w tdi
     else tdi
 next_interface a left x (event.Reset link ends) (v.Reset l) tdi =
@@ -76,7 +78,7 @@ next_interface a left x (event.Reset link ends) (v.Reset l) tdi =
 next_interface a left x e w tdi = interface_if_called left StreamLeft tdi
 
 -- the pair brings it a LOCK_INTERFACE that it accepts
-abbrev pub accepts_lock : Around → Site → Event → Verdict → Tdi → Bool
+abbrev pub accepts_lock : Around → Site → Event → Verdict → DeviceTdi → Bool
 accepts_lock a x (event.Interface (ie.Lock i loss)) w tdi =
     (i == x.number) && carries w 3 && is_ok (lock_answer tdi x.plan.flags x.plan.offset a.secure a.drawn)
 accepts_lock a x e w tdi = false
@@ -85,7 +87,7 @@ accepts_lock a x e w tdi = false
 
 -- the interfaces, how often each was locked, and how many nonces the device of each link gave
 pub record Devices : Type 0 where
-  pub tdi : Site → Tdi
+  pub tdi : Site → DeviceTdi
   pub locks : Site → ℕ
   pub used : ℕ → ℕ
 
@@ -94,7 +96,7 @@ abbrev pub leaves : History → Event → Verdict → Site → Bool
 leaves h e w x = has_secure_stream h x && not (has_secure_stream ((e, w) ∷ h) x)
 
 -- one that it is bound to
-abbrev pub is_stream_left : Plan → History → Event → Verdict → Site → Tdi → Bool
+abbrev pub is_stream_left : Plan → History → Event → Verdict → Site → DeviceTdi → Bool
 is_stream_left plan h e w x tdi =
     leaves h e w x
     || any_leaves (live_by_id (live_at h) plan.peers x.link) (live_by_id (live_at ((e, w) ∷ h)) plan.peers x.link)
@@ -116,11 +118,11 @@ devices_after plan h d e w = record {
 }
 
 unfoldable pub devices : Plan → History → Devices
-devices plan [] = record { tdi = λ x. new_tdi x.plan; locks = λ x. 0; used = λ link. 0 }
+devices plan [] = record { tdi = λ x. new_device_interface x.plan; locks = λ x. 0; used = λ link. 0 }
 devices plan ((e, w) ∷ h) = devices_after plan h (devices plan h) e w
 
 -- the interface
-abbrev pub interface_at : Plan → History → Site → Tdi
+abbrev pub interface_at : Plan → History → Site → DeviceTdi
 interface_at plan h x = (devices plan h).tdi x
 
 -- how many LOCK_INTERFACE requests it accepted

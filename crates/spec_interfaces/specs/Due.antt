@@ -3,9 +3,10 @@ use Rattle.std.specs.Prelude.{ℕ, ◌+◌, ◌-◌, ◌/◌, ◌&&◌, Bool, tr
 use Rattle.std.specs.Prelude.{Option, Some, None, Result, Ok, Err}
 use Rattle.spec_interfaces.specs.Terms.{option_map, Host, StreamStatus, Plan, View, Unlocked, Locked, Running}
 use Rattle.spec_interfaces.specs.Terms.{InterfaceEvent, Loss, Verdict, History, draws, history_status, lost_at}
-use Rattle.spec_interfaces.specs.Terms.{if_secure, Register, has_register, kept_report, Tdi, state_code, lock_of}
+use Rattle.spec_interfaces.specs.Terms.{if_secure, Register, has_register, kept_report, DeviceTdi, state_code, lock_of}
 use Rattle.spec_interfaces.specs.Terms.{lock_answer, bind_answer, unbind_answer, StreamStage, Idle, Up, op_of}
-use Rattle.spec_interfaces.specs.Terms.{start_answer, Call, WriteRegister, LevelReset, FirmwareUpdate, tdi_after}
+use Rattle.spec_interfaces.specs.Terms.{start_answer, Call, WriteRegister, LevelReset, FirmwareUpdate}
+use Rattle.spec_interfaces.specs.Terms.{interface_after_call}
 use Rattle.spec_interfaces.specs.Sites.{Site, site_at}
 use Rattle.spec_interfaces.specs.Peers.{has_peer}
 use Rattle.spec_interfaces.specs.Views.{Managed, managed_view, needs_then, stream_draw, number_in}
@@ -26,7 +27,7 @@ unless_lost (Some loss) last w =
 pub record AskedState : Type 0 where
   pub around : Around
   -- at the device
-  pub tdi : Tdi
+  pub tdi : DeviceTdi
   -- at the manager
   pub managed : Managed
   -- its stream's state at the host's port, and the draw of its stream
@@ -64,7 +65,7 @@ abbrev pub verdict_of_lock : Site → Result (List ℕ) ℕ → Verdict
 verdict_of_lock x (Ok nonce) = v.Interface (iv.Locked x.number nonce)
 verdict_of_lock x (Err code) = v.RefusedDevice 3 code
 
-abbrev pub lock_answer_at : Around → Site → Tdi → Result (List ℕ) ℕ
+abbrev pub lock_answer_at : Around → Site → DeviceTdi → Result (List ℕ) ℕ
 lock_answer_at a x tdi = lock_answer tdi x.plan.flags x.plan.offset a.secure a.drawn
 
 abbrev pub lock_due : Site → AskedState → Option Loss → Verdict
@@ -151,10 +152,10 @@ state_due x s loss = unless_lost loss 1 (v.Interface (iv.State x.number (state_c
 
 -- ---- what is done to the device: each shows the state after it
 
-abbrev pub code_after : Tdi → Call → ℕ
-code_after tdi call = state_code (tdi_after tdi call).state
+abbrev pub code_after : DeviceTdi → Call → ℕ
+code_after tdi call = state_code (interface_after_call tdi call).state
 
-abbrev pub write_due : Site → Tdi → Register → ℕ → Verdict
+abbrev pub write_due : Site → DeviceTdi → Register → ℕ → Verdict
 write_due x tdi register value =
     if has_register x.plan register then v.Interface
     (iv.Written x.number (code_after tdi (WriteRegister register value)))

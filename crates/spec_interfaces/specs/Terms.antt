@@ -27,9 +27,10 @@ pub use Rattle.interface_state.specs.declared.states.TdiState.{TdiState}
 pub use Rattle.interface_state.specs.declared.states.TdiState.TheVariants.{ConfigUnlocked, ConfigLocked, Run, Error}
 pub use Rattle.interface_state.specs.RegisterValues.{planned_registers, listed_registers, has_bit, changes_listed}
 pub use Rattle.interface_state.specs.Kept.{interface_report_bytes, kept_report}
-pub use Rattle.interface_state.specs.Machine.{Tdi, new_tdi, state_code, lock_of, lock_answer, start_answer, Call}
+pub use Rattle.interface_state.specs.Machine.{DeviceTdi, new_device_interface, state_code, lock_of, lock_answer}
+pub use Rattle.interface_state.specs.Machine.{start_answer, Call}
 pub use Rattle.interface_state.specs.Machine.{LockInterface, StartInterface, StopInterface, WriteRegister, LevelReset}
 pub use Rattle.interface_state.specs.Machine.{FirmwareUpdate, StreamLeft, LinkReset, BindStream, UnbindStream}
-pub use Rattle.interface_state.specs.Machine.{tdi_after, bind_answer, unbind_answer}
+pub use Rattle.interface_state.specs.Machine.{interface_after_call, bind_answer, unbind_answer}
 pub use Rattle.interface_state.specs.Bindings.{binds}
 pub use Rattle.ide_types.specs.RegisterNames.{has_register}

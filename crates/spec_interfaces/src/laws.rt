@@ -5,7 +5,7 @@ ghost use Rattle.spec_interfaces.specs.Laws.{BindLawHolds, InterfaceRunLawHolds,
 /// In RUN and CONFIG_LOCKED the listed registers of an interface are those at its lock. A report shows the registers at
 /// the lock. A listed change, a level reset and a firmware update that lock flag 0 forbids show state 3 (ERROR) in
 /// their own verdict.
-pub fn run_law()
+pub fn interface_run_law()
     ensures { InterfaceRunLawHolds }
 {}
 

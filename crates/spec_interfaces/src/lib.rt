@@ -4,4 +4,4 @@
 
 mod laws;
 
-pub use laws::{bind_law, run_law, views_hold};
+pub use laws::{bind_law, interface_run_law, views_hold};

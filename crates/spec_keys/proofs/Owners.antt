@@ -4,8 +4,9 @@ use Rattle.spec_keys.proofs.Terms.{refl, subst, arith, ◌&&◌, if◌then◌els
 use Rattle.spec_keys.proofs.Terms.{KeyPlace, is_on_stream, is_local, Touch, Program, Go, Stop, makes_draw, work, ◌++◌}
 use Rattle.spec_keys.proofs.Terms.{Clear, Keyed, Off, Loaded, On, Keys, key_in, draw_of_keyed, on_in, keys_after_touch}
 use Rattle.spec_keys.proofs.Terms.{is_open, without_outlived, keys, StreamStage, Idle, Establishing, Up, Refreshing}
-use Rattle.spec_keys.proofs.Terms.{Stopping, Work, Reach, Manager, Begun, PortName, is_hosted, is_cleared, work_of}
-use Rattle.spec_keys.proofs.Terms.{reach_of, op_after_reach, op_cut, begun_after_work, manager_after_operation}
+use Rattle.spec_keys.proofs.Terms.{Stopping, Work, Reach, StreamOperations, Begun, PortName, is_hosted, is_cleared}
+use Rattle.spec_keys.proofs.Terms.{work_of}
+use Rattle.spec_keys.proofs.Terms.{reach_of, op_after_reach, op_after_reset, begun_after_work, manager_after_operation}
 use Rattle.spec_keys.proofs.Terms.{manager_after, History, manager, begun_of_draw, touches_if, work_touches, on_it}
 use Rattle.spec_keys.proofs.Terms.{seal_touches, came, touches, touches_after, moments, nat_tests}
 use Rattle.script_events.specs.declared.event.Event.TheVariants as event
@@ -95,7 +96,7 @@ after_owned : (bs : List Begun) (line stream : ℕ) (o : Operation) (q : StreamS
     (op_after_reach hosted (work_of o q (length bs)) r)
 after_owned bs line stream o q r hosted owned = grind (arith, begun_now)
 
-abbrev pub OpsOwned : Manager → Type 0
+abbrev pub OpsOwned : StreamOperations → Type 0
 OpsOwned m = (line stream : ℕ) → OpOwned m.begun line stream (m.ops line stream)
 
 pub same_place : (a b line stream : ℕ) → ((a == line) && (b == stream)) ≡ true → (a ≡ line) × (b ≡ stream)
@@ -111,7 +112,7 @@ by_stream a b P here other x y = by_test ((a == x) && (b == y)) refl
         (subst (λ (z : ℕ). P z b true) same.0 here)
     by_test false e = other x y
 
-operated_owned : (m : Manager) (o : Operation) (line stream : ℕ) (r : Option Reach) → OpsOwned m
+operated_owned : (m : StreamOperations) (o : Operation) (line stream : ℕ) (r : Option Reach) → OpsOwned m
     → OpsOwned (manager_after_operation m o line stream r)
 operated_owned m o line stream None owned a b = owned a b
 operated_owned m o line stream (Some r) owned a b =
@@ -122,7 +123,7 @@ operated_owned m o line stream (Some r) owned a b =
     (owned a b)) line stream
 
 cut_owned : (bs : List Begun) (ends : List PortName) (line stream : ℕ) (q : StreamStage) → OpOwned bs line stream q
-    → OpOwned bs line stream (op_cut ends line q)
+    → OpOwned bs line stream (op_after_reset ends line q)
 cut_owned bs ends line stream q owned = grind arith
 
 pub manager_owned : (h : History) → OpsOwned (manager h)
@@ -139,7 +140,8 @@ manager_owned ((event.Reset link ends, v.Reset l) ∷ h) a b = cut_owned (manage
 manager_owned ((event.Reset link ends, _) ∷ h) a b = manager_owned h a b
 manager_owned ((_, verdict) ∷ h) a b = manager_owned h a b
 
-pub after_longer : (m : Manager) (e : Event) (verdict : Verdict) → Longer m.begun (manager_after m e verdict).begun
+pub after_longer : (m : StreamOperations) (e : Event) (verdict : Verdict)
+    → Longer m.begun (manager_after m e verdict).begun
 after_longer m e verdict j x is = grind (arith, begun_more)
 
 -- ---- what an event touches
@@ -157,7 +159,7 @@ came_owned O p (v.Accepted port unit effects) = grind arith
 came_owned O p _ = tt
 
 -- the owner of a place's keys, after an event
-abbrev pub OwnerAt : Manager → KeyPlace → Bool → ℕ → Type 0
+abbrev pub OwnerAt : StreamOperations → KeyPlace → Bool → ℕ → Type 0
 OwnerAt m p set j = Owner m.begun p.line p.stream set j
 
 keyed_owned : (O : Bool → ℕ → Type 0) (f g set : Bool) (j : ℕ) → O set j
@@ -183,7 +185,7 @@ draw_owned : (bs : List Begun) (line stream : ℕ) (o : Operation) (q : StreamSt
     (work_of o q (length bs)).draw
 draw_owned bs line stream o q owned draws = grind (arith, begun_now)
 
-operation_owned : (m : Manager) (o : Operation) (line stream : ℕ) (r : Option Reach) (p : KeyPlace)
+operation_owned : (m : StreamOperations) (o : Operation) (line stream : ℕ) (r : Option Reach) (p : KeyPlace)
     → OpOwned m.begun p.line p.stream (m.ops p.line p.stream)
     → AllOwned (OwnerAt (manager_after_operation m o line stream r) p)
     (on_it (is_on_stream p line stream) (work_touches (work_of o (m.ops line stream) (length m.begun)) r p))
@@ -198,7 +200,7 @@ operation_owned m o line stream (Some r) p owned = by_stream p.line p.stream
     p (draw_owned m.begun p.line p.stream o (m.ops p.line p.stream) owned))
     (λ x y. tt) line stream
 
-touches_owned : (m : Manager) (e : Event) (verdict : Verdict) (p : KeyPlace) → OpsOwned m
+touches_owned : (m : StreamOperations) (e : Event) (verdict : Verdict) (p : KeyPlace) → OpsOwned m
     → AllOwned (OwnerAt (manager_after m e verdict) p) (touches m.ops (length m.begun) e verdict p)
 touches_owned m (event.Establish line stream loss) verdict p owned =
     operation_owned m op.Establish line stream (reach_of op.Establish verdict) p (owned p.line p.stream)

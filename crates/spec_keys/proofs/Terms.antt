@@ -4,12 +4,14 @@ pub use Rattle.spec_keys.specs.Terms.{Pr, Loss, Lost, PortName, list_any, option
 pub use Rattle.std.proofs.Common.{Bool, List, None, Option, Some, [], ap, arith, false, inl, inr, length, refl, subst}
 pub use Rattle.std.proofs.Common.{suc, sym, true, zero, ℕ, ◌++◌, ◌+◌, ◌-◌, ◌<◌, ◌==◌, ◌∙◌, ◌∷◌, ◌≡◌, ◌≢◌, ◌≤◌, ◌⊎◌}
 pub use Rattle.spec_keys.specs.Places.{KeyPlan, KeyPlace, is_on_stream, is_same_side, is_same_sub, lane, key_place_at}
-pub use Rattle.spec_keys.specs.Places.{is_host, is_local, places_of, told_places, is_between_devices, is_cut}
+pub use Rattle.spec_keys.specs.Places.{is_host, is_local, places_of, told_places, is_between_devices, is_line_reset}
 pub use Rattle.spec_keys.specs.Places.{is_cleared}
 pub use Rattle.ide_types.specs.Lines.{is_hosted}
-pub use Rattle.spec_keys.specs.Operations.{Begun, Establishing, Idle, Manager, StreamStage, Reach, Refreshing, Stopping}
+pub use Rattle.spec_keys.specs.Operations.{Begun, Establishing, Idle, StreamOperations, StreamStage, Reach, Refreshing}
+pub use Rattle.spec_keys.specs.Operations.{Stopping}
 pub use Rattle.spec_keys.specs.Operations.{Up, Work, begun_after_work, last_exchange_of, makes_draw, manager_after}
-pub use Rattle.spec_keys.specs.Operations.{op_after_reach, op_ended, op_cut, op_at_exchange, manager_after_operation}
+pub use Rattle.spec_keys.specs.Operations.{op_after_reach, op_ended, op_after_reset, op_at_exchange}
+pub use Rattle.spec_keys.specs.Operations.{manager_after_operation}
 pub use Rattle.spec_keys.specs.Operations.{reach, reach_of, whole, work, work_of}
 pub use Rattle.spec_keys.specs.History.{History, begins_keyed, begun_of_draw, touches_after, below_at, came, draws}
 pub use Rattle.spec_keys.specs.History.{fails_there, from_at, go_exchange, has_all, has_key, keeps_live, is_sender}

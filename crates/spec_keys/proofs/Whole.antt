@@ -8,13 +8,15 @@ use Rattle.spec_keys.proofs.Terms.{None, List, [], ◌∷◌, ◌++◌, length, 
 use Rattle.spec_keys.proofs.Terms.{if◌then◌else◌, SubKind, Pr, Npr, Cpl, Host, Event, Loss, Operation, SealedPacket}
 use Rattle.spec_keys.proofs.Terms.{Verdict, KeyPlan, KeyPlace, is_same_side, is_same_sub, is_on_stream, Touch, Seal}
 use Rattle.spec_keys.proofs.Terms.{Accept, Clear, keys, refuses, is_live_draw, refusal_if, slot_of, StreamStage, Idle}
-use Rattle.spec_keys.proofs.Terms.{Establishing, Up, Refreshing, Work, Reach, Manager, Begun, work, work_of, reach_of}
+use Rattle.spec_keys.proofs.Terms.{Establishing, Up, Refreshing, Work, Reach, StreamOperations, Begun, work, work_of}
+use Rattle.spec_keys.proofs.Terms.{reach_of}
 use Rattle.spec_keys.proofs.Terms.{op_after_reach, begun_after_work, manager_after_operation, History, manager, op_of}
 use Rattle.spec_keys.proofs.Terms.{draws, work_touches, on_it, touches_if, is_sender, seal_touches, came, touches}
 use Rattle.spec_keys.proofs.Terms.{moments, history_status, PortView, ports_at, operation_verdict, begun_if_pool_has}
 use Rattle.spec_keys.proofs.Terms.{is_live_sender, unless_open, if_secure, establish_on, refresh_on, stop_on, key_due}
 use Rattle.spec_keys.proofs.Terms.{UsesFit, KeyCauseLaw, Side, Stopping, PortName, is_hosted, is_local}
-use Rattle.spec_keys.proofs.Terms.{is_between_devices, is_cut, is_cleared, op_cut, stop_exchange, list_any, ◌+◌}
+use Rattle.spec_keys.proofs.Terms.{is_between_devices, is_line_reset, is_cleared, op_after_reset, stop_exchange}
+use Rattle.spec_keys.proofs.Terms.{list_any, ◌+◌}
 use Rattle.spec_keys.proofs.Terms.{nat_tests}
 use Rattle.script_events.specs.declared.event.Event.TheVariants as event
 use Rattle.event_verdicts.specs.declared.verdict.Operation.TheVariants as op
@@ -146,7 +148,8 @@ pub more_begun : (bs : List Begun) (line stream : ℕ) (w : Work) → length bs 
 more_begun bs line stream w = grind arith
 
 -- on its stream it does what it does, elsewhere nothing
-operated_fits : (m : Manager) (o : Operation) (line stream : ℕ) (r : Option Reach) (p : KeyPlace) (ts : List Touch)
+operated_fits : (m : StreamOperations) (o : Operation) (line stream : ℕ) (r : Option Reach) (p : KeyPlace)
+    (ts : List Touch)
     → ((p.line ≡ line) × (p.stream ≡ stream) → Turns o (m.ops line stream) m.begun line stream p ts r)
     → FitsAt (m.ops p.line p.stream) (length m.begun) p ts
     → Turned ((manager_after_operation m o line stream r).ops p.line p.stream)
@@ -234,18 +237,18 @@ peer_told : (p : KeyPlace) → is_between_devices p.line ≡ true → is_local p
 peer_told p peer = grind (arith, nat_tests)
 
 -- an end that is cleared is on a line that is cut
-pub not_cut : (ends : List PortName) (side : Side) (line : ℕ) → is_cut ends line ≡ false
+pub not_cut : (ends : List PortName) (side : Side) (line : ℕ) → is_line_reset ends line ≡ false
     → list_any (λ e. is_same_side e.side side && (e.line == line)) ends ≡ false
 not_cut [] side line none = refl
 not_cut (e ∷ ends) side line none =
-    let parts = neither-true (e.line == line) (is_cut ends line) none in
+    let parts = neither-true (e.line == line) (is_line_reset ends line) none in
     rw (parts.0, and-false (is_same_side e.side side)) (not_cut ends side line parts.1)
 
 reset_fits : (ends : List PortName) (o : StreamStage) (top : ℕ) (p : KeyPlace) (ts : List Touch) → FitsAt o top p ts
-    → Turned (op_cut ends p.line o) top p ts (touches_if (is_cleared ends p.side p.line) Clear)
-reset_fits ends o top p ts at = by_tests (is_between_devices p.line) (is_cut ends p.line) _ refl refl refl
+    → Turned (op_after_reset ends p.line o) top p ts (touches_if (is_cleared ends p.side p.line) Clear)
+reset_fits ends o top p ts at = by_tests (is_between_devices p.line) (is_line_reset ends p.line) _ refl refl refl
   where
-    by_tests : (peer cut one : Bool) → is_between_devices p.line ≡ peer → is_cut ends p.line ≡ cut
+    by_tests : (peer cut one : Bool) → is_between_devices p.line ≡ peer → is_line_reset ends p.line ≡ cut
         → list_any (λ e. is_same_side e.side p.side && (e.line == p.line)) ends ≡ one
         → Turned (if cut then (if peer then Stopping 1 else Idle) else o) top p ts
         (touches_if (if peer then one else cut) Clear)

@@ -11,14 +11,15 @@ use Rattle.spec_keys.specs.Places.{KeyPlace, is_host, is_same_side, is_same_sub,
 use Rattle.spec_keys.specs.Places.{places_of, is_cleared}
 use Rattle.spec_keys.specs.Keys.{Touch, Program, Go, Stop, Clear, Seal, Accept, Keys, keys, key_in, draw_of_keyed}
 use Rattle.spec_keys.specs.Keys.{on_in, is_on, DrawSlot, slot_of}
-use Rattle.spec_keys.specs.Operations.{StreamStage, Idle, Work, Reach, Begun, work_of, reach_of, manager_after, Manager}
+use Rattle.spec_keys.specs.Operations.{StreamStage, Idle, Work, Reach, Begun, work_of, reach_of, manager_after}
+use Rattle.spec_keys.specs.Operations.{StreamOperations}
 
 abbrev pub History : Type 0
 History = List (Event × Verdict)
 
 -- ---- operations
 
-unfoldable pub manager : History → Manager
+unfoldable pub manager : History → StreamOperations
 manager [] = record { ops = λ a b. Idle; begun = [] }
 manager ((e, verdict) ∷ h) = manager_after (manager h) e verdict
 

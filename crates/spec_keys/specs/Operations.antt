@@ -3,7 +3,7 @@ use Rattle.std.specs.Prelude.{◌+◌, ◌==◌, ◌&&◌, if◌then◌else◌, 
 use Rattle.std.specs.Prelude.{None, List, length}
 use Rattle.spec_keys.specs.Terms.{Event, Operation, Verdict, PortName}
 use Rattle.ide_types.specs.Lines.{is_hosted}
-use Rattle.spec_keys.specs.Places.{is_cut, is_between_devices}
+use Rattle.spec_keys.specs.Places.{is_line_reset, is_between_devices}
 use Rattle.script_events.specs.declared.event.Event.TheVariants as event
 use Rattle.event_verdicts.specs.declared.verdict.Operation.TheVariants as op
 use Rattle.event_verdicts.specs.declared.verdict.Verdict.TheVariants as v
@@ -93,7 +93,7 @@ pub record Begun : Type 0 where
   pub set : Bool
 
 -- the state of each stream by its line and id, and the operations that began with a draw, the newest first
-pub record Manager : Type 0 where
+pub record StreamOperations : Type 0 where
   pub ops : ℕ → ℕ → StreamStage
   pub begun : List Begun
 
@@ -108,7 +108,7 @@ begun_after_work bs line stream w = if w.begins && makes_draw w.operation then r
   set = w.set;
 } ∷ bs else bs
 
-abbrev pub manager_after_operation : Manager → Operation → ℕ → ℕ → Option Reach → Manager
+abbrev pub manager_after_operation : StreamOperations → Operation → ℕ → ℕ → Option Reach → StreamOperations
 manager_after_operation m o line stream None = m
 manager_after_operation m o line stream (Some r) =
     let w = work_of o (m.ops line stream) (length m.begun) in
@@ -119,10 +119,11 @@ manager_after_operation m o line stream (Some r) =
 
 -- after a reset that clears these ends: the two ends of a stream between devices are to be stopped, any other has no
 -- keys
-abbrev pub op_cut : List PortName → ℕ → StreamStage → StreamStage
-op_cut ends line o = if is_cut ends line then (if is_between_devices line then Stopping 1 else Idle) else o
+abbrev pub op_after_reset : List PortName → ℕ → StreamStage → StreamStage
+op_after_reset ends line o = if is_line_reset ends line then (if is_between_devices line then Stopping 1 else Idle) else
+    o
 
-abbrev pub manager_after : Manager → Event → Verdict → Manager
+abbrev pub manager_after : StreamOperations → Event → Verdict → StreamOperations
 manager_after m (event.Establish line stream loss) verdict = manager_after_operation m op.Establish line stream
     (reach_of op.Establish verdict)
 manager_after m (event.Refresh line stream loss) verdict = manager_after_operation m op.Refresh line stream
@@ -130,7 +131,7 @@ manager_after m (event.Refresh line stream loss) verdict = manager_after_operati
 manager_after m (event.Stop line stream loss) verdict = manager_after_operation m op.Stop line stream
     (reach_of op.Stop verdict)
 manager_after m (event.Reset link ends) (v.Reset l) = record {
-  ops = λ a b. op_cut ends a (m.ops a b);
+  ops = λ a b. op_after_reset ends a (m.ops a b);
   begun = m.begun;
 }
 manager_after m _ _ = m

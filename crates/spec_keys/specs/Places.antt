@@ -67,11 +67,12 @@ abbrev pub is_between_devices : ℕ → Bool
 is_between_devices line = not (nat_lt line 24)
 
 -- whether these ends that a reset clears are on the line
-abbrev pub is_cut : List PortName → ℕ → Bool
-is_cut ends line = list_any (λ e. e.line == line) ends
+abbrev pub is_line_reset : List PortName → ℕ → Bool
+is_line_reset ends line = list_any (λ e. e.line == line) ends
 
 -- whether it takes the keys of an end; the two ends of a link, and of a segment of its hop, go together
 abbrev pub is_cleared : List PortName → Side → ℕ → Bool
 is_cleared ends side line =
-    if is_between_devices line then list_any (λ e. is_same_side e.side side && (e.line == line)) ends else is_cut ends
+    if is_between_devices line then list_any (λ e. is_same_side e.side side && (e.line == line)) ends else is_line_reset
+    ends
     line

@@ -6,7 +6,8 @@ use Rattle.spec_links.proofs.Terms.{subst, sym, true, ℕ, ◌+◌, ◌∙◌, �
 use Rattle.spec_links.proofs.Terms.{arrival_due, before_tag, before_tag_of, due, dump_due, effects_of}
 use Rattle.spec_links.proofs.Terms.{unit_packets_ended, first_that_holds, send_due, is_mixed, is_overfull, is_verified}
 use Rattle.spec_links.proofs.Terms.{lanes_at, receiving_sub_stream, refusals, sealed_with_syncs, streams_of}
-use Rattle.spec_links.proofs.Terms.{next_unit_name, Arrival, arrival_of_event, arrived_packet, cut_packet, has_failed}
+use Rattle.spec_links.proofs.Terms.{next_unit_name, ArrivedBytes, arrival_of_event, arrived_packet, cut_packet}
+use Rattle.spec_links.proofs.Terms.{has_failed}
 use Rattle.spec_links.proofs.Terms.{meets_counts, on_draw, packet_by_number, arrival_packet, received_in}
 use Rattle.spec_links.proofs.Terms.{sealed_packets, units_got, is_quiet, SubStream, has_link, has_stream, stream_plan}
 use Rattle.spec_links.proofs.Terms.{AllByRecursion, Alter, Arrive, Cut, Dump, Effect, Establish, Interface, Event}
@@ -106,7 +107,7 @@ is_sealing _ = false
 
 -- the verdict is that of a packet which the event brought
 record Brought (plan : Plan) (h : History) (e : Event) (w : Verdict) : Type 0 where
-  at : Arrival
+  at : ArrivedBytes
   packet : Packet
   arrival : arrival_of_event plan h e ≡ Some at
   cut : cut_of at.bytes ≡ Ok (IdePacket packet)
@@ -228,7 +229,8 @@ not_sealed : (plan : Plan) (h : History) (port : PortName) (p : Packet) (ds : Li
     → v.Sealed ds ≡ ending_due plan h port (before_tag_of plan h port (Ok (IdePacket p))) → ⊥
 not_sealed plan h port p ds is = grind arith
 
-packet_tells : (plan : Plan) (h : History) (e : Event) (a : Arrival) (p : Packet) → arrival_of_event plan h e ≡ Some a
+packet_tells : (plan : Plan) (h : History) (e : Event) (a : ArrivedBytes) (p : Packet) → arrival_of_event plan h e
+    ≡ Some a
     → cut_of a.bytes ≡ Ok (IdePacket p) → goes_through plan a.port a.bytes ≡ false
     → (w : Verdict) → w ≡ ending_due plan h a.port (before_tag_of plan h a.port (Ok (IdePacket p))) → Tells plan h e w
 packet_tells plan h e a p arrival cut stays (v.Held port unit) is = record
@@ -238,14 +240,14 @@ packet_tells plan h e a p arrival cut stays (v.Accepted port unit effects) is = 
 packet_tells plan h e a p arrival cut stays (v.Sealed ds) is = absurd (not_sealed plan h a.port p ds is)
 packet_tells plan h e a p arrival cut stays _ is = tt
 
-cut_tells : (plan : Plan) (h : History) (e : Event) (a : Arrival) → arrival_of_event plan h e ≡ Some a
+cut_tells : (plan : Plan) (h : History) (e : Event) (a : ArrivedBytes) → arrival_of_event plan h e ≡ Some a
     → goes_through plan a.port a.bytes ≡ false → (r : Result CutValue PacketFault) → cut_of a.bytes ≡ r
     → Tells plan h e (ending_due plan h a.port (before_tag_of plan h a.port r))
 cut_tells plan h e a arrival stays (Err f) cut = tt
 cut_tells plan h e a arrival stays (Ok PlainTlp) cut = tt
 cut_tells plan h e a arrival stays (Ok (IdePacket p)) cut = packet_tells plan h e a p arrival cut stays _ refl
 
-arrival_tells : (plan : Plan) (h : History) (e : Event) (o : Option Arrival) → arrival_of_event plan h e ≡ o
+arrival_tells : (plan : Plan) (h : History) (e : Event) (o : Option ArrivedBytes) → arrival_of_event plan h e ≡ o
     → Tells plan h e (arrival_due plan h o)
 unfolding before_tag
 arrival_tells plan h e None arrival = tt

@@ -24,7 +24,8 @@ pub use Rattle.spec_keys.specs.Keys.{Accept, Clear as ClearTouch, Go as GoTouch,
 pub use Rattle.spec_keys.specs.Keys.{Touch, is_on, draw_of_keyed, sender_draw, without_outlived, keys_after_touch}
 unfoldable pub use Rattle.spec_keys.specs.Keys.{is_open, keys}
 pub use Rattle.spec_keys.specs.Laws.{KeyCauseLaw, GivenFits, UsesFit}
-pub use Rattle.spec_keys.specs.Operations.{Begun, Idle, Manager, StreamStage, Reach, Stopping, Work, op_after_reach}
+pub use Rattle.spec_keys.specs.Operations.{Begun, Idle, StreamOperations, StreamStage, Reach, Stopping, Work}
+pub use Rattle.spec_keys.specs.Operations.{op_after_reach}
 pub use Rattle.spec_keys.specs.Operations.{manager_after_operation, reach_of, work_of}
 pub use Rattle.spec_keys.specs.Places.{is_on_stream, is_same_side, is_same_sub, lane, places_of}
 pub use Rattle.spec_links.specs.Cause.{CauseLaw, OneHistory, events_of}
@@ -35,7 +36,7 @@ pub use Rattle.spec_links.specs.Due.{refusals, sealed_with_syncs, send_due, sets
 pub use Rattle.spec_links.specs.Due.{answer_first, site_answer, completion_verdict, outgoing_completion, is_before}
 pub use Rattle.spec_links.specs.Due.{judged_by, answer_judged}
 unfoldable pub use Rattle.spec_links.specs.Due.{before_tag, due}
-pub use Rattle.spec_links.specs.History.{Arrival, KeyName, SealedList, accepted_keys, after_ends, ahead_of_packet}
+pub use Rattle.spec_links.specs.History.{ArrivedBytes, KeyName, SealedList, accepted_keys, after_ends, ahead_of_packet}
 pub use Rattle.spec_links.specs.History.{arrived_packet, cut_packet, ended_keys, ends_port_unit, ends_unit_since}
 pub use Rattle.spec_links.specs.History.{has_failed, fails_at, has_live_key, is_sealed_from_draw, is_keyed}
 pub use Rattle.spec_links.specs.History.{is_sealed_under, keys_by_role, lesser, live_key, meets_counts, on_draw}

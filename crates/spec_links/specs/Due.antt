@@ -20,7 +20,8 @@ use Rattle.spec_links.specs.Plan.{SubStream, key_plan, streams_of, stream_plan, 
 use Rattle.spec_links.specs.Ports.{port_of, at_switch, may_send, outgoing_at, sealing_end, goes_through}
 use Rattle.spec_links.specs.Plan.{aggregation_of, key_of}
 use Rattle.spec_links.specs.Units.{units, open_unit}
-use Rattle.spec_links.specs.History.{Arrival, KeyName, sealed_packets, sent_packets, arrival_of_event, packet_by_number}
+use Rattle.spec_links.specs.History.{ArrivedBytes, KeyName, sealed_packets, sent_packets, arrival_of_event}
+use Rattle.spec_links.specs.History.{packet_by_number}
 use Rattle.spec_links.specs.History.{pending_packets, units_got, on_draw, live_key, has_failed, posted_count}
 use Rattle.spec_links.specs.History.{meets_counts, received_in, ahead_due, sent_bytes, sending_port}
 use Rattle.ide_types.specs.declared.sub.SubKind.TheVariants.{Cpl}
@@ -215,7 +216,7 @@ abbrev pub through_due : Plan → PortName → Verdict
 through_due plan port = v.Through (port_of plan port)
 
 -- the packet whose tag is to be verified and its unit, or the verdict without that
-unfoldable pub before_tag : Plan → History → Arrival → Result Ending Verdict
+unfoldable pub before_tag : Plan → History → ArrivedBytes → Result Ending Verdict
 before_tag plan h a =
     if goes_through plan a.port a.bytes then Err (through_due plan a.port)
     else before_tag_of plan h a.port (cut_of a.bytes)
@@ -240,7 +241,7 @@ ending_due plan h port (Ok x) =
     x.unit.sub fail.Order
     else v.Accepted port x.unit (effects_of plan h port x.unit (unit_packets_ended plan h port x))
 
-abbrev pub arrival_due : Plan → History → Option Arrival → Verdict
+abbrev pub arrival_due : Plan → History → Option ArrivedBytes → Verdict
 arrival_due plan h None = v.Nothing
 arrival_due plan h (Some a) = ending_due plan h a.port (before_tag plan h a)
 

@@ -11,7 +11,7 @@ use Rattle.tlp_layout.specs.Head.{head_bytes}
 use Rattle.spec_links.specs.Plan.{SubStream, is_same, is_same_port, lane_out, lane_in, key_of, is_closed}
 use Rattle.spec_links.specs.Units.{open_unit}
 pub use Rattle.spec_stream.specs.Sending.{KeyName, prefix_of, total_ahead}
-pub use Rattle.spec_links.specs.Packets.{sub_stream_of, SealedList, Arrival, packet_by_number, arrival_at_partner}
+pub use Rattle.spec_links.specs.Packets.{sub_stream_of, SealedList, ArrivedBytes, packet_by_number, arrival_at_partner}
 pub use Rattle.spec_links.specs.Packets.{altered_arrival, shortened_arrival, arrived_in, no_packet, cut_packet}
 pub use Rattle.spec_links.specs.Packets.{arrival_packet, received_in, is_received_under}
 pub use Rattle.spec_links.specs.Sent.{sending_port}
@@ -117,7 +117,7 @@ ahead_sent plan (_ ∷ h) s j n = ahead_sent plan h s j n
 -- ---- what arrived
 
 -- what an event brings, and where; nothing if a packet or byte that it names does not exist
-unfoldable pub arrival_of_event : Plan → History → Event → Option Arrival
+unfoldable pub arrival_of_event : Plan → History → Event → Option ArrivedBytes
 arrival_of_event plan h e = arrived_in plan (sealed_packets plan h) e
 
 -- the packet that an event brings

@@ -10,7 +10,7 @@ use Rattle.ide_types.specs.Sub.{direction_number}
 use Rattle.ide_types.specs.declared.direction.Direction.{Direction}
 use Rattle.ide_types.specs.declared.direction.Direction.TheVariants.{Downstream, Upstream}
 use Rattle.ide_types.specs.Ends.{link_hop}
-use Rattle.spec_keys.specs.Places.{is_cut}
+use Rattle.spec_keys.specs.Places.{is_line_reset}
 use Rattle.spec_links.specs.Plan.{is_same_port}
 use Rattle.spec_links.specs.Packets.{SealedList}
 use Rattle.spec_links.specs.Ended.{unit_accepted}
@@ -42,7 +42,7 @@ last_end link Upstream = host_port (near_hop_line link)
 
 -- these ends that a reset clears are of both segments
 abbrev pub clears_hop : List PortName → ℕ → Bool
-clears_hop ends link = is_cut ends (near_hop_line link) && is_cut ends (far_hop_line link)
+clears_hop ends link = is_line_reset ends (near_hop_line link) && is_line_reset ends (far_hop_line link)
 
 -- ---- TLPs
 

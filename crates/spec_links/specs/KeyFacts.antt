@@ -3,7 +3,7 @@ use Rattle.std.specs.Prelude.{if◌then◌else◌, ◌&&◌, ◌<◌, ◌==◌, 
 use Rattle.std.specs.Prelude.{nat_le, not, slice_get, true, ℕ}
 use Rattle.spec_links.specs.Terms.{AllByRecursion, PortName, SubKind, Plan, Event, Effect, SealedPacket}
 use Rattle.spec_links.specs.Terms.{UnitName, Verdict, Accepted, Fail, Held, Sealed, Packet, History, base, On, key_in}
-use Rattle.spec_keys.specs.Places.{is_cut}
+use Rattle.spec_keys.specs.Places.{is_line_reset}
 use Rattle.script_events.specs.declared.event.Event.TheVariants as event
 use Rattle.spec_links.specs.Plan.{SubStream, is_same, is_same_port, lane_out, lane_in, stream_plan}
 use Rattle.spec_links.specs.History.{is_sealed_under, KeyName, live_key, sealed_packets, sub_stream_of, draws_got}
@@ -30,7 +30,7 @@ unfoldable pub operates : Event → ℕ → ℕ → Bool
 operates (event.Establish l s lose) line stream = (l == line) && (s == stream)
 operates (event.Refresh l s lose) line stream = (l == line) && (s == stream)
 operates (event.Stop l s lose) line stream = (l == line) && (s == stream)
-operates (event.Reset l ends) line stream = is_cut ends line
+operates (event.Reset l ends) line stream = is_line_reset ends line
 operates _ line stream = false
 
 -- it is on no stream at all

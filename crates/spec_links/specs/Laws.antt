@@ -6,7 +6,7 @@ use Rattle.spec_links.specs.Terms.{PortName, Plan, Event, Verdict, Accepted, Hel
 use Rattle.spec_links.specs.Terms.{authenticated_bytes, encrypted_bytes, History, base, received_direction}
 use Rattle.spec_links.specs.Plan.{SubStream, is_closed}
 use Rattle.spec_links.specs.Units.{units}
-use Rattle.spec_links.specs.History.{units_got, sealed_packets, total_in, ahead_sent, ahead_due, Arrival}
+use Rattle.spec_links.specs.History.{units_got, sealed_packets, total_in, ahead_sent, ahead_due, ArrivedBytes}
 use Rattle.spec_links.specs.History.{arrival_of_event, sent_packets, accepted_packets, pending_packets, draws_got}
 use Rattle.spec_links.specs.History.{on_draw, has_failed, meets_counts, received_in}
 use Rattle.spec_links.specs.Due.{Ending, before_tag, is_verified, unit_packets_ended, effects_of, next_unit_name}
@@ -33,7 +33,7 @@ pub record WasSealed (plan : Plan) (h : History) (port : PortName) (x : Ending) 
 -- A tag that verifies at this event was made by the partner.
 abbrev pub NotForged : Plan → History → Event → Type 0
 NotForged plan h e =
-    (a : Arrival) (x : Ending) → arrival_of_event plan h e ≡ Some a → before_tag plan h a ≡ Ok x
+    (a : ArrivedBytes) (x : Ending) → arrival_of_event plan h e ≡ Some a → before_tag plan h a ≡ Ok x
     → is_verified plan h a.port x ≡ true → WasSealed plan h a.port x
 
 -- No tag verified on a unit that its partner had not sealed.

@@ -18,7 +18,7 @@ SealedList = List (SealedPacket × Packet)
 
 -- ---- what arrives
 
-pub record Arrival : Type 0 where
+pub record ArrivedBytes : Type 0 where
   pub port : PortName
   pub bytes : List ℕ
 
@@ -26,28 +26,28 @@ abbrev pub packet_by_number : SealedList → ℕ → Option (SealedPacket × Pac
 packet_by_number xs n = if n == 0 then None else slice_get xs (n - 1)
 
 -- what bytes that arrive at the port of an end meet there
-abbrev pub arrival_at : Plan → PortName → List ℕ → Arrival
+abbrev pub arrival_at : Plan → PortName → List ℕ → ArrivedBytes
 arrival_at plan end bytes = record { port = end_reached plan end bytes; bytes = bytes }
 
 -- bytes of packet N arrive at the port of the other end of the line on which it was sealed
-abbrev pub arrival_at_partner : Plan → SealedPacket × Packet → List ℕ → Arrival
+abbrev pub arrival_at_partner : Plan → SealedPacket × Packet → List ℕ → ArrivedBytes
 arrival_at_partner plan x bytes = arrival_at plan (partner x.0.port) bytes
 
-abbrev pub altered_arrival : Plan → ℕ → ℕ → SealedPacket × Packet → Option Arrival
+abbrev pub altered_arrival : Plan → ℕ → ℕ → SealedPacket × Packet → Option ArrivedBytes
 altered_arrival plan at mask x =
     let bytes = packet_bytes x.1 in
     if nat_lt at (length bytes) then Some
     (arrival_at_partner plan x (slice_set bytes at (bit_xor (slice_index bytes at) mask)))
     else None
 
-abbrev pub shortened_arrival : Plan → ℕ → SealedPacket × Packet → Option Arrival
+abbrev pub shortened_arrival : Plan → ℕ → SealedPacket × Packet → Option ArrivedBytes
 shortened_arrival plan len x =
     let bytes = packet_bytes x.1 in
     if nat_le len (length bytes) then Some (arrival_at_partner plan x (take len bytes)) else None
 
 -- what an event brings, and where, by the packets that were sealed; nothing if a packet or byte that it names does not
 -- exist
-abbrev pub arrived_in : Plan → SealedList → Event → Option Arrival
+abbrev pub arrived_in : Plan → SealedList → Event → Option ArrivedBytes
 arrived_in plan xs (Pass n) =
     option_map (λ (x : SealedPacket × Packet). arrival_at_partner plan x (packet_bytes x.1)) (packet_by_number xs n)
 arrived_in plan xs (Alter n at mask) = option_and_then (altered_arrival plan at mask) (packet_by_number xs n)
@@ -69,7 +69,7 @@ abbrev pub cut_packet : Result CutValue PacketFault → Packet
 cut_packet (Ok (IdePacket p)) = p
 cut_packet _ = no_packet
 
-abbrev pub arrival_packet : Option Arrival → Packet
+abbrev pub arrival_packet : Option ArrivedBytes → Packet
 arrival_packet None = no_packet
 arrival_packet (Some a) = cut_packet (cut_of a.bytes)
 

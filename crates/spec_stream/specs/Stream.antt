@@ -190,12 +190,12 @@ abbrev pub unit_name : Packet → ℕ → ℕ → UnitName
 unit_name p draw unit = record { stream = p.prefix.stream; sub = p.prefix.sub; draw = draw; unit = unit }
 
 -- what becomes of an arrival: of a held packet the draw and the unit, of an accepted one its packets too
-pub data Taken : Type 0 where
-  Insecure : Taken
-  NotKeyed : Taken
-  Failed : FailCause → Taken
-  Held : ℕ → ℕ → Taken
-  Accepted : ℕ → ℕ → List Packet → Taken
+pub data PacketOutcome : Type 0 where
+  Insecure : PacketOutcome
+  NotKeyed : PacketOutcome
+  Failed : FailCause → PacketOutcome
+  Held : ℕ → ℕ → PacketOutcome
+  Accepted : ℕ → ℕ → List Packet → PacketOutcome
 
 abbrev pub holds_any : Option LiveKey → Bool
 holds_any None = false
@@ -214,13 +214,13 @@ is_tagged closed total x p =
     verifies x.key (iv_of p.prefix.sub (x.units + 1)) (total_ahead closed (x.units + 1) total
     ++ authenticated_bytes (x.packets ++ p ∷ [])) (encrypted_bytes (x.packets ++ p ∷ [])) p.tag
 
-abbrev pub outcome_of_checks : Bool → Bool → LiveKey → Packet → Taken
+abbrev pub outcome_of_checks : Bool → Bool → LiveKey → Packet → PacketOutcome
 outcome_of_checks tagged allowed x p =
     if not tagged then Failed fail.Tag
     else if not allowed then Failed fail.Order
     else Accepted x.draw (x.units + 1) (x.packets ++ p ∷ [])
 
-abbrev pub stream_outcome_by_keys : ℕ → Bool → Three RxSub → Packet → Option LiveKey → Option LiveKey → Taken
+abbrev pub stream_outcome_by_keys : ℕ → Bool → Three RxSub → Packet → Option LiveKey → Option LiveKey → PacketOutcome
 stream_outcome_by_keys aggregation closed rx p None None = NotKeyed
 stream_outcome_by_keys aggregation closed rx p None (Some y) = Failed fail.Key
 stream_outcome_by_keys aggregation closed rx p (Some x) other =
@@ -230,7 +230,7 @@ stream_outcome_by_keys aggregation closed rx p (Some x) other =
     else Held x.draw (x.units + 1)
 
 -- the answer to a packet of the stream
-abbrev pub stream_outcome : ℕ → Bool → StreamState → Packet → Taken
+abbrev pub stream_outcome : ℕ → Bool → StreamState → Packet → PacketOutcome
 stream_outcome aggregation closed st p =
     let slots = (at_sub st.rx p.prefix.sub).slots in
     if st.failed then Insecure
@@ -266,7 +266,7 @@ abbrev pub held_sub : Bool → Packet → RxSub → RxSub
 held_sub k p rx = record rx { slots = with_slot rx.slots k (gone_on p (slot_in_set rx.slots k)) }
 
 -- the receivers and what failed after that answer
-abbrev pub state_after : StreamState → Packet → Taken → StreamState
+abbrev pub state_after : StreamState → Packet → PacketOutcome → StreamState
 state_after st p (Failed cause) =
     record st {
       rx = record { pr = dropped_held st.rx.pr; npr = dropped_held st.rx.npr; cpl = dropped_held st.rx.cpl };

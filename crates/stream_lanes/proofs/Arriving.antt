@@ -11,7 +11,8 @@ use Rattle.ide_types.specs.declared.sub.SubKind.TheVariants.{Pr, Npr, Cpl}
 use Rattle.ide_types.specs.declared.sub.FailCause.TheVariants as fail
 use Rattle.ide_prefix.specs.Packet.{Packet}
 use Rattle.spec_stream.specs.Stream.{LaneSlot, Empty, Programmed, Armed, Live, LiveKey, RxSub, Three, StreamState}
-use Rattle.spec_stream.specs.Stream.{at_sub, slot_in_set, live_in, Taken, Insecure, NotKeyed, Failed, Held, Accepted}
+use Rattle.spec_stream.specs.Stream.{at_sub, slot_in_set, live_in, PacketOutcome, Insecure, NotKeyed, Failed, Held}
+use Rattle.spec_stream.specs.Stream.{Accepted}
 use Rattle.spec_stream.specs.Stream.{holds_any, posted_sum, is_tagged, outcome_of_checks, slot_without_packets}
 use Rattle.spec_stream.specs.Stream.{dropped_held, stream_outcome_by_keys, state_after}
 use Rattle.sub_stream.specs.{answer_taken, opened_unit}
@@ -88,20 +89,20 @@ dropped_twice rx = λ i. record rx
 abbrev pub of_sub : Packet → SubKind → Packet
 of_sub p u = record p { prefix = record p.prefix { sub = u } }
 
-abbrev pub kept_in : SubKind → SubKind → RxSub → Packet → Taken → RxSub
+abbrev pub kept_in : SubKind → SubKind → RxSub → Packet → PacketOutcome → RxSub
 kept_in u w rx p t = if is_same_sub u w then kept_sub_after rx p t else rx
 
 abbrev pub kept_last : Answer → RxSub → RxSub
 kept_last a rx = if is_fail a then dropped_held rx else rx
 
-abbrev pub three_after : SubKind → RxSub → RxSub → RxSub → Packet → Taken → Answer → Three RxSub
+abbrev pub three_after : SubKind → RxSub → RxSub → RxSub → Packet → PacketOutcome → Answer → Three RxSub
 three_after u pr npr cpl p t a = record {
   pr = kept_last a (kept_in u Pr pr p t);
   npr = kept_last a (kept_in u Npr npr p t);
   cpl = kept_last a (kept_in u Cpl cpl p t);
 }
 
-three_right : (st : StreamState) (u : SubKind) (p : Packet) (t : Taken) (a : Answer) → Some a ≡ answer_taken t
+three_right : (st : StreamState) (u : SubKind) (p : Packet) (t : PacketOutcome) (a : Answer) → Some a ≡ answer_taken t
     → three_after u st.rx.pr st.rx.npr st.rx.cpl (of_sub p u) t a ≡ (state_after st (of_sub p u) t).rx
 three_right st u p Insecure a e = absurd (cc)
 three_right st Pr p NotKeyed a e = let same : a ≡ answers.NotKeyed = cc in rw same refl
@@ -123,40 +124,42 @@ three_right st Pr p (Accepted j n unit) a e = let same : a ≡ answers.Accepted 
 three_right st Npr p (Accepted j n unit) a e = let same : a ≡ answers.Accepted j n (length unit) = cc in rw same refl
 three_right st Cpl p (Accepted j n unit) a e = let same : a ≡ answers.Accepted j n (length unit) = cc in rw same refl
 
-pub three-right : (st : StreamState) (p : Packet) (t : Taken) (a : Answer) → Some a ≡ answer_taken t
+pub three-right : (st : StreamState) (p : Packet) (t : PacketOutcome) (a : Answer) → Some a ≡ answer_taken t
     → three_after p.prefix.sub st.rx.pr st.rx.npr st.rx.cpl p t a ≡ (state_after st p t).rx
 three-right st p t a e = three_right st p.prefix.sub p t a e
 
 -- ---- what is lent
 
 -- the receiver after both steps
-pub record IsAfter (u w : SubKind) (p : Packet) (t : Taken) (a : Answer) (old new : ReceiveEnd) : Type 0 where
+pub record IsAfter (u w : SubKind) (p : Packet) (t : PacketOutcome) (a : Answer) (old new : ReceiveEnd) : Type 0 where
   pub sub_is : new.sub ≡ old.sub
   pub aggregation_is : new.aggregation ≡ old.aggregation
   pub closed_is : new.closed ≡ old.closed
   pub kept_is : new.kept ≡ kept_last a (kept_in u w old.kept p t)
   pub delivered_is : is_fail a ≡ false → new.delivered ≡ (if is_same_sub u w then end_after old p t else old).delivered
 
-kept_of : (b : Bool) (old : ReceiveEnd) (p : Packet) (t : Taken) → (if b then end_after old p t else old).kept
+kept_of : (b : Bool) (old : ReceiveEnd) (p : Packet) (t : PacketOutcome) → (if b then end_after old p t else old).kept
     ≡ (if b then kept_sub_after old.kept p t else old.kept)
 kept_of true old p t = refl
 kept_of false old p t = refl
 
-sub_of : (b : Bool) (old : ReceiveEnd) (p : Packet) (t : Taken) → (if b then end_after old p t else old).sub ≡ old.sub
+sub_of : (b : Bool) (old : ReceiveEnd) (p : Packet) (t : PacketOutcome) → (if b then end_after old p t else old).sub
+    ≡ old.sub
 sub_of true old p t = refl
 sub_of false old p t = refl
 
-aggregation_of : (b : Bool) (old : ReceiveEnd) (p : Packet) (t : Taken)
+aggregation_of : (b : Bool) (old : ReceiveEnd) (p : Packet) (t : PacketOutcome)
     → (if b then end_after old p t else old).aggregation ≡ old.aggregation
 aggregation_of true old p t = refl
 aggregation_of false old p t = refl
 
-closed_of : (b : Bool) (old : ReceiveEnd) (p : Packet) (t : Taken) → (if b then end_after old p t else old).closed
+closed_of : (b : Bool) (old : ReceiveEnd) (p : Packet) (t : PacketOutcome)
+    → (if b then end_after old p t else old).closed
     ≡ old.closed
 closed_of true old p t = refl
 closed_of false old p t = refl
 
-pub is-after : (u w : SubKind) (p : Packet) (t : Taken) (a : Answer) (old mid new : ReceiveEnd)
+pub is-after : (u w : SubKind) (p : Packet) (t : PacketOutcome) (a : Answer) (old mid new : ReceiveEnd)
     → mid ≡ (if is_same_sub u w then end_after old p t else old)
     → new.kept ≡ (if is_fail a then dropped_held mid.kept else mid.kept)
     → (is_fail a ≡ false → new.delivered ≡ mid.delivered)
@@ -174,7 +177,7 @@ is-after u w p t a old mid new mid_is kept delivered rest =
       delivered_is = λ no_fail. delivered no_fail ∙ ap (λ (e : ReceiveEnd). e.delivered) mid_is;
     }
 
-lent_right : (u : SubKind) (p : Packet) (t : Taken) (a : Answer) (pr npr cpl pr' npr' cpl' : ReceiveEnd)
+lent_right : (u : SubKind) (p : Packet) (t : PacketOutcome) (a : Answer) (pr npr cpl pr' npr' cpl' : ReceiveEnd)
     (st : StreamState) → Some a ≡ answer_taken t
     → st.rx ≡ record { pr = pr.kept; npr = npr.kept; cpl = cpl.kept }
     → (is_fail a ≡ false → pr'.delivered ≡ (if is_same_sub u Pr then end_after pr (of_sub p u) t else pr).delivered)
@@ -231,12 +234,13 @@ own-after u w p a pr npr cpl mid new got mid_is kept delivered rest =
     is-after u w p (lane_outcome (value_of_kind u pr npr cpl) got p) a (value_of_kind w pr npr cpl) mid new
     (mid_is ∙ own_take u w pr npr cpl got p) kept delivered rest
 
-pub record AreAfter (p : Packet) (t : Taken) (a : Answer) (pr npr cpl pr' npr' cpl' : ReceiveEnd) : Type 0 where
+pub record AreAfter (p : Packet) (t : PacketOutcome) (a : Answer) (pr npr cpl pr' npr' cpl' : ReceiveEnd) : Type 0 where
   pub pr_is : IsAfter p.prefix.sub Pr p t a pr pr'
   pub npr_is : IsAfter p.prefix.sub Npr p t a npr npr'
   pub cpl_is : IsAfter p.prefix.sub Cpl p t a cpl cpl'
 
-pub ends-after : (p : Packet) (t : Taken) (a : Answer) (pr npr cpl pr' npr' cpl' : ReceiveEnd) (lent : Option SubKind)
+pub ends-after : (p : Packet) (t : PacketOutcome) (a : Answer) (pr npr cpl pr' npr' cpl' : ReceiveEnd)
+    (lent : Option SubKind)
     → Some a ≡ answer_taken t → AreAfter p t a pr npr cpl pr' npr' cpl'
     → view pr' npr' cpl' (lent_lane p.prefix.sub a) ≡ receive_ends_after (view pr npr cpl lent) p t
 ends-after p t a pr npr cpl pr' npr' cpl' lent e after =
@@ -261,7 +265,7 @@ ends-after p t a pr npr cpl pr' npr' cpl' lent e after =
 -- ---- what always holds
 
 -- an accepted unit keeps the order
-abbrev pub Orderly : ReceiveEnd → ℕ → Taken → Type 0
+abbrev pub Orderly : ReceiveEnd → ℕ → PacketOutcome → Type 0
 Orderly e got (Accepted j n unit) = allows e got unit ≡ true
 Orderly e got t = Unit {0}
 
@@ -293,14 +297,15 @@ got_last : (b : Bool) (rx : RxSub) → (if b then dropped_held rx else rx).got �
 got_last true rx = refl
 got_last false rx = refl
 
-got_more : (rx : RxSub) (p : Packet) (t : Taken) → rx.got ≤ (kept_sub_after rx p t).got
+got_more : (rx : RxSub) (p : Packet) (t : PacketOutcome) → rx.got ≤ (kept_sub_after rx p t).got
 got_more rx p Insecure = omega arith
 got_more rx p NotKeyed = omega arith
 got_more rx p (Failed cause) = omega arith
 got_more rx p (Held j n) = omega arith
 got_more rx p (Accepted j n unit) = omega arith
 
-sum_within : (e : ReceiveEnd) (got : ℕ) (p : Packet) (t : Taken) → (sub_bits e.sub == 0) ≡ false → e.kept.sum ≤ got
+sum_within : (e : ReceiveEnd) (got : ℕ) (p : Packet) (t : PacketOutcome) → (sub_bits e.sub == 0) ≡ false
+    → e.kept.sum ≤ got
     → Orderly e got t → (kept_sub_after e.kept p t).sum ≤ got
 sum_within e got p Insecure other le o = le
 sum_within e got p NotKeyed other le o = le
@@ -311,7 +316,8 @@ sum_within e got p (Accepted j n unit) other le o =
     (ap (λ (b : Bool). b || nat_le (e.kept.sum + posted_sum unit) got) (sym other) ∙ o)
 
 -- the order of a sub-stream, whatever the packet's
-order_kept : (u w : SubKind) (p : Packet) (t : Taken) (pr e : ReceiveEnd) → (u ≡ w → Orderly e pr.kept.got t) → e.sub
+order_kept : (u w : SubKind) (p : Packet) (t : PacketOutcome) (pr e : ReceiveEnd) → (u ≡ w → Orderly e pr.kept.got t)
+    → e.sub
     ≡ w → (sub_bits w == 0) ≡ false
     → e.kept.sum ≤ pr.kept.got → (kept_in u w e.kept p t).sum ≤ (kept_in u Pr pr.kept p t).got
 order_kept Pr Pr p t pr e o is other le = absurd (cc)
@@ -329,7 +335,7 @@ order_kept Cpl Npr p t pr e o is other le = le
 order_last : (a : Answer) (x y : RxSub) → x.sum ≤ y.got → (kept_last a x).sum ≤ (kept_last a y).got
 order_last a x y le = omega (arith, le, sum_last (is_fail a) x, got_last (is_fail a) y)
 
-pub lanes-kept : (p : Packet) (t : Taken) (a : Answer) (pr npr cpl pr' npr' cpl' : ReceiveEnd)
+pub lanes-kept : (p : Packet) (t : PacketOutcome) (a : Answer) (pr npr cpl pr' npr' cpl' : ReceiveEnd)
     → IsReceiveLanes pr npr cpl → lane_outcome (value_of_kind p.prefix.sub pr npr cpl) pr.kept.got p ≡ t
     → AreAfter p t a pr npr cpl pr' npr' cpl' → IsReceiveLanes pr' npr' cpl'
 lanes-kept p t a pr npr cpl pr' npr' cpl' inv is after =
@@ -358,7 +364,7 @@ lanes-kept p t a pr npr cpl pr' npr' cpl' inv is after =
     picked_order : (w : SubKind) → p.prefix.sub ≡ w → Orderly (value_of_kind w pr npr cpl) pr.kept.got t
     picked_order w e =
         subst (λ (u : SubKind). Orderly (value_of_kind u pr npr cpl) pr.kept.got t) e
-        (subst (λ (t : Taken). Orderly (value_of_kind p.prefix.sub pr npr cpl) pr.kept.got t) is
+        (subst (λ (t : PacketOutcome). Orderly (value_of_kind p.prefix.sub pr npr cpl) pr.kept.got t) is
         (orderly (value_of_kind p.prefix.sub pr npr cpl) pr.kept.got p
         (live_in (slot_in_set (value_of_kind p.prefix.sub pr npr cpl).kept.slots p.prefix.k))
         (live_in (slot_in_set (value_of_kind p.prefix.sub pr npr cpl).kept.slots (not p.prefix.k)))))

@@ -17,7 +17,8 @@ use Rattle.ide_prefix.specs.Iv.{iv_of}
 use Rattle.ide_prefix.specs.Packet.{Packet}
 use Rattle.spec_stream.specs.Sending.{is_posted, total_ahead}
 use Rattle.spec_stream.specs.Stream.{LaneSlot, Empty, Programmed, Armed, Live, LiveKey, LaneSlots, slot_in_set}
-use Rattle.spec_stream.specs.Stream.{with_slot, live_in, Taken, Insecure, NotKeyed, Failed, Held, Accepted, holds_any}
+use Rattle.spec_stream.specs.Stream.{with_slot, live_in, PacketOutcome, Insecure, NotKeyed, Failed, Held, Accepted}
+use Rattle.spec_stream.specs.Stream.{holds_any}
 use Rattle.spec_stream.specs.Stream.{posted_sum, is_tagged, outcome_of_checks, slot_without_packets, gone_on}
 use Rattle.spec_stream.specs.Stream.{counted_unit, slot_unless_older, accepted_slots}
 use Rattle.key_slots.specs.{is_only_live}
@@ -163,7 +164,7 @@ accepted-keyed e got p j n unit None (Some y) is = absurd (cc)
 accepted-keyed e got p j n unit (Some x) y is = posted_sum-opened x p.prefix.sub unit
 
 pub end-after : (rx : Receiver) (sub : SubKind) (closed : Bool) (sum own total got : ℕ) (lent : List ℕ) (p : Packet)
-    (t : Taken) (a : Answer)
+    (t : PacketOutcome) (a : Answer)
     → lane_outcome (view rx sub closed sum own total) got p ≡ t → Some a ≡ answer_taken t
     → (let new : Receiver = after_answer rx lent p t in
     view new sub closed (if is_accepted a then sum + posted_sum new.delivered else sum)
@@ -274,7 +275,7 @@ joined_right ahead ahead' aggregation closed total x p held byte room is =
     }
 
 -- what an answer tells of the slots
-abbrev FitsHere : ℕ → Packet → Taken → Option LiveKey → Option LiveKey → Type 0
+abbrev FitsHere : ℕ → Packet → PacketOutcome → Option LiveKey → Option LiveKey → Type 0
 FitsHere aggregation p (Held j n) (Some x) other = (holds_any other ≡ false)
     × (nat_le aggregation (length x.packets + 1) ≡ false)
 FitsHere aggregation p (Held j n) None other = ⊥
@@ -365,7 +366,7 @@ accepted_both false rx closed sum own total j inv none = (
 )
 
 pub taken-kept : (rx : Receiver) (sub : SubKind) (closed : Bool) (sum own total got : ℕ) (lent : List ℕ) (p : Packet)
-    (t : Taken) (a : Answer) (sum' own' total' : ℕ)
+    (t : PacketOutcome) (a : Answer) (sum' own' total' : ℕ)
     → IsReceiveLane rx closed sum own total → p.prefix.posted < 256
     → lent ≡ (if closed then to_be_bytes w64 total else [])
     → lane_outcome (view rx sub closed sum own total) got p ≡ t → Some a ≡ answer_taken t
@@ -374,7 +375,7 @@ pub taken-kept : (rx : Receiver) (sub : SubKind) (closed : Bool) (sum own total 
     → IsReceiveLane (after_answer rx lent p t) closed sum' own' total'
 taken-kept rx sub closed sum own total got lent p t a sum' own' total' inv byte is_lent is e le_sum le_own is_total =
     by_taken t is e (subst
-    (λ (t : Taken). FitsHere rx.aggregation p t (key_for rx p.prefix.k) (key_for rx (not p.prefix.k)))
+    (λ (t : PacketOutcome). FitsHere rx.aggregation p t (key_for rx p.prefix.k) (key_for rx (not p.prefix.k)))
     is (fits_here (view rx sub closed sum own total) got p (key_for rx p.prefix.k) (key_for rx (not p.prefix.k))))
   where
     counts : (b : Bool) → sum' ≤ (if b then sum + 2040 else sum) → own' ≤ (if b then own + 255 else own)
@@ -399,7 +400,7 @@ taken-kept rx sub closed sum own total got lent p t a sum' own' total' inv byte 
     same_total b same quiet = is_total ∙ ap (λ (x : Answer). if is_accepted x then total + 1 else total) same ∙ ap
         (λ x. if x then total + 1 else total) quiet
 
-    by_taken : (t : Taken) → lane_outcome (view rx sub closed sum own total) got p ≡ t → Some a ≡ answer_taken t
+    by_taken : (t : PacketOutcome) → lane_outcome (view rx sub closed sum own total) got p ≡ t → Some a ≡ answer_taken t
         → FitsHere rx.aggregation p t (key_for rx p.prefix.k) (key_for rx (not p.prefix.k))
         → IsReceiveLane (after_answer rx lent p t) closed sum' own' total'
     by_taken NotKeyed is e fits =

@@ -8,7 +8,7 @@ use Rattle.ide_types.specs.declared.sub.FailCause.TheVariants as fail
 use Rattle.ide_prefix.specs.Packet.{Packet}
 use Rattle.spec_stream.specs.Sending.{total_ahead}
 use Rattle.spec_stream.specs.Stream.{LaneSlot, Live, LiveKey, RxSub, Three, StreamState, at_sub, set_sub, each_sub}
-use Rattle.spec_stream.specs.Stream.{slot_in_set, live_in, Taken, NotKeyed, Failed, Held, Accepted, holds_any}
+use Rattle.spec_stream.specs.Stream.{slot_in_set, live_in, PacketOutcome, NotKeyed, Failed, Held, Accepted, holds_any}
 use Rattle.spec_stream.specs.Stream.{posted_sum, is_tagged, outcome_of_checks, dropped_held, accepted_sub, held_sub}
 use Rattle.spec_stream.specs.Stream.{stream_outcome, state_after}
 use Rattle.spec_stream.specs.Slots.{any_live}
@@ -39,7 +39,7 @@ new_receive_end sub aggregation closed =
 abbrev pub allows : ReceiveEnd → ℕ → List Packet → Bool
 allows e got unit = (sub_bits e.sub == 0) || nat_le (e.kept.sum + posted_sum unit) got
 
-abbrev pub lane_outcome_by_keys : ReceiveEnd → ℕ → Packet → Option LiveKey → Option LiveKey → Taken
+abbrev pub lane_outcome_by_keys : ReceiveEnd → ℕ → Packet → Option LiveKey → Option LiveKey → PacketOutcome
 lane_outcome_by_keys e got p None None = NotKeyed
 lane_outcome_by_keys e got p None (Some y) = Failed fail.Key
 lane_outcome_by_keys e got p (Some x) other =
@@ -49,23 +49,23 @@ lane_outcome_by_keys e got p (Some x) other =
     else Held x.draw (x.units + 1)
 
 -- the answer to a packet of it, after so many accepted posted packets
-abbrev pub lane_outcome : ReceiveEnd → ℕ → Packet → Taken
+abbrev pub lane_outcome : ReceiveEnd → ℕ → Packet → PacketOutcome
 lane_outcome e got p = lane_outcome_by_keys e got p (live_in (slot_in_set e.kept.slots p.prefix.k))
     (live_in (slot_in_set e.kept.slots (not p.prefix.k)))
 
-abbrev pub kept_sub_after : RxSub → Packet → Taken → RxSub
+abbrev pub kept_sub_after : RxSub → Packet → PacketOutcome → RxSub
 kept_sub_after rx p (Failed cause) = dropped_held rx
 kept_sub_after rx p (Held j n) = held_sub p.prefix.k p rx
 kept_sub_after rx p (Accepted j n unit) = accepted_sub j p.prefix.k unit rx
 kept_sub_after rx p taken = rx
 
-abbrev pub delivered_after : ReceiveEnd → Packet → Taken → List Packet
+abbrev pub delivered_after : ReceiveEnd → Packet → PacketOutcome → List Packet
 delivered_after e p (Accepted j n unit) = opened_unit (live_in (slot_in_set e.kept.slots p.prefix.k)) p.prefix.sub unit
 delivered_after e p (Failed cause) = []
 delivered_after e p (Held j n) = []
 delivered_after e p taken = e.delivered
 
-abbrev pub end_after : ReceiveEnd → Packet → Taken → ReceiveEnd
+abbrev pub end_after : ReceiveEnd → Packet → PacketOutcome → ReceiveEnd
 end_after e p taken = record e { kept = kept_sub_after e.kept p taken; delivered = delivered_after e p taken }
 
 abbrev pub called_into : ReceiveEnd → KeyCall → RxSub
@@ -143,7 +143,7 @@ pub record IsReceiveLanes (pr npr cpl : ReceiveEnd) : Type 0 where
   pub cpl_order : cpl.kept.sum ≤ pr.kept.got
 
 -- an accepted unit, decrypted
-abbrev pub opened_if_accepted : StreamState → Packet → Taken → List Packet
+abbrev pub opened_if_accepted : StreamState → Packet → PacketOutcome → List Packet
 opened_if_accepted st p (Accepted draw unit packets) =
     opened_unit (live_in (slot_in_set (at_sub st.rx p.prefix.sub).slots p.prefix.k)) p.prefix.sub packets
 opened_if_accepted st p taken = []
@@ -152,10 +152,10 @@ opened_if_accepted st p taken = []
 abbrev pub receiving_state : ReceiveEnds → StreamState
 receiving_state x = record no_stream { rx = x.rx }
 
-abbrev pub lanes_outcome : ReceiveEnds → Packet → Taken
+abbrev pub lanes_outcome : ReceiveEnds → Packet → PacketOutcome
 lanes_outcome x p = stream_outcome x.aggregation x.closed (receiving_state x) p
 
-abbrev pub receive_ends_after : ReceiveEnds → Packet → Taken → ReceiveEnds
+abbrev pub receive_ends_after : ReceiveEnds → Packet → PacketOutcome → ReceiveEnds
 receive_ends_after x p taken = record x {
   rx = (state_after (receiving_state x) p taken).rx;
   delivered = opened_if_accepted (receiving_state x) p taken;

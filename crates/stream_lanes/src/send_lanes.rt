@@ -292,7 +292,7 @@ struct SendKeys {
 }
 
 // A key that is asked for. A missing key is refused at once, and a worn one after all that are missing.
-type Asked<K> = Result<Result<K, SendRefusal>, SendRefusal>;
+type KeyOrRefused<K> = Result<Result<K, SendRefusal>, SendRefusal>;
 
 // Whether a posted count passes what a byte holds within one unit.
 fn may_overflow(posted: u8, aggregation: u8) -> bool
@@ -379,7 +379,7 @@ impl SendLanes {
     }
 
     // The key of a sub-stream.
-    fn key(&self, sub: SubKind) -> Asked<ReadyKey>
+    fn key(&self, sub: SubKind) -> KeyOrRefused<ReadyKey>
         ensures { IsKeyOrRefused sub self.now.fixed.limit (is_keyless (sealing_lanes self.now) sub)
             (is_worn (sealing_lanes self.now) sub) (λ key. ready_end (send_end_at self.now sub) ≡ Ok key) result }
     {
@@ -392,7 +392,7 @@ impl SendLanes {
 
     // The key of the sync packet that goes first in sub-stream `sub`, NPR or CPL, before a TLP of this class; `None` if
     // none does.
-    fn sync_key(&self, class: SubKind, sub: SubKind) -> Asked<Option<ReadyKey>>
+    fn sync_key(&self, class: SubKind, sub: SubKind) -> KeyOrRefused<Option<ReadyKey>>
         requires { is_posted sub ≡ false }
         ensures { let needed = needs_sync (sealing_lanes self.now) class sub in
             IsKeyOrRefused sub self.now.fixed.limit (needed && is_keyless (sealing_lanes self.now) sub)

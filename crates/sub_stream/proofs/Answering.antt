@@ -11,7 +11,7 @@ use Rattle.ide_types.specs.declared.sub.FailCause.TheVariants as fail
 use Rattle.ide_types.specs.declared.sub.SubKind.{SubKind}
 use Rattle.ide_prefix.specs.Packet.{Packet}
 use Rattle.ide_prefix.specs.Units.{packet_without_tag}
-use Rattle.spec_stream.specs.Stream.{LiveKey, Taken, NotKeyed, Insecure, Failed, Held, Accepted}
+use Rattle.spec_stream.specs.Stream.{LiveKey, PacketOutcome, NotKeyed, Insecure, Failed, Held, Accepted}
 use Rattle.spec_stream.specs.Stream.{slot_in_set as seen_slot, with_slot, live_in, gone_on, counted_unit}
 use Rattle.spec_stream.specs.Stream.{slot_unless_older, slot_without_packets, accepted_slots, posted_sum}
 use Rattle.spec_stream.specs.Stream.{outcome_of_checks, Empty as EmptySlot, holds_any}
@@ -194,7 +194,7 @@ taken-keyed stream sub aggregation u0 u1 pair h unit allowed total p held few is
 
 -- ---- the receiver after it
 
-abbrev pub IsJudged : Packet → Taken → Type 0
+abbrev pub IsJudged : Packet → PacketOutcome → Type 0
 IsJudged p NotKeyed = ⊥
 IsJudged p Insecure = ⊥
 IsJudged p (Failed cause) = Unit {0}
@@ -319,7 +319,7 @@ counted_one k u1 a = if is_accepted a && k then u1 + 1 else u1
 
 pub view-answered : (stream : ℕ) (sub : SubKind) (aggregation u0 u1 : ℕ) (pair : SlotPair) (h : Holds)
     (unit new : Gathered)
-    (total : List ℕ) (p : Packet) (held : DrawnKey) (a : Answer) (t : Taken)
+    (total : List ℕ) (p : Packet) (held : DrawnKey) (a : Answer) (t : PacketOutcome)
     → live_held (slot_in pair p.prefix.k) ≡ Some held → holds_apart p.prefix.k h ≡ false
     → (p.prefix.m ≡ false → p.tag ≡ []) → IsJudged p t → Some a ≡ answer_taken t
     → BufferAfter (begun_where_empty (unit_kept h unit) total (units_of p.prefix.k u0 u1 + 1))
@@ -332,7 +332,7 @@ view-answered stream sub aggregation u0 u1 pair h unit new total p held a t is a
     buffer =
     by_taken t judged answered buffer
   where
-    by_taken : (t : Taken) → IsJudged p t → Some a ≡ answer_taken t
+    by_taken : (t : PacketOutcome) → IsJudged p t → Some a ≡ answer_taken t
         → BufferAfter (begun_where_empty (unit_kept h unit) total (units_of p.prefix.k u0 u1 + 1))
         (live_key_seen (units_of p.prefix.k u0 u1) (unit_kept h unit).packets held) p t new
         → view stream sub aggregation (counted_zero p.prefix.k u0 a) (counted_one p.prefix.k u1 a)
@@ -454,7 +454,7 @@ armed_after_older false pair draw e =
 
 pub receiver-answered : (aggregation u0 u1 : ℕ) (pair : SlotPair) (h : Holds) (unit new : Gathered)
     (total : List ℕ)
-    (p : Packet) (held : DrawnKey) (a : Answer) (t : Taken)
+    (p : Packet) (held : DrawnKey) (a : Answer) (t : PacketOutcome)
     → IsReceiver aggregation pair h unit
     → live_held (slot_in pair p.prefix.k) ≡ Some held → fits_held h (length unit.packets) aggregation p.prefix.k
     p.prefix.m
@@ -482,7 +482,7 @@ receiver-answered aggregation u0 u1 pair h unit new total p held a t inv is fits
       few = few;
     }
 
-    by_taken : (t : Taken) → IsJudged p t → Some a ≡ answer_taken t
+    by_taken : (t : PacketOutcome) → IsJudged p t → Some a ≡ answer_taken t
         → BufferAfter (begun_where_empty (unit_kept h unit) total (units_of p.prefix.k u0 u1 + 1))
         (live_key_seen (units_of p.prefix.k u0 u1) (unit_kept h unit).packets held) p t new
         → IsReceiver aggregation (slots_after a p.prefix.k pair) (holds_after_answer p.prefix.k a) new

@@ -2,7 +2,7 @@
 use Rattle.std.specs.Prelude.{ℕ, length, Option, Some, None}
 use Rattle.ide_types.specs.declared.port.PortName.{PortName}
 use Rattle.event_verdicts.specs.declared.verdict.SealedPacket.{SealedPacket as Described}
-use Rattle.spec_stream.specs.Stream.{Taken as Answer, Insecure, NotKeyed as Keyless, Failed, Held as HeldBack}
+use Rattle.spec_stream.specs.Stream.{PacketOutcome as Answer, Insecure, NotKeyed as Keyless, Failed, Held as HeldBack}
 use Rattle.spec_stream.specs.Stream.{Accepted as Whole}
 use Rattle.sub_stream.specs.declared.answer.MeasuredPacket.{MeasuredPacket}
 use Rattle.sub_stream.specs.declared.answer.Taken.{Taken}

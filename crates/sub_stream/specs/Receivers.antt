@@ -9,7 +9,8 @@ use Rattle.gcm_seal.specs.Gcm.{verifies}
 use Rattle.ide_prefix.specs.Packet.{Packet}
 use Rattle.ide_prefix.specs.Iv.{iv_of}
 use Rattle.ide_prefix.specs.Units.{authenticated_bytes, encrypted_bytes, packet_without_tag}
-use Rattle.spec_stream.specs.Stream.{LaneSlot, Empty, Programmed, Live, LaneSlots, LiveKey, Taken, NotKeyed, Failed}
+use Rattle.spec_stream.specs.Stream.{LaneSlot, Empty, Programmed, Live, LaneSlots, LiveKey, PacketOutcome, NotKeyed}
+use Rattle.spec_stream.specs.Stream.{Failed}
 use Rattle.spec_stream.specs.Stream.{Held, Accepted, slot_in_set, with_slot, live_in, holds_any, posted_sum}
 use Rattle.spec_stream.specs.Stream.{outcome_of_checks, slot_without_packets, gone_on, accepted_slots}
 use Rattle.spec_stream.specs.Slots.{begun_slot, no_slots}
@@ -131,7 +132,7 @@ receiver_slots_seen pair units_zero units_one h ps =
           pair.one;
     }
 
--- packets are held in a Live slot, fewer than the mode
+-- packets are held in a Live slot, fewer than the aggregation
 abbrev pub HoldsFew : SlotPair → ℕ → Holds → List Packet → Type 0
 HoldsFew pair aggregation HeldZero ps = (is_live_key pair.zero ≡ true) × (0 < length ps) × (length ps < aggregation)
 HoldsFew pair aggregation HeldOne ps = (is_live_key pair.one ≡ true) × (0 < length ps) × (length ps < aggregation)
@@ -173,13 +174,13 @@ is_tagged_behind ahead x p =
 abbrev pub fits_unit : ℕ → LiveKey → Option LiveKey → Packet → Bool
 fits_unit aggregation x other p = not (holds_any other || (not p.prefix.m && nat_le aggregation (length x.packets + 1)))
 
-abbrev pub judged_packet : List ℕ → ℕ → LiveKey → Packet → Taken
+abbrev pub judged_packet : List ℕ → ℕ → LiveKey → Packet → PacketOutcome
 judged_packet ahead allowed x p =
     if p.prefix.m then outcome_of_checks (is_tagged_behind ahead x p)
     (nat_le (posted_sum (x.packets ++ p ∷ [])) allowed) x p
     else Held x.draw (x.units + 1)
 
-abbrev pub receiver_outcome_by_keys : Receiver → ℕ → List ℕ → Packet → Option LiveKey → Option LiveKey → Taken
+abbrev pub receiver_outcome_by_keys : Receiver → ℕ → List ℕ → Packet → Option LiveKey → Option LiveKey → PacketOutcome
 receiver_outcome_by_keys rx allowed total p None None = NotKeyed
 receiver_outcome_by_keys rx allowed total p None (Some y) = Failed fail.Key
 receiver_outcome_by_keys rx allowed total p (Some x) other =
@@ -199,14 +200,14 @@ shown_keyed (Ok shown) = Ok (record { key = shown.0.now; draw = shown.1 })
 shown_keyed (Err answer) = Err answer
 
 -- the buffer after an answer under a key: the packet is with the held ones, or the unit is decrypted
-abbrev pub BufferAfter : Gathered → LiveKey → Packet → Taken → Gathered → Type 0
+abbrev pub BufferAfter : Gathered → LiveKey → Packet → PacketOutcome → Gathered → Type 0
 BufferAfter begun x p (Held draw unit) new = new ≡ with_packet begun (packet_without_tag p)
 BufferAfter begun x p (Accepted draw unit packets) new =
     new ≡ record begun { packets = opened_packets x.key (iv_of p.prefix.sub (x.units + 1)) packets }
 BufferAfter begun x p answer new = Unit {0}
 
 -- the answer to a packet of the sub-stream, whose unit's posted counts may sum to `allowed` at most
-abbrev pub receiver_outcome : Receiver → ℕ → List ℕ → Packet → Taken
+abbrev pub receiver_outcome : Receiver → ℕ → List ℕ → Packet → PacketOutcome
 receiver_outcome rx allowed total p = receiver_outcome_by_keys rx allowed total p (key_for rx p.prefix.k)
     (key_for rx (not p.prefix.k))
 
@@ -226,7 +227,7 @@ opened_unit None sub unit = []
 opened_unit (Some x) sub unit = opened_packets x.key (iv_of sub (x.units + 1)) unit
 
 -- what is kept after an answer: only an accepted unit moves a counter or empties a slot
-abbrev pub after_answer : Receiver → List ℕ → Packet → Taken → Receiver
+abbrev pub after_answer : Receiver → List ℕ → Packet → PacketOutcome → Receiver
 after_answer rx total p (Failed cause) = dropped_receiver rx
 after_answer rx total p (Held draw unit) =
     record rx {

@@ -34,7 +34,7 @@ fn put_number(out: &mut Header, number: u16)
     put(out, &bytes);
 }
 
-fn tag_of(fields: &Fields) -> u16
+fn tag_field(fields: &Fields) -> u16
     ensures { result ≡ tag_of_fields fields.now }
 {
     match fields {
@@ -164,7 +164,7 @@ fn header_bytes(head: &HeadView) -> Header
 {
     let mut out = ArrayVec::new();
     put(&mut out, &[first_byte(head)]);
-    put(&mut out, &lead_bytes(&head.lead, tag_of(&head.fields)));
+    put(&mut out, &lead_bytes(&head.lead, tag_field(&head.fields)));
     put_fields(&mut out, &head.lead, &head.fields);
     out
 }

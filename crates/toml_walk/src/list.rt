@@ -56,7 +56,7 @@ impl CountRange {
 
 // The elements of a list.
 #[tactic(auto, using(crate::proofs::Lists::list_of_view))]
-fn items_in(value: &Value) -> Option<&[Value]>
+fn items_if_list(value: &Value) -> Option<&[Value]>
     ensures { option_map (λ vs. map view vs.now) result ≡ option_map list_of (as_array (view value.now)) }
 {
     match value.as_array() {
@@ -69,7 +69,7 @@ fn items_in(value: &Value) -> Option<&[Value]>
 pub fn items_of(path: Bytes, value: &Value) -> Result<&[Value], PlanError>
     ensures { Gives (λ vs. map view vs.now) result (values_of path (view value.now)) }
 {
-    match items_in(value) {
+    match items_if_list(value) {
         None => Err(PlanError::Fault(PlanFault::Kind(path))),
         Some(items) => Ok(items),
     }

@@ -102,7 +102,7 @@ impl Reader for Links {
 }
 
 // A region that ends at 2^63 or below.
-fn region_in(keys: &Keys, base: u64, size: u64) -> Result<Region, PlanError>
+fn bounded_region(keys: &Keys, base: u64, size: u64) -> Result<Region, PlanError>
     requires base { base ≤ greatest }
     requires size { size ≤ greatest }
     ensures { Gives (λ x. x) result (region_within keys.now.path base size) }
@@ -122,7 +122,7 @@ fn region_of(keys: &Keys) -> Result<Region, PlanError>
     keys.only(&["base", "size"])?;
     let base = keys.required("base", &Wide::formed(0, Form::Pages))?;
     let size = keys.required("size", &Wide::formed(4096, Form::Pages))?;
-    region_in(keys, base, size)
+    bounded_region(keys, base, size)
 }
 
 #[derive(Clone, Copy)]

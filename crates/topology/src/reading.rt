@@ -15,7 +15,7 @@ use toml::Table;
 use toml_walk::{Keys, PlanError, PlanFault};
 
 // The hop that its keys say: without classes it takes none.
-fn hop_from(alloc: Global, hop: Option<u8>, classes: Option<Items<u8>>) -> Option<HopPlan>
+fn drafted_hop(alloc: Global, hop: Option<u8>, classes: Option<Items<u8>>) -> Option<HopPlan>
     ensures { result ≡ hop_of hop classes }
 {
     match (hop, classes) {
@@ -29,7 +29,7 @@ fn hop_from(alloc: Global, hop: Option<u8>, classes: Option<Items<u8>>) -> Optio
 }
 
 // The link that its keys say.
-fn link_from(alloc: Global, draft: LinkDraft) -> Result<LinkPlan, AllocError>
+fn drafted_link(alloc: Global, draft: LinkDraft) -> Result<LinkPlan, AllocError>
     ensures { IfOk result (λ l. l ≡ link_of draft) }
 {
     let LinkDraft {
@@ -44,7 +44,7 @@ fn link_from(alloc: Global, draft: LinkDraft) -> Result<LinkPlan, AllocError>
         .into_iter()
         .map(|draft| draft.interface);
     let interfaces = Items::new(plans.collect(alloc)?);
-    let hop = hop_from(alloc, hop, hop_classes);
+    let hop = drafted_hop(alloc, hop, hop_classes);
     Ok(LinkPlan {
         nonces,
         streams,
@@ -68,7 +68,7 @@ fn plan_of_draft(alloc: Global, draft: PlanDraft) -> Result<Plan, AllocError>
     } = draft;
     let mut all = Vec::new(alloc);
     for draft in links.into_vec() {
-        all.push(link_from(alloc, draft)?)?;
+        all.push(drafted_link(alloc, draft)?)?;
     }
     Ok(Plan {
         version,

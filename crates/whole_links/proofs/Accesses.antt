@@ -35,7 +35,7 @@ use Rattle.script_events.specs.declared.event.InterfaceEvent.{InterfaceEvent}
 use Rattle.whole_links.specs.declared.whole.WholeLinks.{WholeLinks}
 use Rattle.whole_links.specs.Whole.{HasAllAccesses}
 use Rattle.std.specs.Option.{option_map_or}
-use Rattle.interface_state.specs.Machine.{Tdi}
+use Rattle.interface_state.specs.Machine.{DeviceTdi}
 use Rattle.all_links.proofs.Asked.{if_some, is_found}
 use Rattle.whole_links.specs.Accesses.{takes_read, is_sealed, happens_at, bars_named, floors_if, floors_set}
 use Rattle.whole_links.specs.Accesses.{reset_happens, carried_after_event, AccessesInterface}
@@ -95,13 +95,14 @@ accesses_there s (Some at) whole here = subst (λ (n : ℕ). at.0 < n) (sym whol
 pub bars_at : (s : Links) (n : ℕ) (at : ℕ × ℕ) (bars : List BarPlan)
     → Some at ≡ interface_named s.keeper.interfaces s.ends.links n
     → IfSome (slice_get s.ends.links at.0) (λ (l : LinkEnds). IfSome (slice_get l.device.interfaces.interfaces at.1)
-    (λ (t : Tdi). bars ≡ t.plan.bars)) → bars ≡ bars_named s n
+    (λ (t : DeviceTdi). bars ≡ t.plan.bars)) → bars ≡ bars_named s n
 bars_at s n at bars named says =
     let x = is_found s.keeper.interfaces s.ends n at named in
-    if_some (λ (t : Tdi). bars ≡ t.plan.bars) (slice_get x.ends_at.device.interfaces.interfaces at.1) x.tdi x.tdi_there
+    if_some (λ (t : DeviceTdi). bars ≡ t.plan.bars) (slice_get x.ends_at.device.interfaces.interfaces at.1) x.tdi
+    x.tdi_there
     (if_some (λ (l : LinkEnds). IfSome (slice_get l.device.interfaces.interfaces at.1)
-    (λ (t : Tdi). bars ≡ t.plan.bars)) (slice_get s.ends.links at.0) x.ends_at x.link_there says)
-    ∙ sym (ap (λ (o : Option Tdi). option_map_or (λ (t : Tdi). t.plan.bars) o []) x.named_is)
+    (λ (t : DeviceTdi). bars ≡ t.plan.bars)) (slice_get s.ends.links at.0) x.ends_at x.link_there says)
+    ∙ sym (ap (λ (o : Option DeviceTdi). option_map_or (λ (t : DeviceTdi). t.plan.bars) o []) x.named_is)
 
 pub happens_here : (happens : Bool) (o : Option (ℕ × ℕ)) (which : ℕ → Happened) (at : ℕ × ℕ) (xs : List LinkAccesses)
     (a a' : LinkAccesses) → happens ≡ true → Some at ≡ o → slice_get xs at.0 ≡ Some a

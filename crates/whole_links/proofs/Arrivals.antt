@@ -10,7 +10,7 @@ use Rattle.script_events.specs.declared.event.Event.TheVariants.{Arrive}
 use Rattle.event_verdicts.specs.declared.verdict.Verdict.{Verdict}
 use Rattle.event_verdicts.specs.declared.verdict.Verdict.TheVariants as v
 use Rattle.spec_keys.specs.History.{History}
-use Rattle.spec_links.specs.History.{Arrival}
+use Rattle.spec_links.specs.History.{ArrivedBytes}
 use Rattle.spec_links.specs.Packets.{arrival_at}
 use Rattle.spec_links.specs.Plan.{has_port, partner}
 use Rattle.spec_links.specs.Guarded.{happens_by}
@@ -29,7 +29,8 @@ use Rattle.all_links.specs.declared.links.Links.{Links}
 use Rattle.all_links.proofs.{sealed_there}
 use Rattle.whole_links.specs.Accesses.{AccessesArriveAt}
 use Rattle.whole_links.specs.Besides.{beside_whole}
-use Rattle.whole_links.specs.Packets.{altered_bytes, bytes_left, packet_event, incoming_event, passed_on, incoming_bytes}
+use Rattle.whole_links.specs.Packets.{altered_bytes, bytes_left, packet_event, incoming_event, passed_on}
+use Rattle.whole_links.specs.Packets.{incoming_bytes}
 use Rattle.whole_links.specs.Whole.{IsBoundedWhole, WholeEnds}
 use Rattle.whole_links.specs.declared.packets.Incoming.{Incoming}
 use Rattle.whole_links.specs.declared.packets.Incoming.TheVariants.{Given, Sent}
@@ -50,7 +51,7 @@ pub record IsBrought (plan : Plan) (old : Links) (e : Event) (end : PortName) (b
 -- ---- what an event brings
 
 -- it arrives
-abbrev arrival_by : Plan → Option LinkPacket → Option Arrival
+abbrev arrival_by : Plan → Option LinkPacket → Option ArrivedBytes
 arrival_by plan o = option_and_then (λ (x : LinkPacket). arrival_on plan x.port x.bytes) o
 
 module _ (plan : Plan) (st : LinkState) where
@@ -115,9 +116,9 @@ module _ (plan : Plan) (st : LinkState) where
       ≡ stepped_arrival plan b st (arrival_by plan (incoming_bytes plan st.packets i))
   incoming_step (Given port bytes) b =
       given_step port bytes.now b
-      ∙ ap (λ (a : Option Arrival). stepped_arrival plan b st a) (incoming_arrival (Given port bytes))
+      ∙ ap (λ (a : Option ArrivedBytes). stepped_arrival plan b st a) (incoming_arrival (Given port bytes))
   incoming_step (Sent n p) b =
-      packet_step n p b ∙ ap (λ (a : Option Arrival). stepped_arrival plan b st a) (incoming_arrival (Sent n p))
+      packet_step n p b ∙ ap (λ (a : Option ArrivedBytes). stepped_arrival plan b st a) (incoming_arrival (Sent n p))
 
   pub nothing_brought : (i : Incoming) → None ≡ incoming_bytes plan st.packets i → (b : BesidePorts)
       → step_of plan b st (incoming_event i) ≡ (v.Nothing, st)
@@ -219,7 +220,7 @@ module _ (plan : Plan) (old : WholeLinks) (e : Event) (end : PortName) (bytes : 
       contents = λ h links stands regions.
           let on = lands.stands old.links.keeper.keys old.links.packets.packets h links stands
           (brought.has h links stands) in
-          subst (λ (a : Option Arrival). Leads old.links.trusted.contents
+          subst (λ (a : Option ArrivedBytes). Leads old.links.trusted.contents
           (writes_by plan (grants_in old.links.keeper.interfaces) (links_state plan old.links) a verdict) m.contents)
           (sym brought.arrival) (on.leads regions);
     }
@@ -230,7 +231,7 @@ module _ (plan : Plan) (old : WholeLinks) (e : Event) (end : PortName) (bytes : 
       turn = λ h links stands.
           let on = lands.stands old.links.keeper.keys old.links.packets.packets h links stands
           (brought.has h links stands) in
-          subst (λ (a : Option Arrival). let ps = unit_in plan (links_state plan old.links) a in
+          subst (λ (a : Option ArrivedBytes). let ps = unit_in plan (links_state plan old.links) a in
           AccessesTurn (waiting_reads_after plan ps e verdict) same_floors
           (λ link. happens_by plan (policy_in old.links.keeper.interfaces old.links.ends old.accesses).statuses ps e
           verdict link)

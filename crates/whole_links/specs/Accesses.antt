@@ -17,17 +17,17 @@ use Rattle.spec_interfaces.specs.Exchanges.{carries, changes_device}
 use Rattle.guarded_memory.specs.Happenings.{Happened, InterfaceReset, AllReset, InterfaceStopped}
 use Rattle.spec_keys.specs.History.{History}
 use Rattle.spec_links.specs.Guarded.{happens_by}
-use Rattle.spec_links.specs.History.{Arrival}
+use Rattle.spec_links.specs.History.{ArrivedBytes}
 use Rattle.spec_links.specs.Hops.{HopTlp}
 use Rattle.machine_ports.specs.Machine.{LinkState}
 use Rattle.machine_ports.specs.Stands.{PortsStandFor}
 use Rattle.link_stores.specs.declared.link.LinkAccesses.{LinkAccesses}
 use Rattle.join_ends.specs.{waiting_next}
 use Rattle.all_links.specs.{AreLinks, carried_next, unit_in, unit_tlps, waiting_reads_after}
-use Rattle.interface_state.specs.Machine.{Tdi}
+use Rattle.interface_state.specs.Machine.{DeviceTdi}
 use Rattle.all_links.specs.Accesses.{runs_in, device_draw, same_reads, same_floors, nothing_happens, same_carried}
 use Rattle.all_links.specs.Accesses.{AccessesTurn, policy_in}
-use Rattle.all_links.specs.Interfaces.{interface_named, tdi_named}
+use Rattle.all_links.specs.Interfaces.{interface_named, named_device_interface}
 use Rattle.all_links.specs.BesideAfter.{arrival_in_state}
 use Rattle.all_links.specs.States.{links_state}
 use Rattle.all_links.specs.declared.links.Links.{Links}
@@ -64,7 +64,8 @@ happens_at happens None which link = []
 happens_at happens (Some at) which link = if happens && (at.0 == link) then Some (which at.1) ∷ [] else []
 
 abbrev pub bars_named : Links → ℕ → List BarPlan
-bars_named s i = option_map_or (λ (t : Tdi). t.plan.bars) (tdi_named s.keeper.interfaces s.ends.links i) []
+bars_named s i = option_map_or (λ (t : DeviceTdi). t.plan.bars)
+    (named_device_interface s.keeper.interfaces s.ends.links i) []
 
 abbrev pub halted_in : Links → ℕ → Verdict → ℕ → List (Option Happened)
 halted_in s i verdict link =
@@ -103,7 +104,7 @@ AccessesInterface (ie.Flr i) verdict old new =
 AccessesInterface e verdict old new = new.accesses ≡ old.accesses
 
 -- bytes arrive
-pub record AccessesArrive (plan : Plan) (arrival : LinkState → Option Arrival) (e : Event) (verdict : Verdict)
+pub record AccessesArrive (plan : Plan) (arrival : LinkState → Option ArrivedBytes) (e : Event) (verdict : Verdict)
     (old : Links) (xs ys : List LinkAccesses) : Type 0 where
   pub many : length ys ≡ length xs
   pub turn : (h : History) → AreLinks plan old.ends old.keeper.keys → PortsStandFor plan (links_state plan old) h

@@ -15,7 +15,7 @@ pub use Rattle.whole_links.specs.Accesses.{AccessesArrive}
 pub use Rattle.all_links.specs.Besides.{IsAnswered, answer_of_links, beside_in}
 pub use Rattle.all_links.specs.Interfaces.{device_interfaces, ended_if_there, ended_in, ended_on_link, firmware_as}
 pub use Rattle.all_links.specs.Interfaces.{flr_as, has_peer_if_there, has_peer_in, interface_named, managed_peer_stream}
-pub use Rattle.all_links.specs.Interfaces.{peer_verdict_in, memory_verdict, tdi_named, interface_of_ends}
+pub use Rattle.all_links.specs.Interfaces.{peer_verdict_in, memory_verdict, named_device_interface, interface_of_ends}
 pub use Rattle.all_links.specs.Interfaces.{interface_seen_at, verdict_at_ends, verdict_in, viewed_as, written_as}
 pub use Rattle.all_links.specs.Links.{Ends, HasNoVerdict, IsFirst, StandsForSome}
 pub use Rattle.all_links.specs.BesideAfter.{AllFollow, IsSettledOrSame, BesideAfter, BesideArrival, BesideAsking}

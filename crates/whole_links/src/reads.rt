@@ -60,7 +60,11 @@ impl WholeLinks {
                 let tlp = OutgoingTlp::written(bytes.as_slice(), head);
                 let stream = self.links.ends.link(link).host.choose(&tlp);
                 let binding = judged(stream_id(stream), interface, waiting.draw, bound)?;
-                Ok(Reply { binding, stream, head })
+                Ok(Reply {
+                    binding,
+                    stream,
+                    head,
+                })
             }
         }
     }

@@ -17,7 +17,7 @@ use Rattle.spec_stream.specs.Stream.{RxSub, at_sub, live_in, slot_in_set}
 use Rattle.spec_stream.specs.Slots.{stream_status}
 use Rattle.spec_links.specs.Plan.{SubStream, lane_in}
 use Rattle.spec_links.specs.Ports.{goes_through, port_of}
-use Rattle.spec_links.specs.History.{Arrival, altered_arrival, arrival_at_partner, has_failed, port_keys, on_draw}
+use Rattle.spec_links.specs.History.{ArrivedBytes, altered_arrival, arrival_at_partner, has_failed, port_keys, on_draw}
 use Rattle.spec_links.specs.History.{sealed_packets, shortened_arrival}
 unfoldable use Rattle.spec_links.specs.History.{arrival_of_event}
 use Rattle.machine_ports.specs.Machine.{kept_packet}
@@ -114,7 +114,7 @@ packet_is plan w h stands port (Ok (IdePacket p)) =
         ∷ (receiver_is plan h port p.prefix.stream p.prefix.sub i ++ asks_there plan w h stands port p i)
 
 arrival_facts_are : (plan : Plan) (w : Whole) (h : History) → WholeStandsFor plan w h → (unnamed : List Fact)
-    (o : Option Arrival) → arrival_facts_in plan w unnamed o ≡ arrival_facts_due plan h unnamed o
+    (o : Option ArrivedBytes) → arrival_facts_in plan w unnamed o ≡ arrival_facts_due plan h unnamed o
 arrival_facts_are plan w h stands unnamed None = refl
 arrival_facts_are plan w h stands unnamed (Some a) =
     unless_failed (goes_through plan a.port a.bytes) _ _ _ (packet_is plan w h stands a.port (cut_of a.bytes))

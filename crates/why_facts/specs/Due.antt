@@ -37,7 +37,7 @@ use Rattle.spec_links.specs.Hops.{HopTlp}
 use Rattle.spec_links.specs.Plan.{SubStream, has_link, has_stream, is_closed, lane_in, lane_out, stream_plan}
 use Rattle.spec_links.specs.Plan.{streams_of}
 use Rattle.spec_links.specs.Ports.{at_switch, goes_through, may_send, outgoing_at, port_of, sealing_end}
-use Rattle.spec_links.specs.History.{Arrival, arrival_of_event, has_failed, got_since, has_live_in, has_live_out}
+use Rattle.spec_links.specs.History.{ArrivedBytes, arrival_of_event, has_failed, got_since, has_live_in, has_live_out}
 use Rattle.spec_links.specs.History.{port_keys, on_draw, pending_packets, posted_count, posted_lane, sealed_packets}
 use Rattle.spec_links.specs.History.{sent_packets, total_in, units_got, units_since, waits}
 use Rattle.spec_links.specs.Units.{units, open_unit}
@@ -125,7 +125,7 @@ packet_due plan h port (Ok (IdePacket p)) =
     then received_due plan h port (lane_in port p.prefix.stream p.prefix.sub) p else [])
 
 -- `unnamed` is what is said if a packet or byte does not exist
-abbrev pub arrival_facts_due : Plan → History → List Fact → Option Arrival → List Fact
+abbrev pub arrival_facts_due : Plan → History → List Fact → Option ArrivedBytes → List Fact
 arrival_facts_due plan h unnamed None = unnamed
 arrival_facts_due plan h unnamed (Some a) =
     if goes_through plan a.port a.bytes then at_port plan a.port ∷ [] else packet_due plan h a.port (cut_of a.bytes)

@@ -28,7 +28,7 @@ use Rattle.spec_keys.specs.Operations.{last_exchange_of}
 use Rattle.spec_keys.specs.History.{program_exchange}
 use Rattle.spec_keys.specs.Due.{PortView, is_live_sender}
 use Rattle.spec_stream.specs.Stream.{posted_sum}
-use Rattle.interface_state.specs.{Tdi, state_code}
+use Rattle.interface_state.specs.{DeviceTdi, state_code}
 use Rattle.interface_state.specs.Bars.{bars_of}
 use Rattle.ide_types.specs.declared.binding.Binding.{Binding}
 use Rattle.trusted_memory.specs.{write_span}
@@ -202,7 +202,7 @@ bound_facts None = []
 bound_facts (Some bound) = fact.Interface (face.Bound bound.stream bound.floor) ∷ []
 
 -- at its device and at the manager
-abbrev pub face_facts : Site → Tdi → Managed → List Fact
+abbrev pub face_facts : Site → DeviceTdi → Managed → List Fact
 face_facts x tdi m =
     interface_fact x.number (state_code tdi.state)
     ∷ fact.Interface (face.View m.view)
@@ -269,7 +269,7 @@ bar_facts bar None = []
 bar_facts bar (Some range) = if range.pages == 0 then [] else bar_fact bar range ∷ []
 
 -- of a BAR of an interface as it stands
-abbrev pub shown_facts : ℕ → Tdi → ℕ → List Fact
+abbrev pub shown_facts : ℕ → DeviceTdi → ℕ → List Fact
 shown_facts number tdi bar =
     interface_fact number (state_code tdi.state) ∷ bar_facts bar (slice_get (bars_of tdi.plan tdi.registers) bar)
 

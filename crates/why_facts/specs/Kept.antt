@@ -34,7 +34,7 @@ use Rattle.spec_links.specs.{WaitingRead, has_hop, leaving_end}
 use Rattle.spec_links.specs.Hops.{HopTlp}
 use Rattle.spec_links.specs.Plan.{has_link, is_closed, streams_of}
 use Rattle.spec_links.specs.Ports.{goes_through, may_send, outgoing_at, port_of, sealing_end}
-use Rattle.spec_links.specs.History.{Arrival}
+use Rattle.spec_links.specs.History.{ArrivedBytes}
 use Rattle.machine_operations.specs.{find, find_op, ports_of, machine_status}
 use Rattle.machine_whole.specs.Accesses.{face_statuses}
 use Rattle.machine_whole.specs.Machine.{Whole, arrival_of, whole_streams}
@@ -111,7 +111,7 @@ packet_facts plan w port (Ok PlainTlp) = at_port plan port ∷ []
 packet_facts plan w port (Ok (IdePacket p)) =
     arrives_fact plan port p ∷ received_by plan w port p (find plan w.links port p.prefix.stream)
 
-abbrev pub arrival_facts_in : Plan → Whole → List Fact → Option Arrival → List Fact
+abbrev pub arrival_facts_in : Plan → Whole → List Fact → Option ArrivedBytes → List Fact
 arrival_facts_in plan w unnamed None = unnamed
 arrival_facts_in plan w unnamed (Some a) =
     if goes_through plan a.port a.bytes then at_port plan a.port ∷ [] else packet_facts plan w a.port (cut_of a.bytes)

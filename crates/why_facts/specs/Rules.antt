@@ -151,9 +151,9 @@ class_of_first [] = None
 class_of_first (x ∷ xs) = class_of_fact x
 
 -- of the first fact behind that of how many TLPs wait
-abbrev pub class_behind : List Fact → Option SubKind
-class_behind [] = None
-class_behind (x ∷ xs) = class_of_first xs
+abbrev pub class_of_second : List Fact → Option SubKind
+class_of_second [] = None
+class_of_second (x ∷ xs) = class_of_first xs
 
 -- of a send by the first of its facts, which says the TLP's sub-stream; of a forward by the second
 abbrev pub rule_of : Event → Verdict → List Fact → Text
@@ -161,7 +161,7 @@ rule_of (event.Establish line stream loss) w xs = operation_rule line (codes "op
 rule_of (event.Refresh line stream loss) w xs = operation_rule line (codes "operations.refresh") w
 rule_of (event.Stop line stream loss) w xs = operation_rule line (codes "operations.begin") w
 rule_of (event.Send port bytes more trusted) w xs = sending_rule (class_of_first xs) w rule_of_none
-rule_of (event.Forward link d) w xs = sending_rule (class_behind xs) w (codes "hops.forward")
+rule_of (event.Forward link d) w xs = sending_rule (class_of_second xs) w (codes "hops.forward")
 rule_of (event.Pass n) w xs = arriving_rule w
 rule_of (event.Alter n at mask) w xs = arriving_rule w
 rule_of (event.Cut n len) w xs = arriving_rule w

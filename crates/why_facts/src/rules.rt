@@ -2,7 +2,7 @@
 
 ghost use Rattle.std.specs.Prelude.{◌≡◌, ◌<◌, ◌^◌};
 ghost use Rattle.why_facts.specs.Rules.{access_rule, answer_rule, arriving_rule, asked_rule, cause_rule};
-ghost use Rattle.why_facts.specs.Rules.{class_of_first, class_behind, class_of_fact, dropped_rule, effect_rule_of};
+ghost use Rattle.why_facts.specs.Rules.{class_of_first, class_of_second, class_of_fact, dropped_rule, effect_rule_of};
 ghost use Rattle.why_facts.specs.Rules.{fail_rule, host_cause_rule, interface_rule, is_host_end, key_rule, line_rule};
 ghost use Rattle.why_facts.specs.Rules.{mmio_cause_rule, operation_rule, read_cause_rule, rule_of, rule_of_none};
 ghost use Rattle.why_facts.specs.Rules.{sending_rule, unless_none, unnamed_rule, write_cause_rule};
@@ -202,8 +202,8 @@ fn class_of_first(facts: &[Fact]) -> Option<SubKind>
 }
 
 // Of the first fact behind that of how many TLPs wait.
-fn class_behind(facts: &[Fact]) -> Option<SubKind>
-    ensures { result ≡ class_behind facts.now }
+fn class_of_second(facts: &[Fact]) -> Option<SubKind>
+    ensures { result ≡ class_of_second facts.now }
 {
     match facts {
         [] => None,
@@ -221,7 +221,7 @@ pub fn rule(event: &Event, verdict: &Verdict, facts: &[Fact]) -> &'static str
         Event::Refresh { line, .. } => operation_rule(*line, "operations.refresh", verdict),
         Event::Stop { line, .. } => operation_rule(*line, "operations.begin", verdict),
         Event::Send { .. } => sending_rule(class_of_first(facts), verdict, "lines.none"),
-        Event::Forward { .. } => sending_rule(class_behind(facts), verdict, "hops.forward"),
+        Event::Forward { .. } => sending_rule(class_of_second(facts), verdict, "hops.forward"),
         Event::Pass { .. } | Event::Alter { .. } | Event::Cut { .. } | Event::Arrive { .. } => {
             arriving_rule(verdict)
         }

@@ -23,8 +23,8 @@ use Rattle.ide_types.specs.declared.verdict.InterfaceVerdict.TheVariants as iv
 use Rattle.interface_state.specs.declared.states.TdiState.{TdiState}
 use Rattle.interface_state.specs.declared.states.TdiState.TheVariants.{ConfigUnlocked, ConfigLocked, Run, Error}
 use Rattle.interface_state.specs.RegisterValues.{has_bit, changes_listed}
-use Rattle.interface_state.specs.Machine.{Tdi, bound_link_stream, lock_flags, after_failure, after_change, Call}
-use Rattle.interface_state.specs.Machine.{WriteRegister, LevelReset, FirmwareUpdate, tdi_after}
+use Rattle.interface_state.specs.Machine.{DeviceTdi, bound_link_stream, lock_flags, after_failure, after_change, Call}
+use Rattle.interface_state.specs.Machine.{WriteRegister, LevelReset, FirmwareUpdate, interface_after_call}
 use Rattle.spec_interfaces.specs.Exchanges.{changes_device}
 use Rattle.spec_interfaces.specs.Sites.{Site, sites}
 use Rattle.spec_interfaces.specs.Views.{Managed, is_number, number_in, on_operation}
@@ -127,13 +127,13 @@ change_binds : (P : ℕ → Type 0) (b : Bool) (state : TdiState) → Binds P st
 change_binds P true state is = failure_binds P state
 change_binds P false state is = is
 
-called_binds : (P : ℕ → Type 0) (b : Bool) (c : Call) (tdi : Tdi)
-    → (Binds P tdi.state → Binds P (tdi_after tdi c).state) → Binds P tdi.state
+called_binds : (P : ℕ → Type 0) (b : Bool) (c : Call) (tdi : DeviceTdi)
+    → (Binds P tdi.state → Binds P (interface_after_call tdi c).state) → Binds P tdi.state
     → Binds P (interface_if_called b c tdi).state
 called_binds P true c tdi binds is = binds is
 called_binds P false c tdi binds is = is
 
-called_plan : (b : Bool) (c : Call) (tdi : Tdi) → (tdi_after tdi c).plan ≡ tdi.plan
+called_plan : (b : Bool) (c : Call) (tdi : DeviceTdi) → (interface_after_call tdi c).plan ≡ tdi.plan
     → (interface_if_called b c tdi).plan ≡ tdi.plan
 called_plan true c tdi same = same
 called_plan false c tdi same = refl
@@ -145,7 +145,7 @@ other_face : (plan : Plan) (s : Streams) (after : EndsRead) (used : ℕ → ℕ)
     → next_face plan s after used (event.Interface e) verdict x f ≡ f
 other_face plan s after used e verdict x f other = rw other refl
 
-other_lock : (a : Around) (x : Site) (e : InterfaceEvent) (verdict : Verdict) (tdi : Tdi)
+other_lock : (a : Around) (x : Site) (e : InterfaceEvent) (verdict : Verdict) (tdi : DeviceTdi)
     → is_number (number_in e) x.number ≡ false → accepts_lock a x (event.Interface e) verdict tdi ≡ false
 other_lock a x (ie.Lock i loss) verdict tdi other = rw other refl
 other_lock a x e verdict tdi other = refl
@@ -179,7 +179,7 @@ and_same a b is = grind arith
 used_one : (d n : ℕ) (a b : Bool) → d ≡ n → a ≡ b → d + one_if b ≡ n + one_if a
 used_one d n a b same is = rw (same, is) refl
 
-abbrev one_link : LinkEnds → ℕ → Tdi → Bool → LinkEnds
+abbrev one_link : LinkEnds → ℕ → DeviceTdi → Bool → LinkEnds
 one_link l place tdi gives = record l {
   device = record l.device {
     interfaces = record {
@@ -195,7 +195,7 @@ one_link l place tdi gives = record l {
 pub record IsOne (plan : Plan) (ends : List LinkEnds) (m : InterfacesView) (w : Whole) (i : ℕ) (x : Site)
     (p : IsPlaced plan ends m w i x) (e : InterfaceEvent) (verdict : Verdict) (new : List LinkEnds)
     (m' : InterfacesView) : Type 0 where
-  pub tdi : Tdi
+  pub tdi : DeviceTdi
   pub interface : HostTdi
   pub portion : m'.portion ≡ m.portion
   pub manager : m'.interfaces ≡ slice_set m.interfaces i interface
@@ -429,20 +429,20 @@ there_beside plan old new w e verdict i x at before number contents one is =
 -- ---- calls
 
 -- what a call of an interface means: if the machine's verdict applies it, the device's test does
-record IsCall (number : ℕ) (test : Tdi → Bool) (call : Call) (e : InterfaceEvent) : Type 0 where
+record IsCall (number : ℕ) (test : DeviceTdi → Bool) (call : Call) (e : InterfaceEvent) : Type 0 where
   number_is : number_in e ≡ Some number
-  asks : (a : Around) (x : Site) (verdict : Verdict) (tdi : Tdi)
+  asks : (a : Around) (x : Site) (verdict : Verdict) (tdi : DeviceTdi)
       → interface_asked a x e verdict tdi ≡ interface_if_called (changes_device verdict) call tdi
   manages : (drawn : ℕ) (verdict : Verdict) (g : Managed) → on_operation drawn e verdict g ≡ g
-  locks : (a : Around) (x : Site) (verdict : Verdict) (tdi : Tdi)
+  locks : (a : Around) (x : Site) (verdict : Verdict) (tdi : DeviceTdi)
       → accepts_lock a x (event.Interface e) verdict tdi ≡ false
-  applies : (plan : Plan) (x : Site) (s : AskedState) (tdi : Tdi) → tdi.plan ≡ x.plan
+  applies : (plan : Plan) (x : Site) (s : AskedState) (tdi : DeviceTdi) → tdi.plan ≡ x.plan
       → changes_device (asked_due plan x s e) ≡ test tdi
-  plans : (tdi : Tdi) → (tdi_after tdi call).plan ≡ tdi.plan
-  binds : (planned : ℕ) (tdi : Tdi) → Binds (λ s. s ≡ planned) tdi.state
-      → Binds (λ s. s ≡ planned) (tdi_after tdi call).state
+  plans : (tdi : DeviceTdi) → (interface_after_call tdi call).plan ≡ tdi.plan
+  binds : (planned : ℕ) (tdi : DeviceTdi) → Binds (λ s. s ≡ planned) tdi.state
+      → Binds (λ s. s ≡ planned) (interface_after_call tdi call).state
 
-called_one : (b gives : Bool) (l : LinkEnds) (place : ℕ) (tdi : Tdi) (call : Call) → gives ≡ false
+called_one : (b gives : Bool) (l : LinkEnds) (place : ℕ) (tdi : DeviceTdi) (call : Call) → gives ≡ false
     → slice_get l.device.interfaces.interfaces place ≡ Some tdi
     → (if b then record l { device = record l.device { interfaces = called_at l.device.interfaces place tdi call } }
     else l) ≡ one_link l place (interface_if_called b call tdi) gives
@@ -451,7 +451,7 @@ called_one true gives l place tdi call none is =
     λ n. record l {
       device = record l.device {
         interfaces = record {
-          interfaces = slice_set l.device.interfaces.interfaces place (tdi_after tdi call);
+          interfaces = slice_set l.device.interfaces.interfaces place (interface_after_call tdi call);
           nonces = l.device.interfaces.nonces;
           used = used n;
         };
@@ -479,7 +479,7 @@ if_taken b new old is = rw is refl
 
 module _ (plan : Plan) (old new : Links) (w : Whole) (verdict : Verdict) (both : AreBoth plan old new w) where
   -- the interface of this number is called
-  called_there : (number : ℕ) (test : Tdi → Bool) (call : Call) (e : InterfaceEvent) (x : Site)
+  called_there : (number : ℕ) (test : DeviceTdi → Bool) (call : Call) (e : InterfaceEvent) (x : Site)
       → IsCall number test call e → BesideCall number test call old new → slice_get (sites plan) number ≡ Some x
       → verdict ≡ (beside_of plan w).answer e
       → (p : IsPlaced plan old.ends.links old.keeper.interfaces w number x)
@@ -520,7 +520,7 @@ module _ (plan : Plan) (old new : Links) (w : Whole) (verdict : Verdict) (both :
         };
       }
 
-  called_beside : (number : ℕ) (test : Tdi → Bool) (call : Call) (e : InterfaceEvent) → IsCall number test call e
+  called_beside : (number : ℕ) (test : DeviceTdi → Bool) (call : Call) (e : InterfaceEvent) → IsCall number test call e
       → BesideCall number test call old new
       → ◌≡◌ {A = Stepped} (verdict, links_state plan new) (step_of plan (beside_of plan w) w.links (event.Interface e))
       → IsBeside plan new.ends.links new.keeper.interfaces new.trusted.contents

@@ -26,7 +26,7 @@ use Rattle.link_stores.specs.{new_link_accesses, new_accesses}
 use Rattle.machine_whole.specs.Accesses.{first_accesses}
 use Rattle.machine_whole.specs.Machine.{new_whole}
 use Rattle.machine_whole.specs.Stands.{WholeBegins}
-use Rattle.interface_state.specs.Machine.{Tdi, new_tdi}
+use Rattle.interface_state.specs.Machine.{DeviceTdi, new_device_interface}
 use Rattle.interface_host.specs.Views.{new_interface}
 use Rattle.interface_host.specs.Managers.{new_interface_manager as new_host}
 use Rattle.join_interfaces.specs.Faces.{IsFace}
@@ -50,7 +50,7 @@ zeros_fit (suc n) = All-cons (λ (b : ℕ). b < 256) 0 (replicate n 0) (omega ar
 zero_key : IsKey (replicate 32 0)
 zero_key = (refl, zeros_fit 32)
 
-face_first : (x : Site) → IsFace 0 x (new_interface x.link x.plan) (new_tdi x.plan) (new_face x)
+face_first : (x : Site) → IsFace 0 x (new_interface x.link x.plan) (new_device_interface x.plan) (new_face x)
 face_first x = record {
   managed = record {
     laid_out = record { link = refl; requester = refl; stream = refl; flags = refl; offset = refl };
@@ -80,9 +80,10 @@ placed_first plan i x is =
       ends_are = ap (slice_get (first_links plan)) (sym k_is) ∙ r.ends_are;
       place = r.place;
       located_is = r.located_is;
-      tdi = new_tdi x.plan;
-      tdi_is = ap (λ (ts : List Tdi). slice_get ts r.place) r.device_is
-          ∙ (slice_get-map new_tdi r.plan.interfaces r.place ∙ ap (option_map new_tdi) r.plan_is);
+      tdi = new_device_interface x.plan;
+      tdi_is = ap (λ (ts : List DeviceTdi). slice_get ts r.place) r.device_is
+          ∙ (slice_get-map new_device_interface r.plan.interfaces r.place ∙ ap (option_map new_device_interface)
+          r.plan_is);
       interface = new_interface x.link x.plan;
       interface_is = r.interface_is;
       face = new_face x;
@@ -104,7 +105,7 @@ device_first plan link l is =
       used = ap (λ (e : LinkEnds). e.device.interfaces.used) r.2;
       many = λ p at.
           ap (λ (e : LinkEnds). length e.device.interfaces.interfaces) r.2
-          ∙ (length-map r.0.interfaces new_tdi
+          ∙ (length-map r.0.interfaces new_device_interface
           ∙ ap (λ (q : LinkPlan). length q.interfaces) (same_Some r.0 p (sym r.1 ∙ at)));
     }
 

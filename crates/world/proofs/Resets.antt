@@ -14,8 +14,8 @@ use Rattle.script_events.specs.declared.event.Event.{Event}
 use Rattle.script_events.specs.declared.event.Event.TheVariants as event
 use Rattle.event_verdicts.specs.declared.verdict.Verdict.{Verdict}
 use Rattle.event_verdicts.specs.declared.verdict.Verdict.TheVariants as v
-use Rattle.interface_state.specs.Machine.{Tdi, LinkReset, tdi_after}
-use Rattle.interface_ends.specs.Replies.{DeviceTdis, reset_tdis, settled_interface, settled_interfaces}
+use Rattle.interface_state.specs.Machine.{DeviceTdi, LinkReset, interface_after_call}
+use Rattle.interface_ends.specs.Replies.{DeviceTdis, reset_device_interfaces, settled_interface, settled_interfaces}
 use Rattle.spec_interfaces.specs.Sites.{Site, sites}
 use Rattle.spec_interfaces.specs.Views.{view_broken}
 use Rattle.spec_interfaces.specs.Devices.{reset_call, interface_if_called}
@@ -42,18 +42,19 @@ reset_same : (own : Bool) (is_secure : ℕ → Bool) (d : DeviceTdis)
 reset_same true is_secure d = record {
   nonces = refl;
   used = refl;
-  many = length-map (reset_tdis d).interfaces (settled_interface is_secure)
-      ∙ length-map d.interfaces (λ (t : Tdi). tdi_after t LinkReset);
+  many = length-map (reset_device_interfaces d).interfaces (settled_interface is_secure)
+      ∙ length-map d.interfaces (λ (t : DeviceTdi). interface_after_call t LinkReset);
 }
 reset_same false is_secure d =
     record { nonces = refl; used = refl; many = length-map d.interfaces (settled_interface is_secure) }
 
 -- new interfaces have no lock to leave
-none_settled : (is_secure : ℕ → Bool) (ts : List Tdi)
-    → map (settled_interface is_secure) (map (λ (t : Tdi). tdi_after t LinkReset) ts)
-    ≡ map (λ (t : Tdi). tdi_after t LinkReset) ts
+none_settled : (is_secure : ℕ → Bool) (ts : List DeviceTdi)
+    → map (settled_interface is_secure) (map (λ (t : DeviceTdi). interface_after_call t LinkReset) ts)
+    ≡ map (λ (t : DeviceTdi). interface_after_call t LinkReset) ts
 none_settled is_secure [] = refl
-none_settled is_secure (t ∷ ts) = ap (λ (us : List Tdi). tdi_after t LinkReset ∷ us) (none_settled is_secure ts)
+none_settled is_secure (t ∷ ts) = ap (λ (us : List DeviceTdi). interface_after_call t LinkReset ∷ us)
+    (none_settled is_secure ts)
 
 -- ---- the step of the machine
 
@@ -87,7 +88,7 @@ module _ (plan : Plan) (old new : Links) (w : Whole) (both : AreBoth plan old ne
   face_of x f = next_face plan (whole_streams plan w) (ends_in plan after) w.faces.used e done x f
 
   -- what a reset makes of an interface: by whether it is on the link
-  abbrev called : Site → Tdi → Bool → Tdi
+  abbrev called : Site → DeviceTdi → Bool → DeviceTdi
   called x tdi own = interface_if_called (own || left_by plan (whole_streams plan w) (ends_in plan after) x tdi)
       (reset_call own) tdi
 
@@ -169,10 +170,10 @@ module _ (plan : Plan) (old new : Links) (w : Whole) (both : AreBoth plan old ne
         → IsPlaced plan new.ends.links new.keeper.interfaces whole_now i x
     own_placed i x p l' at at' here =
         let managed = managed_now i x p in
-        let free = keeps_free (says_by_ports plan after x.link) x.plan (tdi_after p.tdi LinkReset)
+        let free = keeps_free (says_by_ports plan after x.link) x.plan (interface_after_call p.tdi LinkReset)
         (record { layout = p.keeps.layout; none = refl; bindings = refl }) in
         let device : l'.device.interfaces.interfaces
-        ≡ map (λ (t : Tdi). tdi_after t LinkReset) p.link_ends.device.interfaces.interfaces =
+        ≡ map (λ (t : DeviceTdi). interface_after_call t LinkReset) p.link_ends.device.interfaces.interfaces =
         ap (λ (d : DeviceTdis). d.interfaces)
         (device_is x.link p.link_ends l' p.ends_are at' true (turned x.link link ∙ here))
         ∙ none_settled (secure_or_live l'.device.port (peer_live new.ends x.link))
@@ -182,17 +183,19 @@ module _ (plan : Plan) (old new : Links) (w : Whole) (both : AreBoth plan old ne
           ends_are = at';
           place = p.place;
           located_is = located_now i ∙ p.located_is;
-          tdi = tdi_after p.tdi LinkReset;
-          tdi_is = ap (λ (ts : List Tdi). slice_get ts p.place) device
-              ∙ (slice_get-map (λ (t : Tdi). tdi_after t LinkReset) p.link_ends.device.interfaces.interfaces p.place
-              ∙ ap (option_map (λ (t : Tdi). tdi_after t LinkReset)) p.tdi_is);
+          tdi = interface_after_call p.tdi LinkReset;
+          tdi_is = ap (λ (ts : List DeviceTdi). slice_get ts p.place) device
+              ∙ (slice_get-map (λ (t : DeviceTdi). interface_after_call t LinkReset)
+              p.link_ends.device.interfaces.interfaces p.place
+              ∙ ap (option_map (λ (t : DeviceTdi). interface_after_call t LinkReset)) p.tdi_is);
           interface = managed.interface;
           interface_is = managed.interface_is;
           face = face_of x p.face;
           face_is = each_at face_of (sites plan) w.faces.list i x p.face at p.face_is;
           keeps = record {
             managed = managed.managed;
-            tdi_is = ap (λ (t : Tdi). tdi_after t LinkReset) p.keeps.tdi_is ∙ sym (ap (called x p.face.tdi) here);
+            tdi_is = ap (λ (t : DeviceTdi). interface_after_call t LinkReset) p.keeps.tdi_is ∙ sym
+                (ap (called x p.face.tdi) here);
             layout = p.keeps.layout;
             bound = tt;
           };

@@ -1,6 +1,6 @@
 use Rattle.std.proofs.Common.{◌≡◌, ◌≤◌, ◌-◌, ◌+◌, length}
 use Rattle.cli_files.specs.Outside.{AsksFor, capped_count}
-use Rattle.file_runs.specs.Front.{AskedPieces, IsReadOf}
+use Rattle.file_runs.specs.Front.{AskedPieces, IsReadIfTold}
 use Rattle.file_runs.proofs.front.read_front.Given as goal
 
 abbrev pub invariant-loop-buf : goal.invariant-loop-buf
@@ -12,7 +12,7 @@ invariant-loop-buf g l = record {
   names : AsksFor l.name (g.S.Shelf.seen l.initial.shelf).asked (g.S.Shelf.seen l.shelf).asked;
   pieces : AskedPieces (g.S.Shelf.seen l.initial.shelf).longest (g.S.Shelf.seen l.shelf).longest;
   most : length l.bytes.items ≤ l.most;
-  read : IsReadOf (g.S.Shelf.seen l.initial.shelf).contents l.name l.bytes.items;
+  read : IsReadIfTold (g.S.Shelf.seen l.initial.shelf).contents l.name l.bytes.items;
 }
 
 abbrev pub decreases-loop-buf : goal.decreases-loop-buf

@@ -1,5 +1,5 @@
 use Rattle.all_links.proofs.Terms.{ℕ, true, Option, Some, refl, ap, sym, option_and_then}
-use Rattle.interface_state.specs.Machine.{Tdi, FirmwareUpdate}
+use Rattle.interface_state.specs.Machine.{DeviceTdi, FirmwareUpdate}
 use Rattle.script_events.specs.declared.event.InterfaceEvent.TheVariants as ie
 use Rattle.event_verdicts.specs.declared.verdict.Verdict.TheVariants as v
 use Rattle.ide_types.specs.declared.verdict.InterfaceVerdict.TheVariants as iv
@@ -21,7 +21,7 @@ returns-in-Some-clause-ends c plan =
     called plan c.args.self.now c.args.number (c.in-Some.link, c.in-Some.place) FirmwareUpdate c.firmware-state.result
     c.firmware-state.new.self c.shows.new.self c.shows.result (ie.Firmware c.args.number)
     (λ code. v.Interface (iv.Firmware c.args.number code)) c.in-Some.ensures.place c.firmware-state.ensures
-    (λ tdi is. ap (λ (o : Option Tdi). Some (firmware_as c.args.number o)) (sym is)) c.shows.ensures.value
+    (λ tdi is. ap (λ (o : Option DeviceTdi). Some (firmware_as c.args.number o)) (sym is)) c.shows.ensures.value
     c.shows.ensures.links c.requires.bounded
 
 pub returns-in-None-clause-sides : goal.returns-in-None-clause-sides

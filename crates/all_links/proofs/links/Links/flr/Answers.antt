@@ -1,6 +1,6 @@
 use Rattle.all_links.proofs.Terms.{ℕ, true, Option, Some, refl, ap, sym, ◌∙◌, option_and_then, length, length-set}
 use Rattle.all_links.proofs.Terms.{LinkEnds, Links}
-use Rattle.interface_state.specs.Machine.{Tdi, LevelReset}
+use Rattle.interface_state.specs.Machine.{DeviceTdi, LevelReset}
 use Rattle.script_events.specs.declared.event.InterfaceEvent.TheVariants as ie
 use Rattle.event_verdicts.specs.declared.verdict.Verdict.TheVariants as v
 use Rattle.ide_types.specs.declared.verdict.InterfaceVerdict.TheVariants as iv
@@ -29,7 +29,7 @@ returns-in-Some-clause-ends c plan =
     called plan c.args.self.now c.args.number (c.in-Some.link, c.in-Some.place) LevelReset c.flr-state.result
     c.flr-state.new.self c.shows.new.self c.shows.result (ie.Flr c.args.number)
     (λ code. v.Interface (iv.Flr c.args.number code)) (sym c.in-Some.is ∙ c.requires.here) c.flr-state.ensures
-    (λ tdi is. ap (λ (o : Option Tdi). Some (flr_as c.args.number o)) (sym is)) c.shows.ensures.value
+    (λ tdi is. ap (λ (o : Option DeviceTdi). Some (flr_as c.args.number o)) (sym is)) c.shows.ensures.value
     c.shows.ensures.links c.requires.bounded
 
 pub returns-in-None-clause-sides : goal.returns-in-None-clause-sides

@@ -19,9 +19,11 @@ pub returns-clause-ends : goal.returns-clause-ends
 returns-clause-ends c =
     let old : Links = c.args.self.now in
     let is = c.keep_sent.ensures.links in
-    seals c.args.plan.now old c.keep_sent.new.self c.args.end c.args.tlp.now c.args.more c.args.trusted c.send-sent.result
+    seals c.args.plan.now old c.keep_sent.new.self c.args.end c.args.tlp.now c.args.more c.args.trusted
+    c.send-sent.result
     c.send-sent.new.out c.keep_sent.result c.requires.bounded c.requires.here
-    (subst (λ (w : EndsView). SendsAt old.ends c.args.end c.args.tlp.now c.args.more c.args.trusted c.send-sent.result w c.send-sent.new.out)
+    (subst (λ (w : EndsView). SendsAt old.ends c.args.end c.args.tlp.now c.args.more c.args.trusted c.send-sent.result w
+    c.send-sent.new.out)
     (sym (ap (λ (s : Links). s.ends) is)) c.send-sent.ensures)
     c.keep_sent.ensures.verdict (ap (λ (s : Links). s.keeper.keys) is) (ap (λ (s : Links). s.steps) is)
     c.keep_sent.ensures.packets (ap (λ (s : Links). s.trusted) is)
@@ -30,7 +32,9 @@ pub returns-clause-sides : goal.returns-clause-sides
 returns-clause-sides c =
     let old : Links = c.args.self.now in
     let is = c.keep_sent.ensures.links in
-    sent_keeps old c.keep_sent.new.self c.args.end c.args.tlp.now c.args.more c.args.trusted c.send-sent.result c.send-sent.new.out c.requires.here
-    (subst (λ (w : EndsView). SendsAt old.ends c.args.end c.args.tlp.now c.args.more c.args.trusted c.send-sent.result w c.send-sent.new.out)
+    sent_keeps old c.keep_sent.new.self c.args.end c.args.tlp.now c.args.more c.args.trusted c.send-sent.result
+    c.send-sent.new.out c.requires.here
+    (subst (λ (w : EndsView). SendsAt old.ends c.args.end c.args.tlp.now c.args.more c.args.trusted c.send-sent.result w
+    c.send-sent.new.out)
     (sym (ap (λ (s : Links). s.ends) is)) c.send-sent.ensures)
     (ap (λ (s : Links). s.keeper) is) (ap (λ (s : Links). s.trusted) is)

@@ -24,9 +24,12 @@ pub returns-clause-ends : goal.returns-clause-ends
 returns-clause-ends c =
     let old : Links = c.args.self.now in
     let is = c.keep_sent.ensures.links in
-    seals c.args.plan.now old c.keep_sent.new.self (host_port c.args.link) c.args.tlp.now false true c.complete-sent.result
-    c.complete-sent.new.out c.keep_sent.result c.requires.bounded (host_there old.ends c.args.link c.requires.here c.requires.bounded.few)
-    (subst (λ (w : EndsView). SendsAt old.ends (host_port c.args.link) c.args.tlp.now false true c.complete-sent.result w c.complete-sent.new.out)
+    seals c.args.plan.now old c.keep_sent.new.self (host_port c.args.link) c.args.tlp.now false true
+    c.complete-sent.result
+    c.complete-sent.new.out c.keep_sent.result c.requires.bounded
+    (host_there old.ends c.args.link c.requires.here c.requires.bounded.few)
+    (subst (λ (w : EndsView). SendsAt old.ends (host_port c.args.link) c.args.tlp.now false true c.complete-sent.result
+    w c.complete-sent.new.out)
     (sym (ap (λ (s : Links). s.ends) is)) c.complete-sent.ensures)
     c.keep_sent.ensures.verdict (ap (λ (s : Links). s.keeper.keys) is) (ap (λ (s : Links). s.steps) is)
     c.keep_sent.ensures.packets (ap (λ (s : Links). s.trusted) is)
@@ -35,7 +38,9 @@ pub returns-clause-sides : goal.returns-clause-sides
 returns-clause-sides c =
     let old : Links = c.args.self.now in
     let is = c.keep_sent.ensures.links in
-    sent_keeps old c.keep_sent.new.self (host_port c.args.link) c.args.tlp.now false true c.complete-sent.result c.complete-sent.new.out (host_there old.ends c.args.link c.requires.here c.requires.bounded.few)
-    (subst (λ (w : EndsView). SendsAt old.ends (host_port c.args.link) c.args.tlp.now false true c.complete-sent.result w c.complete-sent.new.out)
+    sent_keeps old c.keep_sent.new.self (host_port c.args.link) c.args.tlp.now false true c.complete-sent.result
+    c.complete-sent.new.out (host_there old.ends c.args.link c.requires.here c.requires.bounded.few)
+    (subst (λ (w : EndsView). SendsAt old.ends (host_port c.args.link) c.args.tlp.now false true c.complete-sent.result
+    w c.complete-sent.new.out)
     (sym (ap (λ (s : Links). s.ends) is)) c.complete-sent.ensures)
     (ap (λ (s : Links). s.keeper) is) (ap (λ (s : Links). s.trusted) is)

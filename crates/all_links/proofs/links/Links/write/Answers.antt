@@ -3,7 +3,7 @@ use Rattle.all_links.proofs.Terms.{slice_get, same_Some, option_and_then, LinkEn
 use Rattle.std.specs.Prelude.{IfSome}
 use Rattle.ide_types.specs.declared.register.Register.{Register}
 use Rattle.ide_types.specs.RegisterNames.{has_register}
-use Rattle.interface_state.specs.Machine.{Tdi, WriteRegister}
+use Rattle.interface_state.specs.Machine.{DeviceTdi, WriteRegister}
 use Rattle.event_verdicts.specs.declared.verdict.Verdict.TheVariants as v
 use Rattle.ide_types.specs.declared.verdict.InterfaceVerdict.TheVariants as iv
 use Rattle.script_events.specs.declared.event.InterfaceEvent.TheVariants as ie
@@ -23,26 +23,29 @@ returns-in-None-clause-ends c plan =
 
 -- whether it has the register
 module _ (ends : List LinkEnds) (at : ℕ × ℕ) (register : Register) (answer : Bool) where
-  has_it : (l : LinkEnds) (tdi : Tdi) → slice_get ends at.0 ≡ Some l → slice_get l.device.interfaces.interfaces at.1
+  has_it : (l : LinkEnds) (tdi : DeviceTdi) → slice_get ends at.0 ≡ Some l
+      → slice_get l.device.interfaces.interfaces at.1
       ≡ Some tdi
       → IfSome (slice_get ends at.0)
       (λ (y : LinkEnds). IfSome (slice_get y.device.interfaces.interfaces at.1)
-      (λ (t : Tdi). answer ≡ has_register t.plan register))
+      (λ (t : DeviceTdi). answer ≡ has_register t.plan register))
       → answer ≡ has_register tdi.plan register
   has_it l tdi link_there tdi_there says =
-      if_some (λ (t : Tdi). answer ≡ has_register t.plan register) (slice_get l.device.interfaces.interfaces at.1) tdi
+      if_some (λ (t : DeviceTdi). answer ≡ has_register t.plan register) (slice_get l.device.interfaces.interfaces at.1)
+      tdi
       tdi_there
       (if_some (λ (y : LinkEnds). IfSome (slice_get y.device.interfaces.interfaces at.1)
-      (λ (t : Tdi). answer ≡ has_register t.plan register)) (slice_get ends at.0) l link_there says)
+      (λ (t : DeviceTdi). answer ≡ has_register t.plan register)) (slice_get ends at.0) l link_there says)
 
 -- the verdict, if it has it or not
-written_is : (n : ℕ) (register : Register) (value : ℕ) (tdi : Tdi) (o : Option Tdi) (b : Bool) → o ≡ Some tdi
+written_is : (n : ℕ) (register : Register) (value : ℕ) (tdi : DeviceTdi) (o : Option DeviceTdi) (b : Bool) → o
+    ≡ Some tdi
     → has_register tdi.plan register ≡ b
     → (if b then v.Interface (iv.Written n (code_behind tdi (WriteRegister register value))) else v.Nothing)
     ≡ written_as n register value o
 written_is n register value tdi o b is has =
     ap (λ (y : Bool). if y then v.Interface (iv.Written n (code_behind tdi (WriteRegister register value))) else
-    v.Nothing) (sym has) ∙ ap (λ (y : Option Tdi). written_as n register value y) (sym is)
+    v.Nothing) (sym has) ∙ ap (λ (y : Option DeviceTdi). written_as n register value y) (sym is)
 
 pub returns-then-has_register-clause-ends : goal.returns-then-has_register-clause-ends
 returns-then-has_register-clause-ends c plan =
@@ -56,7 +59,7 @@ returns-then-has_register-clause-ends c plan =
     c.write_register-state.new.self c.shows.new.self c.shows.result (ie.Write n c.args.register c.args.value)
     (λ code. v.Interface (iv.Written n code)) c.in-Some.ensures.place c.write_register-state.ensures
     (λ tdi is. ap Some (written_is n c.args.register c.args.value tdi _ true is
-    (ap (λ (t : Tdi). has_register t.plan c.args.register) (same_Some tdi x.tdi (sym is ∙ x.named_is))
+    (ap (λ (t : DeviceTdi). has_register t.plan c.args.register) (same_Some tdi x.tdi (sym is ∙ x.named_is))
     ∙ sym has ∙ c.if-has_register.true))) c.shows.ensures.value c.shows.ensures.links c.requires.bounded
 
 pub returns-else-has_register-clause-ends : goal.returns-else-has_register-clause-ends

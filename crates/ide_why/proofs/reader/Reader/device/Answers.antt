@@ -1,5 +1,5 @@
 use Rattle.std.proofs.Common.{sym}
-use Rattle.ide_why.proofs.Reading.{tdi_made}
+use Rattle.ide_why.proofs.Reading.{interface_made}
 use Rattle.ide_why.proofs.reader.Reader.device.Goals as goal
 
 pub link-requires : goal.link-requires
@@ -11,5 +11,5 @@ interface-requires-in-Some c =
 
 pub returns-in-Some : goal.returns-in-Some
 returns-in-Some c =
-    tdi_made c.args.self.now.links.now c.args.number c.in-Some.link c.in-Some.place c.link.result.now
+    interface_made c.args.self.now.links.now c.args.number c.in-Some.link c.in-Some.place c.link.result.now
     c.interface-in-Some.result.now (sym c.in-Some.ensures.place) c.link.ensures c.interface-in-Some.ensures

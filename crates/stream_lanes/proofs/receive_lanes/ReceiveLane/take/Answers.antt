@@ -4,7 +4,7 @@ use Rattle.std.specs.Int.{w64, to_be_bytes}
 use Rattle.ide_prefix.specs.Packet.{Packet}
 use Rattle.ide_prefix.specs.Cut.{packet_of_view}
 use Rattle.spec_stream.specs.Sending.{is_posted}
-use Rattle.spec_stream.specs.Stream.{Taken, posted_sum}
+use Rattle.spec_stream.specs.Stream.{PacketOutcome, posted_sum}
 use Rattle.sub_stream.specs.{Receiver, answer_taken, receiver_outcome, after_answer}
 use Rattle.sub_stream.specs.Gathered.{lent_totals}
 use Rattle.sub_stream.specs.Receivers.{is_accepted}
@@ -54,7 +54,8 @@ new_is : (c : goal.After-count) → c.take-taken.new.self ≡ new c
 unfolding packet new
 new_is c =
     c.take-taken.ensures.receiver
-    ∙ ap (λ (t : Taken). after_answer c.self.inside.rx (lent_totals c.lent_total-lent.result) (packet c) t) (taken_is c)
+    ∙ ap (λ (t : PacketOutcome). after_answer c.self.inside.rx (lent_totals c.lent_total-lent.result) (packet c) t)
+    (taken_is c)
 
 posted_is : (c : goal.After-count) → c.posted-posted.result ≡ posted_sum (new c).delivered
 posted_is c = c.posted-posted.ensures.value ∙ ap (λ (rx : Receiver). posted_sum rx.delivered) (new_is c)

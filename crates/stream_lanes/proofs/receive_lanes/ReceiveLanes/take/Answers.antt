@@ -3,7 +3,7 @@ use Rattle.ide_types.specs.declared.sub.SubKind.{SubKind}
 use Rattle.ide_types.specs.declared.sub.SubKind.TheVariants.{Pr, Npr, Cpl}
 use Rattle.ide_prefix.specs.Cut.{packet_of_view}
 use Rattle.ide_prefix.specs.Packet.{Packet}
-use Rattle.spec_stream.specs.Stream.{Taken}
+use Rattle.spec_stream.specs.Stream.{PacketOutcome}
 use Rattle.stream_lanes.specs.Arrivals.{ReceiveEnds, value_of_kind, lane_outcome, lanes_outcome, receive_ends_after}
 use Rattle.stream_lanes.proofs.Arriving.{view, AreAfter, among-here, own-after, ends-after, lanes-kept}
 use Rattle.stream_lanes.proofs.receive_lanes.ReceiveLanes.take.Goals as goal
@@ -23,7 +23,7 @@ take_in-taken-requires-clause-few_cpl c =
 packet : goal.After-self-1 → Packet
 packet c = packet_of_view c.args.packet.now
 
-here : goal.After-self-1 → Taken
+here : goal.After-self-1 → PacketOutcome
 here c = lane_outcome (value_of_kind (packet c).prefix.sub c.self.inside.pr c.self.inside.npr c.self.inside.cpl)
     c.self.inside.pr.kept.got (packet c)
 

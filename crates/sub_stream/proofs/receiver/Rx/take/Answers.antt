@@ -2,7 +2,7 @@ use Rattle.std.proofs.Common.{◌≡◌, ℕ, ◌+◌, Bool, true, false, not, L
 use Rattle.std.proofs.Common.{◌∙◌, subst, if◌then◌else◌}
 use Rattle.ide_prefix.specs.Cut.{packet_of_view}
 use Rattle.ide_prefix.specs.Packet.{Packet}
-use Rattle.spec_stream.specs.Stream.{Taken}
+use Rattle.spec_stream.specs.Stream.{PacketOutcome}
 use Rattle.key_slots.specs.{DrawnKey, SlotPair, slot_in, live_held}
 use Rattle.sub_stream.specs.declared.receiver.Holds.{Holds}
 use Rattle.sub_stream.specs.Answers.{answer_taken}
@@ -68,7 +68,7 @@ fits : (c : goal.After-self-in-Ok-1) → fits_held c.self.inside.holds (length c
 unfolding packet
 fits c = sym c.fits-fits.ensures ∙ (given c).1
 
-answer : goal.After-self-in-Ok-1 → Taken
+answer : goal.After-self-in-Ok-1 → PacketOutcome
 answer c =
     judged_packet (begun_where_empty (unit_kept c.self.inside.holds c.self.inside.unit) (lent_totals c.args.total)
     (units_of (packet c).prefix.k c.self.inside.zero c.self.inside.one + 1)).ahead
@@ -140,7 +140,8 @@ returns-in-Ok-clause-receiver c =
     (not_apart c.self.inside.holds (length c.self.inside.unit.packets) c.self.inside.aggregation (packet c).prefix.k
     (packet c).prefix.m (fits c)) (tagless c) (judged_so c) (answered c) (buffer c)
     ∙ ap (λ (rx : Receiver). after_answer rx (lent_totals c.args.total) (packet c) (answer c)) c.self.view_is
-    ∙ ap (λ (t : Taken). after_answer c.args.self.now (lent_totals c.args.total) (packet c) t) (sym (taken_is c))
+    ∙ ap (λ (t : PacketOutcome). after_answer c.args.self.now (lent_totals c.args.total) (packet c) t)
+    (sym (taken_is c))
 
 pub invariant_of-self-in-Ok : goal.invariant_of-self-in-Ok
 unfolding packet

@@ -23,7 +23,8 @@ pub returns-in-None-clause-ends : goal.returns-in-None-clause-ends
 returns-in-None-clause-ends c =
     nothing_ends c.args.plan.now (incoming_event c.args.incoming)
     (nothing_brought c.args.plan.now (links_state c.args.plan.now c.args.self.now.links) c.args.incoming
-    (rw c.in-None.is at c.in_ok-incoming_bytes.ensures)) c.only.ensures.value c.only.ensures.links refl c.requires.bounded
+    (rw c.in-None.is at c.in_ok-incoming_bytes.ensures)) c.only.ensures.value c.only.ensures.links refl
+    c.requires.bounded
 
 pub returns-in_ok-verdict-in-Some-clause-ends : goal.returns-in_ok-verdict-in-Some-clause-ends
 returns-in_ok-verdict-in-Some-clause-ends c =
