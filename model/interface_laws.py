@@ -50,7 +50,7 @@ def listed(flags: int, registers: Dict[str, int]) -> List[Optional[int]]:
     return values + [registers["cacheline"] if flags & KEEP_CACHE_LINE else None]
 
 
-def attested(past: Past, pair: Pair) -> Instances:
+def reports_are_shown(past: Past, pair: Pair) -> Instances:
     """An interface in RUN was reported since its lock: some earlier verdict shows the report of exactly the registers
     that are locked now."""
     for place, (was, now) in each(pair):
@@ -83,7 +83,7 @@ def bind_law(past: Past, pair: Pair) -> Instances:
             yield f"a binding in state {now.state}", now.is_locked
 
 
-def scrubbed(past: Past, pair: Pair) -> Instances:
+def unlocked_is_scrubbed(past: Past, pair: Pair) -> Instances:
     """Whatever takes an interface to CONFIG_UNLOCKED leaves each byte of its closed BARs 0, of those that the stored
     writes left."""
     for place, (was, now) in each(pair):

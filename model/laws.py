@@ -32,11 +32,11 @@ LAWS: Dict[Callable[[Past, Pair], Instances], List[str]] = {
         for letter, done in [("", "refreshed")] + [(one, end) for one in KINDS for end in ("established", "stopped")]
         for when in ("", " at last")
     ],
-    stream.stays_secure: [f"a refresh that is {what}" for what in ("refreshed", "lost", "refused")],
+    stream.stream_stays_secure: [f"a refresh that is {what}" for what in ("refreshed", "lost", "refused")],
     stream.keys_follow_operations: ["a place of a packet", "the draws of a stream", "a stream that is refresh"]
     + [f"a stream that is {letter}{name}" for letter in KINDS for name in ("idle", "establish", "up", "stop")],
     stream.set_go_finds_key: [f"a GO{on}" for on in ON],
-    stream.never_again: ["a program", "a go", "a stop", "another touch"],
+    stream.ended_keys_stay_out: ["a program", "a go", "a stop", "another touch"],
     stream.failed_law: [f"an arrival{on}" for on in ON] + ["a send", "a psend", "a forward", "an answer"],
     stream.numbers_fresh: [f"a number{on}" for on in ON] + ["a key and an IV again"],
     stream.keystream_fresh: ["no payload", "a payload", "a payload behind another one"]
@@ -53,9 +53,11 @@ LAWS: Dict[Callable[[Past, Pair], Instances], List[str]] = {
     stream.through_law: ["bytes that go through a switch"],
     interface.run_law: ["a report", "registers at a lock", "registers that were written"]
     + [f"a {event} that a lock forbids" for event in ("write", "flr", "firmware")],
-    interface.attested: ["a RUN", "a later RUN"],
+    interface.reports_are_shown: ["a RUN", "a later RUN"],
     interface.lock_law: ["a lock", "a binding"],
-    interface.scrubbed: [f"a {event}{filled}" for event in ("halt", "reset") for filled in ("", " over bytes")],
+    interface.unlocked_is_scrubbed: [
+        f"a {event}{filled}" for event in ("halt", "reset") for filled in ("", " over bytes")
+    ],
     interface.bind_law: [f"a binding in state {state}" for state in (LOCKED, RUN)],
     interface.trusted_packets_fit_view: [
         f"{what}{beside}"

@@ -166,7 +166,7 @@ def is_on_in(keys: List[Keyed], key_set: int, draw: int) -> bool:
     return keys[key_set][0] in ("armed", "live") and keys[key_set][1] == draw
 
 
-def stays_secure(past: Past, pair: Pair) -> Instances:
+def stream_stays_secure(past: Past, pair: Pair) -> Instances:
     """A stream that is Secure at a port before an event of a refresh is Secure there after it."""
     if pair.work and pair.work.name == "refresh":
         for end, status in zip(pair.work.line.ends, pair.work.status):
@@ -241,7 +241,7 @@ def set_go_finds_key(past: Past, pair: Pair) -> Instances:
             yield f"a GO on {KINDS[touch.place[0].letter]}", touch.found
 
 
-def never_again(past: Past, pair: Pair) -> Instances:
+def ended_keys_stay_out(past: Past, pair: Pair) -> Instances:
     """A draw that was On at a place, and then was kept in neither set, is kept in neither at any later moment, also
     between the exchanges of one event; and once its GO came a draw is kept at a place only while it is On there."""
     for touch in moments(past, pair):

@@ -138,7 +138,7 @@ fn read_named<R: Files>(
     buf: &mut [u8],
 ) -> io::Result<usize>
     ensures bound { ReadsAtMost result buf.new }
-    ensures names { AsksFor name.now (Some (map string_bytes asked.old.items))
+    ensures file_names { AsksFor name.now (Some (map string_bytes asked.old.items))
         (Some (map string_bytes asked.new.items)) }
     ensures told { IfOk result (λ n. IsLastName name.now (Some (map string_bytes asked.new.items))) }
 {

@@ -109,7 +109,7 @@ impl Shelf for MemShelf {
 
     fn read(&mut self, name: &str, at: u64, buf: &mut [u8]) -> Result<usize, ShelfFault>
         ensures same { (⟦<MemShelf as Shelf>⟧.seen self.new).contents ≡ (⟦<MemShelf as Shelf>⟧.seen self.old).contents }
-        ensures names { AsksFor name.now (⟦<MemShelf as Shelf>⟧.seen self.old).asked
+        ensures file_names { AsksFor name.now (⟦<MemShelf as Shelf>⟧.seen self.old).asked
             (⟦<MemShelf as Shelf>⟧.seen self.new).asked }
         ensures told { IfOk result (λ n. IsLastName name.now (⟦<MemShelf as Shelf>⟧.seen self.new).asked) }
         ensures bound { IfOk result (λ n. n ≤ length buf.new) }

@@ -18,7 +18,7 @@ pub trait Shelf {
     /// faults rose, or stands at its last value, or the contents are told and lack the name.
     fn read(&mut self, name: &str, at: u64, buf: &mut [u8]) -> Result<usize, ShelfFault>
         ensures same { (seen self.new).contents ≡ (seen self.old).contents }
-        ensures names { AsksFor name.now (seen self.old).asked (seen self.new).asked }
+        ensures file_names { AsksFor name.now (seen self.old).asked (seen self.new).asked }
         ensures told { IfOk result (λ n. IsLastName name.now (seen self.new).asked) }
         ensures bound { IfOk result (λ n. n ≤ length buf.new) }
         ensures bytes { ReadIfTold (seen self.old).contents name.now at result buf.new }

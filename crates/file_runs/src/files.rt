@@ -40,7 +40,7 @@ fn read_piece<S: Shelf>(
     ensures one { IfOk result (λ n. at ≡ file_limit → n ≤ 1) }
     ensures counted { Given (S.seen shelf.old).given (S.seen shelf.new).given result }
     ensures latest { (S.seen shelf.new).latest ≡ given_by result }
-    ensures names { AsksFor name.now (S.seen shelf.old).asked (S.seen shelf.new).asked }
+    ensures file_names { AsksFor name.now (S.seen shelf.old).asked (S.seen shelf.new).asked }
     ensures read_pieces { AskedPieces (S.seen shelf.old).longest (S.seen shelf.new).longest }
     ensures cause { ShelfCause (S.seen shelf.old).faults (S.seen shelf.new).faults (S.seen shelf.old).contents name.now
         result }
@@ -79,20 +79,22 @@ pub fn run_file<S: Shelf, O: Sink, W: LineWork>(
     ensures end { IfOk result (λ e. e ≢ End.Usage) }
     ensures unjudged { IfOk result (λ e. e ≢ End.Differs) }
     ensures same { (S.seen shelf.new).contents ≡ (S.seen shelf.old).contents }
-    ensures answers { (past : W.Past) → W.follows work.old past → RanOn (λ contents. option_map
+    ensures due_outcome { (past : W.Past) → W.follows work.old past → RanOn (λ contents. option_map
         (file_due W.advance W.closing past) (contents name.now)) (S.seen shelf.old) (S.seen shelf.new)
         (O.seen out.old) (O.seen out.new) result }
-    ensures so_far { (past : W.Past) → W.follows work.old past → IfErr result (λ e. WroteEnded e
+    ensures output_so_far { (past : W.Past) → W.follows work.old past → IfErr result (λ e. WroteEnded e
         (ended_text W.advance W.closing past) name.now (S.seen shelf.old) (S.seen shelf.new) (O.seen out.old)
         (O.seen out.new)) }
-    ensures no_further { (past : W.Past) → W.follows work.old past → IfOk result (λ e. ReadAsFar (λ contents. NoFurther
+    ensures reads_no_further { (past : W.Past) → W.follows work.old past
+        → IfOk result (λ e. ReadAsFar (λ contents. NoFurther
         (GoesOn W.advance W.closing past) (bytes_of (contents name.now))) (S.seen shelf.old) (S.seen shelf.new)) }
-    ensures cap { (S.seen shelf.new).given ≤ (S.seen shelf.old).given + (file_limit + 1) }
-    ensures names { AsksFor name.now (S.seen shelf.old).asked (S.seen shelf.new).asked }
+    ensures read_limit { (S.seen shelf.new).given ≤ (S.seen shelf.old).given + (file_limit + 1) }
+    ensures file_names { AsksFor name.now (S.seen shelf.old).asked (S.seen shelf.new).asked }
     ensures read_pieces { AskedPieces (S.seen shelf.old).longest (S.seen shelf.new).longest }
-    ensures too_long { IfOk result (λ e. e ≡ End.TooLong → Gave (S.seen shelf.old).given (file_limit + 1)
+    ensures files_too_long { IfOk result (λ e. e ≡ End.TooLong → Gave (S.seen shelf.old).given (file_limit + 1)
         (S.seen shelf.new).given) }
-    ensures whole { IfOk result (λ e. e ≡ End.Done → (S.seen shelf.new).given ≤ (S.seen shelf.old).given + file_limit) }
+    ensures whole_files { IfOk result (λ e. e ≡ End.Done → (S.seen shelf.new).given
+        ≤ (S.seen shelf.old).given + file_limit) }
     ensures gave { IfOk result (λ e. e ≡ End.Done → GaveAtMost (S.seen shelf.old).given file_limit
         (S.seen shelf.new).given) }
     ensures lacks { IfOk result (λ e. e ≡ End.NoEvent → W.may_lack) }

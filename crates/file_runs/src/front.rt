@@ -35,8 +35,8 @@ fn read_on<S: Shelf>(
     ensures bytes { IsReadIfTold (S.seen shelf.old).contents name.now bytes.old.items
         → ReadsOn (S.seen shelf.old).contents name.now bytes.new.items result }
     ensures given { IfOk result (λ n. (S.seen shelf.new).given ≡ capped_count (S.seen shelf.old).given n) }
-    ensures cap { (S.seen shelf.new).given ≤ (S.seen shelf.old).given + length piece.old }
-    ensures names { AsksFor name.now (S.seen shelf.old).asked (S.seen shelf.new).asked }
+    ensures read_limit { (S.seen shelf.new).given ≤ (S.seen shelf.old).given + length piece.old }
+    ensures file_names { AsksFor name.now (S.seen shelf.old).asked (S.seen shelf.new).asked }
     ensures read_pieces { AskedPieces (S.seen shelf.old).longest (S.seen shelf.new).longest }
     ensures within { IsReadIfTold (S.seen shelf.old).contents name.now bytes.old.items → GaveRestIfTold
         (S.seen shelf.old).contents name.now (length bytes.old.items) (S.seen shelf.old).given
@@ -67,8 +67,8 @@ pub fn read_front<S: Shelf>(
     ensures bytes { IfOk result (λ v. FrontIfTold (S.seen shelf.old).contents name.now most v.items) }
     ensures length { IfOk result (λ v. length v.items ≤ most) }
     ensures given { IfOk result (λ v. Gave (S.seen shelf.old).given (length v.items) (S.seen shelf.new).given) }
-    ensures cap { (S.seen shelf.new).given ≤ (S.seen shelf.old).given + most }
-    ensures names { AsksFor name.now (S.seen shelf.old).asked (S.seen shelf.new).asked }
+    ensures read_limit { (S.seen shelf.new).given ≤ (S.seen shelf.old).given + most }
+    ensures file_names { AsksFor name.now (S.seen shelf.old).asked (S.seen shelf.new).asked }
     ensures read_pieces { AskedPieces (S.seen shelf.old).longest (S.seen shelf.new).longest }
     ensures within { GaveIfTold (S.seen shelf.old).contents name.now (S.seen shelf.old).given (S.seen shelf.new).given }
     ensures cause { ReadCause (S.seen shelf.old).faults (S.seen shelf.new).faults (S.seen shelf.old).contents name.now

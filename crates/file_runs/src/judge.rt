@@ -44,12 +44,12 @@ pub fn judge_file<S: Shelf, O: Sink>(
 ) -> Result<End, Fault>
     ensures end { IfOk result (λ e. e ≢ End.Usage) }
     ensures present { IfOk result (λ e. e ≢ End.NoEvent) }
-    ensures answers { RanOn (λ contents. option_map (judgement_due due.now) (contents name.now)) (S.seen shelf.old)
+    ensures due_outcome { RanOn (λ contents. option_map (judgement_due due.now) (contents name.now)) (S.seen shelf.old)
         (S.seen shelf.new) (O.seen out.old) (O.seen out.new) result }
-    ensures so_far { IfErr result (λ e. GainedAt e (O.seen out.old).held (O.seen out.new).held []) }
-    ensures names { AsksFor name.now (S.seen shelf.old).asked (S.seen shelf.new).asked }
+    ensures output_so_far { IfErr result (λ e. GainedAt e (O.seen out.old).held (O.seen out.new).held []) }
+    ensures file_names { AsksFor name.now (S.seen shelf.old).asked (S.seen shelf.new).asked }
     ensures within { GaveIfTold (S.seen shelf.old).contents name.now (S.seen shelf.old).given (S.seen shelf.new).given }
-    ensures cap { (S.seen shelf.new).given ≤ (S.seen shelf.old).given + (verdicts_limit + 1) }
+    ensures read_limit { (S.seen shelf.new).given ≤ (S.seen shelf.old).given + (verdicts_limit + 1) }
     ensures read_pieces { AskedPieces (S.seen shelf.old).longest (S.seen shelf.new).longest }
     ensures long { IfOk result (λ e. e ≡ End.TooLong → Gave (S.seen shelf.old).given (verdicts_limit + 1)
         (S.seen shelf.new).given) }

@@ -41,17 +41,17 @@ pub record Laws (plan : Plan) (h : History) : Type 0 where
   pub order_is_no_forgery : OrderIsNoForgery plan h
   pub count_law : CountLaw plan h
   pub operations_settle : OperationsSettle h
-  pub stays_secure : StaysSecure h
+  pub stream_stays_secure : StaysSecure h
   pub keys_follow_operations : KeysFollowOperations h
   pub set_go_finds_key : SetGoFindsKey h
-  pub never_again : NeverAgain h
+  pub ended_keys_stay_out : NeverAgain h
   pub failed_law : FailedLaw plan h
   pub numbers_fresh : NumbersFresh plan h
   pub keystream_fresh : KeyStreamFresh plan h
   pub run_law : RunLaw plan h
-  pub attested : Attested plan h
+  pub reports_are_shown : Attested plan h
   pub lock_law : LockLaw plan h
-  pub scrubbed : Scrubbed plan h
+  pub unlocked_is_scrubbed : Scrubbed plan h
   pub bind_law : BindLaw plan h
   pub trusted_packets_fit_view : TrustedPacketsFitView plan h
   pub views_are_true : ViewsAreTrue plan h

@@ -3,8 +3,9 @@
 ghost use Rattle.ide_cli.specs.Laws.{LawsHold};
 
 use law_bytes::{
-    answer_law, answers_law, attested, byte_origin, effect_law, failed_law, keystream_fresh,
-    lock_law, mmio_origin_law, named_law, one_lock_per_key, scrubbed, trust_law, views_are_true,
+    answer_law, answers_law, byte_origin, effect_law, failed_law, keystream_fresh, lock_law,
+    mmio_origin_law, named_law, one_lock_per_key, reports_are_shown, trust_law,
+    unlocked_is_scrubbed, views_are_true,
 };
 use law_delivery::{
     count_law, delivery_law, draws_never_fall, order_is_no_forgery, order_law, prefix_law,
@@ -13,7 +14,8 @@ use law_delivery::{
 use law_hops::{hop_law, through_law};
 use law_key_facts::keys_have_causes;
 use law_keys::{
-    keys_follow_operations, never_again, operations_settle, set_go_finds_key, stays_secure,
+    ended_keys_stay_out, keys_follow_operations, operations_settle, set_go_finds_key,
+    stream_stays_secure,
 };
 use law_memory::{
     bind_origin_law, interfaces_have_causes, memory_law, origin_law, read_law, read_origin_law,
@@ -38,17 +40,17 @@ pub(crate) fn laws_hold()
     order_is_no_forgery();
     count_law();
     operations_settle();
-    stays_secure();
+    stream_stays_secure();
     keys_follow_operations();
     set_go_finds_key();
-    never_again();
+    ended_keys_stay_out();
     failed_law();
     numbers_fresh();
     keystream_fresh();
     run_law();
-    attested();
+    reports_are_shown();
     lock_law();
-    scrubbed();
+    unlocked_is_scrubbed();
     bind_law();
     views_hold();
     views_are_true();

@@ -84,19 +84,20 @@ pub(crate) fn show_packets<S: Shelf, O: Sink>(
     ensures end { IfOk result (λ e. e ≢ End.Usage) }
     ensures unjudged { IfOk result (λ e. e ≢ End.Differs) }
     ensures present { IfOk result (λ e. e ≢ End.NoEvent) }
-    ensures answers { RanOn (λ contents. option_map show_due (contents packets.now)) (S.seen shelf.old)
+    ensures due_outcome { RanOn (λ contents. option_map show_due (contents packets.now)) (S.seen shelf.old)
         (S.seen shelf.new) (O.seen out.old) (O.seen out.new) result }
-    ensures so_far { IfErr result (λ e. WroteBy e (λ contents n. shown_so_far
+    ensures output_so_far { IfErr result (λ e. WroteBy e (λ contents n. shown_so_far
         (take n (bytes_of (contents packets.now)))) (λ contents n. take n (bytes_of (contents packets.now)))
         (S.seen shelf.old) (S.seen shelf.new) (O.seen out.old) (O.seen out.new)) }
-    ensures no_further { IfOk result (λ e. ReadAsFar (λ contents. NoFurther (GoesOn shown_line nothing_due tt)
+    ensures reads_no_further { IfOk result (λ e. ReadAsFar (λ contents. NoFurther (GoesOn shown_line nothing_due tt)
         (bytes_of (contents packets.now))) (S.seen shelf.old) (S.seen shelf.new)) }
-    ensures names { AsksFor packets.now (S.seen shelf.old).asked (S.seen shelf.new).asked }
-    ensures cap { (S.seen shelf.new).given ≤ (S.seen shelf.old).given + (file_limit + 1) }
+    ensures file_names { AsksFor packets.now (S.seen shelf.old).asked (S.seen shelf.new).asked }
+    ensures read_limit { (S.seen shelf.new).given ≤ (S.seen shelf.old).given + (file_limit + 1) }
     ensures read_pieces { AskedPieces (S.seen shelf.old).longest (S.seen shelf.new).longest }
-    ensures too_long { IfOk result (λ e. e ≡ End.TooLong → Gave (S.seen shelf.old).given (file_limit + 1)
+    ensures files_too_long { IfOk result (λ e. e ≡ End.TooLong → Gave (S.seen shelf.old).given (file_limit + 1)
         (S.seen shelf.new).given) }
-    ensures whole { IfOk result (λ e. e ≡ End.Done → (S.seen shelf.new).given ≤ (S.seen shelf.old).given + file_limit) }
+    ensures whole_files { IfOk result (λ e. e ≡ End.Done → (S.seen shelf.new).given
+        ≤ (S.seen shelf.old).given + file_limit) }
 {
     let mut work = PacketWork::new(alloc);
     run_file(alloc, &mut work, packets, shelf, out)

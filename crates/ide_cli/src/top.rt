@@ -47,26 +47,29 @@ fn perform<S: Shelf, O: Sink>(
     shelf: &mut S,
     out: &mut O,
 ) -> Result<End, Fault>
-    ensures usage { IfOk result (λ e. e ≡ End.Usage → command_asked (map string_bytes words.now) ≡ None) }
-    ensures refused { command_asked (map string_bytes words.now) ≡ None → Ran (End.Usage, usage_line) (O.seen out.old)
-        (O.seen out.new) result }
-    ensures generated { RanGenerated (call_seen S.seen O.seen words.now shelf.old shelf.new out.old out.new result) }
-    ensures answers { Answered (call_seen S.seen O.seen words.now shelf.old shelf.new out.old out.new result) }
-    ensures so_far { WroteSoFar (call_seen S.seen O.seen words.now shelf.old shelf.new out.old out.new result) }
-    ensures no_further { ReadNoFurther (call_seen S.seen O.seen words.now shelf.old shelf.new out.old out.new result) }
-    ensures names { AsksOnly (Names (command_asked (map string_bytes words.now))) (S.seen shelf.old).asked
+    ensures usage_status { IfOk result (λ e. e ≡ End.Usage → command_asked (map string_bytes words.now) ≡ None) }
+    ensures refused_words { command_asked (map string_bytes words.now) ≡ None
+        → Ran (End.Usage, usage_line) (O.seen out.old) (O.seen out.new) result }
+    ensures generated_text { RanGenerated
+        (call_seen S.seen O.seen words.now shelf.old shelf.new out.old out.new result) }
+    ensures due_outcome { Answered (call_seen S.seen O.seen words.now shelf.old shelf.new out.old out.new result) }
+    ensures output_so_far { WroteSoFar (call_seen S.seen O.seen words.now shelf.old shelf.new out.old out.new result) }
+    ensures reads_no_further { ReadNoFurther
+        (call_seen S.seen O.seen words.now shelf.old shelf.new out.old out.new result) }
+    ensures file_names { AsksOnly (Names (command_asked (map string_bytes words.now))) (S.seen shelf.old).asked
         (S.seen shelf.new).asked }
-    ensures cap { (S.seen shelf.new).given ≤ (S.seen shelf.old).given
+    ensures read_limit { (S.seen shelf.new).given ≤ (S.seen shelf.old).given
         + most_read (command_asked (map string_bytes words.now)) }
     ensures read_pieces { AskedPieces (S.seen shelf.old).longest (S.seen shelf.new).longest }
-    ensures too_long { IfOk result (λ e. e ≡ End.TooLong → ReadPast (command_asked (map string_bytes words.now))
+    ensures files_too_long { IfOk result (λ e. e ≡ End.TooLong → ReadPast (command_asked (map string_bytes words.now))
         (S.seen shelf.old).given (S.seen shelf.new).given) }
-    ensures whole { IfOk result (λ e. e ≡ End.Done → (S.seen shelf.new).given ≤ (S.seen shelf.old).given + most_counted
-        (command_asked (map string_bytes words.now))) }
-    ensures other { IfOk result (λ e. e ≡ End.Differs → AsksToJudge (command_asked (map string_bytes words.now))
+    ensures whole_files { IfOk result (λ e. e ≡ End.Done → (S.seen shelf.new).given
+        ≤ (S.seen shelf.old).given + most_counted (command_asked (map string_bytes words.now))) }
+    ensures differing_text { IfOk result (λ e. e ≡ End.Differs
+        → AsksToJudge (command_asked (map string_bytes words.now))
         × ((S.seen shelf.new).given ≤ (S.seen shelf.old).given
         + most_counted (command_asked (map string_bytes words.now)))) }
-    ensures absent { IfOk result (λ e. e ≡ End.NoEvent → AsksToTell (command_asked (map string_bytes words.now))
+    ensures absent_event { IfOk result (λ e. e ≡ End.NoEvent → AsksToTell (command_asked (map string_bytes words.now))
         × ((S.seen shelf.new).given ≤ (S.seen shelf.old).given
         + most_counted (command_asked (map string_bytes words.now)))) }
 {
@@ -130,60 +133,62 @@ pub fn run<S: Shelf, O: Sink>(
     out: &mut O,
 ) -> Status
     // Words that ask for nothing are answered with the usage line, and only those.
-    ensures usage { result ≡ Status.Usage → command_asked (said_words words.now) ≡ None }
-    ensures refused { command_asked (said_words words.now) ≡ None → Ran (End.Usage, usage_line) (O.seen out.old)
+    ensures usage_status { result ≡ Status.Usage → command_asked (said_words words.now) ≡ None }
+    ensures refused_words { command_asked (said_words words.now) ≡ None → Ran (End.Usage, usage_line) (O.seen out.old)
         (O.seen out.new) (outcome_of_status result) }
 
     // If the shelf tells its contents, the due status comes with all of the due text, and a fault or want of memory
     // leaves a prefix of it. Each fault has its cause.
-    ensures answers { Answered (run_seen S.seen O.seen words.now shelf.old shelf.new out.old out.new result) }
+    ensures due_outcome { Answered (run_seen S.seen O.seen words.now shelf.old shelf.new out.old out.new result) }
 
     // If a file could not be read on, the sink has gained exactly what is due to those lines of the script, or of the
     // packet file, that ended in the bytes that were given, and of the next line at most 20,000 bytes were; if the
     // topology was not wholly read, the sink has gained nothing. Nor does a line wait while a later piece is read: if
     // text could not be written, or for want of memory, at least what is due to the lines that ended in all of the
     // bytes given but those of the last read was written.
-    ensures so_far { WroteSoFar (run_seen S.seen O.seen words.now shelf.old shelf.new out.old out.new result) }
+    ensures output_so_far { WroteSoFar (run_seen S.seen O.seen words.now shelf.old shelf.new out.old out.new result) }
 
     // If the run ends by itself, it was given no more bytes than are in the files that it reads, and no more than are
     // in the topology if that is faulty or too long; and in the bytes that were given before the last read no line
     // ends the run.
-    ensures no_further { ReadNoFurther (run_seen S.seen O.seen words.now shelf.old shelf.new out.old out.new result) }
+    ensures reads_no_further { ReadNoFurther
+        (run_seen S.seen O.seen words.now shelf.old shelf.new out.old out.new result) }
 
     // No file is asked for but those that the words name: no other name comes to the list that the shelf tells. Of each
     // one byte more is read than count, and no read asks for more than 4,096 bytes. A file is too long if that byte was
     // given, and a file that was read to its end has no more than count.
-    ensures names { AsksOnly (Names (command_asked (said_words words.now))) (S.seen shelf.old).asked
+    ensures file_names { AsksOnly (Names (command_asked (said_words words.now))) (S.seen shelf.old).asked
         (S.seen shelf.new).asked }
-    ensures cap { (S.seen shelf.new).given ≤ (S.seen shelf.old).given
+    ensures read_limit { (S.seen shelf.new).given ≤ (S.seen shelf.old).given
         + most_read (command_asked (said_words words.now)) }
     ensures read_pieces { AskedPieces (S.seen shelf.old).longest (S.seen shelf.new).longest }
-    ensures too_long { result ≡ Status.TooLong
+    ensures files_too_long { result ≡ Status.TooLong
         → ReadPast (command_asked (said_words words.now)) (S.seen shelf.old).given
         (S.seen shelf.new).given }
-    ensures whole { result ≡ Status.Done → (S.seen shelf.new).given ≤ (S.seen shelf.old).given + most_counted
+    ensures whole_files { result ≡ Status.Done → (S.seen shelf.new).given ≤ (S.seen shelf.old).given + most_counted
         (command_asked (said_words words.now)) }
 
     // A text that was judged is said to be another only if the words ask to judge one; it was read to its end then.
-    ensures other { result ≡ Status.Differs → AsksToJudge (command_asked (said_words words.now))
+    ensures differing_text { result ≡ Status.Differs → AsksToJudge (command_asked (said_words words.now))
         × ((S.seen shelf.new).given ≤ (S.seen shelf.old).given + most_counted (command_asked (said_words words.now))) }
     // If the words ask to judge a text, and the script is read to its end, the text is said to be the same exactly if
     // the contents of its file are the text that is due, whole; else the first line that differs is named, with the
     // line that is due there, if any is.
-    ensures judged { JudgedCall (run_seen S.seen O.seen words.now shelf.old shelf.new out.old out.new result) }
+    ensures judged_text { JudgedCall (run_seen S.seen O.seen words.now shelf.old shelf.new out.old out.new result) }
 
     // A script is said to lack an event only if the words ask why an event got its verdict; it was read to its end
     // then.
-    ensures absent { result ≡ Status.NoEvent → AsksToTell (command_asked (said_words words.now))
+    ensures absent_event { result ≡ Status.NoEvent → AsksToTell (command_asked (said_words words.now))
         × ((S.seen shelf.new).given ≤ (S.seen shelf.old).given + most_counted (command_asked (said_words words.now))) }
     // If the words ask why event N of a script got its verdict, the text is the line of the verdict that is due, the
     // rule that answers, and the facts that its machine's state is due to have after the events before N, one a line;
     // of a script that is read to its end with fewer events it is the line that says so.
-    ensures explained { Explained (run_seen S.seen O.seen words.now shelf.old shelf.new out.old out.new result) }
+    ensures explained_event { Explained (run_seen S.seen O.seen words.now shelf.old shelf.new out.old out.new result) }
 
     // If the words ask for generated events, the line with the totals of their history is due, or their script, or
     // their topology, whatever the shelf tells.
-    ensures generated { RanGenerated (run_seen S.seen O.seen words.now shelf.old shelf.new out.old out.new result) }
+    ensures generated_text { RanGenerated
+        (run_seen S.seen O.seen words.now shelf.old shelf.new out.old out.new result) }
     // If they ask for a run, of a script that was written so, on the topology that was, the verdict lines of the
     // generated events are due, and the totals with which the line of `generate` ends.
     ensures runs_generated { RunsGenerated
@@ -214,7 +219,7 @@ pub fn run<S: Shelf, O: Sink>(
     ensures count_law { InEvery CountLaw (run_seen S.seen O.seen words.now shelf.old shelf.new out.old out.new result) }
     ensures operations_settle { InEveryHistory OperationsSettle
         (run_seen S.seen O.seen words.now shelf.old shelf.new out.old out.new result) }
-    ensures stays_secure { InEveryHistory StaysSecure
+    ensures stream_stays_secure { InEveryHistory StaysSecure
         (run_seen S.seen O.seen words.now shelf.old shelf.new out.old out.new result) }
     // A draw is kept in one key set of a place at most and on one stream, an unfinished establish or refresh has its
     // draw On where its GO was acknowledged, and each GO that reaches a place finds its draw kept there. A draw that
@@ -224,7 +229,7 @@ pub fn run<S: Shelf, O: Sink>(
         (run_seen S.seen O.seen words.now shelf.old shelf.new out.old out.new result) }
     ensures set_go_finds_key { InEveryHistory SetGoFindsKey
         (run_seen S.seen O.seen words.now shelf.old shelf.new out.old out.new result) }
-    ensures never_again { InEveryHistory NeverAgain
+    ensures ended_keys_stay_out { InEveryHistory NeverAgain
         (run_seen S.seen O.seen words.now shelf.old shelf.new out.old out.new result) }
     ensures failed_law { InEvery FailedLaw
         (run_seen S.seen O.seen words.now shelf.old shelf.new out.old out.new result) }
@@ -241,9 +246,11 @@ pub fn run<S: Shelf, O: Sink>(
     // locked now. Locked or in RUN, the stream of its lock is Secure at its device, and so is each stream between
     // devices that it is bound to. Whatever takes it back to the unlocked state clears each byte of its closed ranges.
     ensures run_law { InEvery RunLaw (run_seen S.seen O.seen words.now shelf.old shelf.new out.old out.new result) }
-    ensures attested { InEvery Attested (run_seen S.seen O.seen words.now shelf.old shelf.new out.old out.new result) }
+    ensures reports_are_shown { InEvery Attested
+        (run_seen S.seen O.seen words.now shelf.old shelf.new out.old out.new result) }
     ensures lock_law { InEvery LockLaw (run_seen S.seen O.seen words.now shelf.old shelf.new out.old out.new result) }
-    ensures scrubbed { InEvery Scrubbed (run_seen S.seen O.seen words.now shelf.old shelf.new out.old out.new result) }
+    ensures unlocked_is_scrubbed { InEvery Scrubbed
+        (run_seen S.seen O.seen words.now shelf.old shelf.new out.old out.new result) }
     // An interface is bound to streams between devices only while it is locked or in RUN: whatever ends a lock ends its
     // bindings too.
     ensures bind_law { InEvery BindLaw (run_seen S.seen O.seen words.now shelf.old shelf.new out.old out.new result) }

@@ -41,22 +41,22 @@ pub fn judge<S: Shelf, O: Sink>(
 ) -> Result<End, Fault>
     ensures end { IfOk result (λ e. e ≢ End.Usage) }
     ensures present { IfOk result (λ e. e ≢ End.NoEvent) }
-    ensures answers { RanOn (λ contents. judge_due (contents topology.now) (contents script.now)
+    ensures due_outcome { RanOn (λ contents. judge_due (contents topology.now) (contents script.now)
         (contents verdicts.now)) (S.seen shelf.old) (S.seen shelf.new) (O.seen out.old) (O.seen out.new) result }
-    ensures so_far { IfErr result (λ e. WroteBy e (λ contents n. []) (λ contents n. [])
+    ensures output_so_far { IfErr result (λ e. WroteBy e (λ contents n. []) (λ contents n. [])
         (S.seen shelf.old) (S.seen shelf.new) (O.seen out.old) (O.seen out.new)) }
-    ensures no_further { IfOk result (λ e. ReadAsFar (λ contents. JudgeNoFurther (contents topology.now)
+    ensures reads_no_further { IfOk result (λ e. ReadAsFar (λ contents. JudgeNoFurther (contents topology.now)
         (contents script.now) (contents verdicts.now)) (S.seen shelf.old) (S.seen shelf.new)) }
-    ensures names { AsksOnly (IsOneOf topology.now script.now verdicts.now) (S.seen shelf.old).asked
+    ensures file_names { AsksOnly (IsOneOf topology.now script.now verdicts.now) (S.seen shelf.old).asked
         (S.seen shelf.new).asked }
-    ensures cap { (S.seen shelf.new).given ≤ (S.seen shelf.old).given + (topology_limit + 1 + (file_limit + 1)
+    ensures read_limit { (S.seen shelf.new).given ≤ (S.seen shelf.old).given + (topology_limit + 1 + (file_limit + 1)
         + (verdicts_limit + 1)) }
     ensures read_pieces { AskedPieces (S.seen shelf.old).longest (S.seen shelf.new).longest }
-    ensures too_long { IfOk result (λ e. e ≡ End.TooLong → JudgedPast (S.seen shelf.old).given
+    ensures files_too_long { IfOk result (λ e. e ≡ End.TooLong → JudgedPast (S.seen shelf.old).given
         (S.seen shelf.new).given) }
-    ensures whole { IfOk result (λ e. e ≡ End.Done → (S.seen shelf.new).given
+    ensures whole_files { IfOk result (λ e. e ≡ End.Done → (S.seen shelf.new).given
         ≤ (S.seen shelf.old).given + (topology_limit + file_limit + verdicts_limit)) }
-    ensures other { IfOk result (λ e. e ≡ End.Differs → (S.seen shelf.new).given
+    ensures differing_text { IfOk result (λ e. e ≡ End.Differs → (S.seen shelf.new).given
         ≤ (S.seen shelf.old).given + (topology_limit + file_limit + verdicts_limit)) }
 {
     let mut ran = TrueSink::new(alloc);

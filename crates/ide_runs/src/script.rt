@@ -300,18 +300,19 @@ fn run_script<S: Shelf, O: Sink>(
     ensures unjudged { IfOk result (λ e. e ≢ End.Differs) }
     ensures present { IfOk result (λ e. e ≢ End.NoEvent) }
     ensures same { (S.seen shelf.new).contents ≡ (S.seen shelf.old).contents }
-    ensures answers { RanOn (λ contents. option_map (script_due plan) (contents script.now)) (S.seen shelf.old)
+    ensures due_outcome { RanOn (λ contents. option_map (script_due plan) (contents script.now)) (S.seen shelf.old)
         (S.seen shelf.new) (O.seen out.old) (O.seen out.new) result }
-    ensures so_far { IfErr result (λ e. WroteEnded e (script_so_far plan) script.now (S.seen shelf.old)
+    ensures output_so_far { IfErr result (λ e. WroteEnded e (script_so_far plan) script.now (S.seen shelf.old)
         (S.seen shelf.new) (O.seen out.old) (O.seen out.new)) }
-    ensures no_further { IfOk result (λ e. ReadAsFar (λ contents. NoFurther (ScriptGoesOn plan)
+    ensures reads_no_further { IfOk result (λ e. ReadAsFar (λ contents. NoFurther (ScriptGoesOn plan)
         (bytes_of (contents script.now))) (S.seen shelf.old) (S.seen shelf.new)) }
-    ensures names { AsksFor script.now (S.seen shelf.old).asked (S.seen shelf.new).asked }
-    ensures cap { (S.seen shelf.new).given ≤ (S.seen shelf.old).given + (file_limit + 1) }
+    ensures file_names { AsksFor script.now (S.seen shelf.old).asked (S.seen shelf.new).asked }
+    ensures read_limit { (S.seen shelf.new).given ≤ (S.seen shelf.old).given + (file_limit + 1) }
     ensures read_pieces { AskedPieces (S.seen shelf.old).longest (S.seen shelf.new).longest }
-    ensures too_long { IfOk result (λ e. e ≡ End.TooLong → Gave (S.seen shelf.old).given (file_limit + 1)
+    ensures files_too_long { IfOk result (λ e. e ≡ End.TooLong → Gave (S.seen shelf.old).given (file_limit + 1)
         (S.seen shelf.new).given) }
-    ensures whole { IfOk result (λ e. e ≡ End.Done → (S.seen shelf.new).given ≤ (S.seen shelf.old).given + file_limit) }
+    ensures whole_files { IfOk result (λ e. e ≡ End.Done → (S.seen shelf.new).given
+        ≤ (S.seen shelf.old).given + file_limit) }
     ensures gave { IfOk result (λ e. e ≡ End.Done → GaveAtMost (S.seen shelf.old).given file_limit
         (S.seen shelf.new).given) }
 {
@@ -337,19 +338,20 @@ pub fn run_files<S: Shelf, O: Sink>(
     ensures unjudged { IfOk result (λ e. e ≢ End.Differs) }
     ensures present { IfOk result (λ e. e ≢ End.NoEvent) }
     ensures same { (S.seen shelf.new).contents ≡ (S.seen shelf.old).contents }
-    ensures answers { RanOn (λ contents. run_due (contents topology.now) (contents script.now)) (S.seen shelf.old)
+    ensures due_outcome { RanOn (λ contents. run_due (contents topology.now) (contents script.now)) (S.seen shelf.old)
         (S.seen shelf.new) (O.seen out.old) (O.seen out.new) result }
-    ensures so_far { IfErr result (λ e. WroteBy e (λ contents n. run_so_far (contents topology.now)
+    ensures output_so_far { IfErr result (λ e. WroteBy e (λ contents n. run_so_far (contents topology.now)
         (contents script.now) n) (λ contents n. script_given (contents topology.now) (contents script.now) n)
         (S.seen shelf.old) (S.seen shelf.new) (O.seen out.old) (O.seen out.new)) }
-    ensures no_further { IfOk result (λ e. ReadAsFar (λ contents. RunNoFurther (contents topology.now)
+    ensures reads_no_further { IfOk result (λ e. ReadAsFar (λ contents. RunNoFurther (contents topology.now)
         (contents script.now)) (S.seen shelf.old) (S.seen shelf.new)) }
-    ensures names { AsksOnly (λ name. (name ≡ topology.now) ⊎ (name ≡ script.now)) (S.seen shelf.old).asked
+    ensures file_names { AsksOnly (λ name. (name ≡ topology.now) ⊎ (name ≡ script.now)) (S.seen shelf.old).asked
         (S.seen shelf.new).asked }
-    ensures cap { (S.seen shelf.new).given ≤ (S.seen shelf.old).given + (topology_limit + 1 + (file_limit + 1)) }
+    ensures read_limit { (S.seen shelf.new).given ≤ (S.seen shelf.old).given + (topology_limit + 1 + (file_limit + 1)) }
     ensures read_pieces { AskedPieces (S.seen shelf.old).longest (S.seen shelf.new).longest }
-    ensures too_long { IfOk result (λ e. e ≡ End.TooLong → RanPast (S.seen shelf.old).given (S.seen shelf.new).given) }
-    ensures whole { IfOk result (λ e. e ≡ End.Done → (S.seen shelf.new).given
+    ensures files_too_long { IfOk result (λ e. e ≡ End.TooLong
+        → RanPast (S.seen shelf.old).given (S.seen shelf.new).given) }
+    ensures whole_files { IfOk result (λ e. e ≡ End.Done → (S.seen shelf.new).given
         ≤ (S.seen shelf.old).given + (topology_limit + file_limit)) }
     ensures gave { IfOk result (λ e. e ≡ End.Done → GaveAtMost (S.seen shelf.old).given (topology_limit + file_limit)
         (S.seen shelf.new).given) }

@@ -194,18 +194,19 @@ fn why_script<S: Shelf, O: Sink>(
     requires { FitsPlan plan }
     ensures end { IfOk result (λ e. e ≢ End.Usage) }
     ensures unjudged { IfOk result (λ e. e ≢ End.Differs) }
-    ensures answers { RanOn (λ contents. option_map (told_due number plan) (contents script.now)) (S.seen shelf.old)
+    ensures due_outcome { RanOn (λ contents. option_map (told_due number plan) (contents script.now)) (S.seen shelf.old)
         (S.seen shelf.new) (O.seen out.old) (O.seen out.new) result }
-    ensures so_far { IfErr result (λ e. WroteEnded e (told_so_far number plan) script.now (S.seen shelf.old)
+    ensures output_so_far { IfErr result (λ e. WroteEnded e (told_so_far number plan) script.now (S.seen shelf.old)
         (S.seen shelf.new) (O.seen out.old) (O.seen out.new)) }
-    ensures no_further { IfOk result (λ e. ReadAsFar (λ contents. NoFurther (ScriptGoesOn plan)
+    ensures reads_no_further { IfOk result (λ e. ReadAsFar (λ contents. NoFurther (ScriptGoesOn plan)
         (bytes_of (contents script.now))) (S.seen shelf.old) (S.seen shelf.new)) }
-    ensures names { AsksFor script.now (S.seen shelf.old).asked (S.seen shelf.new).asked }
-    ensures cap { (S.seen shelf.new).given ≤ (S.seen shelf.old).given + (file_limit + 1) }
+    ensures file_names { AsksFor script.now (S.seen shelf.old).asked (S.seen shelf.new).asked }
+    ensures read_limit { (S.seen shelf.new).given ≤ (S.seen shelf.old).given + (file_limit + 1) }
     ensures read_pieces { AskedPieces (S.seen shelf.old).longest (S.seen shelf.new).longest }
-    ensures too_long { IfOk result (λ e. e ≡ End.TooLong → Gave (S.seen shelf.old).given (file_limit + 1)
+    ensures files_too_long { IfOk result (λ e. e ≡ End.TooLong → Gave (S.seen shelf.old).given (file_limit + 1)
         (S.seen shelf.new).given) }
-    ensures whole { IfOk result (λ e. e ≡ End.Done → (S.seen shelf.new).given ≤ (S.seen shelf.old).given + file_limit) }
+    ensures whole_files { IfOk result (λ e. e ≡ End.Done → (S.seen shelf.new).given
+        ≤ (S.seen shelf.old).given + file_limit) }
     ensures all { IfOk result (λ e. e ≡ End.NoEvent → (S.seen shelf.new).given ≤ (S.seen shelf.old).given
         + file_limit) }
 {
@@ -232,19 +233,20 @@ pub fn why<S: Shelf, O: Sink>(
 ) -> Result<End, Fault>
     ensures end { IfOk result (λ e. e ≢ End.Usage) }
     ensures unjudged { IfOk result (λ e. e ≢ End.Differs) }
-    ensures answers { RanOn (λ contents. why_due number (contents topology.now) (contents script.now))
+    ensures due_outcome { RanOn (λ contents. why_due number (contents topology.now) (contents script.now))
         (S.seen shelf.old) (S.seen shelf.new) (O.seen out.old) (O.seen out.new) result }
-    ensures so_far { IfErr result (λ e. WroteBy e (λ contents n. files_so_far (told_so_far number)
+    ensures output_so_far { IfErr result (λ e. WroteBy e (λ contents n. files_so_far (told_so_far number)
         (contents topology.now) (contents script.now) n) (λ contents n. script_given (contents topology.now)
         (contents script.now) n) (S.seen shelf.old) (S.seen shelf.new) (O.seen out.old) (O.seen out.new)) }
-    ensures no_further { IfOk result (λ e. ReadAsFar (λ contents. RunNoFurther (contents topology.now)
+    ensures reads_no_further { IfOk result (λ e. ReadAsFar (λ contents. RunNoFurther (contents topology.now)
         (contents script.now)) (S.seen shelf.old) (S.seen shelf.new)) }
-    ensures names { AsksOnly (λ name. (name ≡ topology.now) ⊎ (name ≡ script.now)) (S.seen shelf.old).asked
+    ensures file_names { AsksOnly (λ name. (name ≡ topology.now) ⊎ (name ≡ script.now)) (S.seen shelf.old).asked
         (S.seen shelf.new).asked }
-    ensures cap { (S.seen shelf.new).given ≤ (S.seen shelf.old).given + (topology_limit + 1 + (file_limit + 1)) }
+    ensures read_limit { (S.seen shelf.new).given ≤ (S.seen shelf.old).given + (topology_limit + 1 + (file_limit + 1)) }
     ensures read_pieces { AskedPieces (S.seen shelf.old).longest (S.seen shelf.new).longest }
-    ensures too_long { IfOk result (λ e. e ≡ End.TooLong → RanPast (S.seen shelf.old).given (S.seen shelf.new).given) }
-    ensures whole { IfOk result (λ e. e ≡ End.Done → (S.seen shelf.new).given
+    ensures files_too_long { IfOk result (λ e. e ≡ End.TooLong
+        → RanPast (S.seen shelf.old).given (S.seen shelf.new).given) }
+    ensures whole_files { IfOk result (λ e. e ≡ End.Done → (S.seen shelf.new).given
         ≤ (S.seen shelf.old).given + (topology_limit + file_limit)) }
     ensures all { IfOk result (λ e. e ≡ End.NoEvent → (S.seen shelf.new).given
         ≤ (S.seen shelf.old).given + (topology_limit + file_limit)) }

@@ -59,8 +59,8 @@ pub(crate) fn load<S: Shelf>(alloc: Global, shelf: &mut S, name: &str) -> Result
     ensures within { GaveIfTold (S.seen shelf.old).contents name.now (S.seen shelf.old).given (S.seen shelf.new).given }
     ensures all { IfOk result (λ l. l ≢ Loaded.Long → GaveAllOf (S.seen shelf.old).contents name.now
         (S.seen shelf.old).given (S.seen shelf.new).given) }
-    ensures names { AsksFor name.now (S.seen shelf.old).asked (S.seen shelf.new).asked }
-    ensures cap { (S.seen shelf.new).given ≤ (S.seen shelf.old).given + (topology_limit + 1) }
+    ensures file_names { AsksFor name.now (S.seen shelf.old).asked (S.seen shelf.new).asked }
+    ensures read_limit { (S.seen shelf.new).given ≤ (S.seen shelf.old).given + (topology_limit + 1) }
     ensures read_pieces { AskedPieces (S.seen shelf.old).longest (S.seen shelf.new).longest }
     ensures long { IfOk result (λ l. l ≡ Loaded.Long → Gave (S.seen shelf.old).given (topology_limit + 1)
         (S.seen shelf.new).given) }
@@ -121,18 +121,18 @@ pub fn check_topology<S: Shelf, O: Sink>(
     ensures end { IfOk result (λ e. e ≢ End.Usage) }
     ensures unjudged { IfOk result (λ e. e ≢ End.Differs) }
     ensures present { IfOk result (λ e. e ≢ End.NoEvent) }
-    ensures answers { RanOn (λ contents. option_map check_due (contents topology.now)) (S.seen shelf.old)
+    ensures due_outcome { RanOn (λ contents. option_map check_due (contents topology.now)) (S.seen shelf.old)
         (S.seen shelf.new) (O.seen out.old) (O.seen out.new) result }
-    ensures so_far { IfErr result (λ e. WroteBy e (λ contents n. []) (λ contents n. [])
+    ensures output_so_far { IfErr result (λ e. WroteBy e (λ contents n. []) (λ contents n. [])
         (S.seen shelf.old) (S.seen shelf.new) (O.seen out.old) (O.seen out.new)) }
-    ensures no_further { IfOk result (λ e. ReadAsFar (λ contents given ahead. given
+    ensures reads_no_further { IfOk result (λ e. ReadAsFar (λ contents given ahead. given
         ≤ length (bytes_of (contents topology.now))) (S.seen shelf.old) (S.seen shelf.new)) }
-    ensures names { AsksFor topology.now (S.seen shelf.old).asked (S.seen shelf.new).asked }
-    ensures cap { (S.seen shelf.new).given ≤ (S.seen shelf.old).given + (topology_limit + 1) }
+    ensures file_names { AsksFor topology.now (S.seen shelf.old).asked (S.seen shelf.new).asked }
+    ensures read_limit { (S.seen shelf.new).given ≤ (S.seen shelf.old).given + (topology_limit + 1) }
     ensures read_pieces { AskedPieces (S.seen shelf.old).longest (S.seen shelf.new).longest }
-    ensures too_long { IfOk result (λ e. e ≡ End.TooLong → Gave (S.seen shelf.old).given (topology_limit + 1)
+    ensures files_too_long { IfOk result (λ e. e ≡ End.TooLong → Gave (S.seen shelf.old).given (topology_limit + 1)
         (S.seen shelf.new).given) }
-    ensures whole { IfOk result (λ e. e ≡ End.Done → (S.seen shelf.new).given
+    ensures whole_files { IfOk result (λ e. e ≡ End.Done → (S.seen shelf.new).given
         ≤ (S.seen shelf.old).given + topology_limit) }
 {
     match load(alloc, shelf, topology) {
@@ -171,18 +171,18 @@ pub fn migrate_topology<S: Shelf, O: Sink>(
     ensures end { IfOk result (λ e. e ≢ End.Usage) }
     ensures unjudged { IfOk result (λ e. e ≢ End.Differs) }
     ensures present { IfOk result (λ e. e ≢ End.NoEvent) }
-    ensures answers { MigratedFor topology.now (S.seen shelf.old) (S.seen shelf.new)
+    ensures due_outcome { MigratedFor topology.now (S.seen shelf.old) (S.seen shelf.new)
         (O.seen out.old) (O.seen out.new) result }
-    ensures so_far { IfErr result (λ e. WroteBy e (λ contents n. []) (λ contents n. [])
+    ensures output_so_far { IfErr result (λ e. WroteBy e (λ contents n. []) (λ contents n. [])
         (S.seen shelf.old) (S.seen shelf.new) (O.seen out.old) (O.seen out.new)) }
-    ensures no_further { IfOk result (λ e. ReadAsFar (λ contents given ahead. given
+    ensures reads_no_further { IfOk result (λ e. ReadAsFar (λ contents given ahead. given
         ≤ length (bytes_of (contents topology.now))) (S.seen shelf.old) (S.seen shelf.new)) }
-    ensures names { AsksFor topology.now (S.seen shelf.old).asked (S.seen shelf.new).asked }
-    ensures cap { (S.seen shelf.new).given ≤ (S.seen shelf.old).given + (topology_limit + 1) }
+    ensures file_names { AsksFor topology.now (S.seen shelf.old).asked (S.seen shelf.new).asked }
+    ensures read_limit { (S.seen shelf.new).given ≤ (S.seen shelf.old).given + (topology_limit + 1) }
     ensures read_pieces { AskedPieces (S.seen shelf.old).longest (S.seen shelf.new).longest }
-    ensures too_long { IfOk result (λ e. e ≡ End.TooLong → Gave (S.seen shelf.old).given (topology_limit + 1)
+    ensures files_too_long { IfOk result (λ e. e ≡ End.TooLong → Gave (S.seen shelf.old).given (topology_limit + 1)
         (S.seen shelf.new).given) }
-    ensures whole { IfOk result (λ e. e ≡ End.Done → (S.seen shelf.new).given
+    ensures whole_files { IfOk result (λ e. e ≡ End.Done → (S.seen shelf.new).given
         ≤ (S.seen shelf.old).given + topology_limit) }
 {
     match read_front(alloc, shelf, topology, TOPOLOGY_LIMIT + 1) {

@@ -20,8 +20,8 @@ kept_on : (s : Bool) (ts : List Touch) (sh : Shape) (set : Bool) (j : ℕ) → I
     → draw_of_keyed (key_in (keys s ts) set) ≡ Some j → j < draws_started ts → on_in (key_in (keys s ts) set) ≡ Some j
 kept_on s ts sh set j is kept lt = grind arith
 
-pub never_again : (plan : KeyPlan) (h : History) → KeyCauseLaw plan h → NeverAgain h
-never_again plan h cause = record {
+pub ended_keys_stay_out : (plan : KeyPlan) (h : History) → KeyCauseLaw plan h → NeverAgain h
+ended_keys_stay_out plan h cause = record {
   gone = stays_gone plan h cause;
   on = λ p set j kept came. let at = fits plan h cause p in kept_on p.sends (moments h p) at.shape set j at.is kept
       (went_below (moments h p) j came);

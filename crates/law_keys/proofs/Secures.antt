@@ -96,6 +96,6 @@ stays_at_pair : (plan : KeyPlan) (h : History) (e : Event) (x : Verdict) → Key
 stays_at_pair plan h (event.Refresh line stream loss) x cause = refresh_stays plan h line stream loss x cause
 stays_at_pair plan h _ x cause = tt
 
-pub stays_secure : (plan : KeyPlan) (h : History) → KeyCauseLaw plan h → StaysSecure h
-stays_secure plan [] cause = tt
-stays_secure plan ((e, x) ∷ h) cause = (stays_at_pair plan h e x cause, stays_secure plan h cause.2)
+pub stream_stays_secure : (plan : KeyPlan) (h : History) → KeyCauseLaw plan h → StaysSecure h
+stream_stays_secure plan [] cause = tt
+stream_stays_secure plan ((e, x) ∷ h) cause = (stays_at_pair plan h e x cause, stream_stays_secure plan h cause.2)

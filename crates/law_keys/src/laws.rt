@@ -12,7 +12,7 @@ pub fn set_go_finds_key()
 
 /// A draw that was On at a place and then kept in neither of its sets is never kept there again, and a draw whose GO
 /// came there is kept only while it is On.
-pub fn never_again()
+pub fn ended_keys_stay_out()
     ensures { (plan : KeyPlan) (h : History) → KeyCauseLaw plan h → NeverAgain h }
 {}
 
@@ -29,6 +29,6 @@ pub fn operations_settle()
 {}
 
 /// No move of a refresh takes a port out of Secure.
-pub fn stays_secure()
+pub fn stream_stays_secure()
     ensures { (plan : KeyPlan) (h : History) → KeyCauseLaw plan h → StaysSecure h }
 {}

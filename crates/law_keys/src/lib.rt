@@ -4,5 +4,6 @@
 mod laws;
 
 pub use laws::{
-    keys_follow_operations, never_again, operations_settle, set_go_finds_key, stays_secure,
+    ended_keys_stay_out, keys_follow_operations, operations_settle, set_go_finds_key,
+    stream_stays_secure,
 };

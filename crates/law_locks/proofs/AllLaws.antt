@@ -26,16 +26,16 @@ pub lock_law : LockLawHolds
 lock_law plan h cause = at_each plan (AreSecure plan)
     (λ g c i x at. record { own = locked_secure plan g c x; bound = bound_secure plan g c x }) h cause
 
-pub attested : AttestedHolds
-attested plan h cause = at_each plan (IsAttested plan)
+pub reports_are_shown : AttestedHolds
+reports_are_shown plan h cause = at_each plan (IsAttested plan)
     (λ g c i x at runs. (reported plan g (interface_cause plan g c) x (own_number plan i x at)).runs runs) h cause
 
 pub views_are_true : ViewsAreTrueHolds
 views_are_true plan h cause = at_each plan (HasTrueViews plan)
     (λ g c i x at. true_views plan g (interface_cause plan g c) x (own_number plan i x at)) h cause
 
-pub scrubbed : ScrubbedHolds
-scrubbed plan h cause = at_pairs (Scrubs plan) (scrubs plan) h
+pub unlocked_is_scrubbed : ScrubbedHolds
+unlocked_is_scrubbed plan h cause = at_pairs (Scrubs plan) (scrubs plan) h
 
 pub one_lock_per_key : OneLockPerKeyHolds
 one_lock_per_key plan h cause = one_lock plan h cause

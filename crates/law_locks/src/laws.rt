@@ -12,7 +12,7 @@ pub fn lock_law()
 
 /// An interface in RUN was reported since its lock: an earlier verdict under the same lock shows the report of exactly
 /// the registers that are locked.
-pub fn attested()
+pub fn reports_are_shown()
     ensures { AttestedHolds }
 {}
 
@@ -23,7 +23,7 @@ pub fn views_are_true()
 {}
 
 /// Whatever takes an interface back to CONFIG_UNLOCKED leaves each byte of its ranges without attribute bit 2 at 0.
-pub fn scrubbed()
+pub fn unlocked_is_scrubbed()
     ensures { ScrubbedHolds }
 {}
 

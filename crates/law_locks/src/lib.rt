@@ -4,4 +4,7 @@
 
 mod laws;
 
-pub use laws::{answers_law, attested, lock_law, one_lock_per_key, scrubbed, views_are_true};
+pub use laws::{
+    answers_law, lock_law, one_lock_per_key, reports_are_shown, unlocked_is_scrubbed,
+    views_are_true,
+};

@@ -4,5 +4,8 @@
 
 mod laws;
 
-pub use law_locks::{answers_law, attested, lock_law, one_lock_per_key, scrubbed, views_are_true};
+pub use law_locks::{
+    answers_law, lock_law, one_lock_per_key, reports_are_shown, unlocked_is_scrubbed,
+    views_are_true,
+};
 pub use laws::{answer_law, effect_law, failed_law, named_law, trust_law};

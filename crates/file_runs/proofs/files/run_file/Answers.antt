@@ -11,8 +11,8 @@ use Rattle.file_runs.proofs.FileNames.{asks_more, asks_none}
 use Rattle.file_runs.proofs.WholeFiles.{out_of_memory}
 use Rattle.file_runs.proofs.files.run_file.Goals as goal
 
-pub returns-in_default-clause-answers : goal.returns-in_default-clause-answers
-returns-in_default-clause-answers g c = λ past was.
+pub returns-in_default-clause-due_outcome : goal.returns-in_default-clause-due_outcome
+returns-in_default-clause-due_outcome g c = λ past was.
     out_of_memory (g.S.Shelf.seen c.args.shelf.now).contents
     (λ contents. option_map (file_due g.W.LineWork.advance g.W.LineWork.closing past)
     (contents c.args.name.now)) _ _ _ _
@@ -38,8 +38,8 @@ loop-n-init g c = record {
   };
 }
 
-pub returns-in_default-read_piece-clause-answers : goal.returns-in_default-read_piece-clause-answers
-returns-in_default-read_piece-clause-answers g c = λ past was.
+pub returns-in_default-read_piece-clause-due_outcome : goal.returns-in_default-read_piece-clause-due_outcome
+returns-in_default-read_piece-clause-due_outcome g c = λ past was.
     let inv = c.loop-n.invariant in
     let by = inv.so_far past was in
     let f = by.so_far in
@@ -49,13 +49,13 @@ returns-in_default-read_piece-clause-answers g c = λ past was.
     (g.O.Sink.seen c.args.out.now) (g.O.Sink.seen c.loop-n.out) c.in_default-read_piece.field-0 f inv.most
     (omega arith) (rw (inv.same, inv.faults) at c.in_default-read_piece.ensures.cause)
 
-pub returns-in_default-clause-so_far : goal.returns-in_default-clause-so_far
-returns-in_default-clause-so_far g c = λ past was.
+pub returns-in_default-clause-output_so_far : goal.returns-in_default-clause-output_so_far
+returns-in_default-clause-output_so_far g c = λ past was.
     nothing_wrote g.W.LineWork.advance g.W.LineWork.closing past
     c.args.name.now (g.S.Shelf.seen c.args.shelf.now) (g.O.Sink.seen c.args.out.now)
 
-pub returns-in_default-read_piece-clause-so_far : goal.returns-in_default-read_piece-clause-so_far
-returns-in_default-read_piece-clause-so_far g c = λ past was.
+pub returns-in_default-read_piece-clause-output_so_far : goal.returns-in_default-read_piece-clause-output_so_far
+returns-in_default-read_piece-clause-output_so_far g c = λ past was.
     let inv = c.loop-n.invariant in
     let by = inv.so_far past was in
     let f = by.so_far in
@@ -67,8 +67,8 @@ returns-in_default-read_piece-clause-so_far g c = λ past was.
     (nothing_more (g.S.Shelf.seen c.args.shelf.now).contents c.args.name.now f.front f.is_read)
     (omega arith) (omega arith) (omega (arith, inv.given, same), omega (arith, inv.cap, same)) (λ text was. was)
 
-pub returns-then-n-eq0-clause-so_far : goal.returns-then-n-eq0-clause-so_far
-returns-then-n-eq0-clause-so_far g c = λ past was.
+pub returns-then-n-eq0-clause-output_so_far : goal.returns-then-n-eq0-clause-output_so_far
+returns-then-n-eq0-clause-output_so_far g c = λ past was.
     let inv = c.loop-n.invariant in
     let by = inv.so_far past was in
     let f = by.so_far in
@@ -82,8 +82,8 @@ returns-then-n-eq0-clause-so_far g c = λ past was.
     (omega (arith, inv.given, counted, c.if-n-eq0.true), omega (arith, inv.cap, counted, c.if-n-eq0.true))
     (c.run_last.ensures.ran by.past by.followed)
 
-pub returns-then-n-eq0-clause-answers : goal.returns-then-n-eq0-clause-answers
-returns-then-n-eq0-clause-answers g c = λ past was.
+pub returns-then-n-eq0-clause-due_outcome : goal.returns-then-n-eq0-clause-due_outcome
+returns-then-n-eq0-clause-due_outcome g c = λ past was.
     let inv = c.loop-n.invariant in
     let by = inv.so_far past was in
     let f = by.so_far in
@@ -98,8 +98,8 @@ returns-then-n-eq0-clause-answers g c = λ past was.
     (c.in-Ok-read_piece.ensures.cause ∙ inv.faults)
     (rw c.deref.ensures.value at (c.run_last.ensures.ran by.past by.followed))
 
-pub returns-then-at-eq-FILE_LIMIT-clause-answers : goal.returns-then-at-eq-FILE_LIMIT-clause-answers
-returns-then-at-eq-FILE_LIMIT-clause-answers g c = λ past was.
+pub returns-then-at-eq-FILE_LIMIT-clause-due_outcome : goal.returns-then-at-eq-FILE_LIMIT-clause-due_outcome
+returns-then-at-eq-FILE_LIMIT-clause-due_outcome g c = λ past was.
     let inv = c.loop-n.invariant in
     let by = inv.so_far past was in
     let f = by.so_far in
@@ -114,8 +114,8 @@ returns-then-at-eq-FILE_LIMIT-clause-answers g c = λ past was.
     c.in-Ok-read_piece.ensures.bound reads)
     (c.in-Ok-read_piece.ensures.cause ∙ inv.faults) c.run_limit.ensures.ran
 
-pub returns-then-at-eq-FILE_LIMIT-clause-so_far : goal.returns-then-at-eq-FILE_LIMIT-clause-so_far
-returns-then-at-eq-FILE_LIMIT-clause-so_far g c = λ past was.
+pub returns-then-at-eq-FILE_LIMIT-clause-output_so_far : goal.returns-then-at-eq-FILE_LIMIT-clause-output_so_far
+returns-then-at-eq-FILE_LIMIT-clause-output_so_far g c = λ past was.
     let inv = c.loop-n.invariant in
     let by = inv.so_far past was in
     let f = by.so_far in
@@ -132,8 +132,8 @@ returns-then-at-eq-FILE_LIMIT-clause-so_far g c = λ past was.
     (omega (arith, size, c.in-Ok-read_piece.ensures.latest))
     (omega (arith, inv.given, counted, size), omega (arith, inv.cap, counted, size)) c.run_limit.ensures.ran
 
-pub returns-in-Err-clause-answers : goal.returns-in-Err-clause-answers
-returns-in-Err-clause-answers g c = λ past was.
+pub returns-in-Err-clause-due_outcome : goal.returns-in-Err-clause-due_outcome
+returns-in-Err-clause-due_outcome g c = λ past was.
     let inv = c.loop-n.invariant in
     let by = inv.so_far past was in
     let f = by.so_far in
@@ -150,8 +150,8 @@ returns-in-Err-clause-answers g c = λ past was.
     (omega (arith, size, c.in-Ok-read_piece.ensures.counts)) (c.in-Ok-read_piece.ensures.cause ∙ inv.faults)
     (c.in-Err.ensures.ran by.past by.followed)
 
-pub returns-in-Err-clause-so_far : goal.returns-in-Err-clause-so_far
-returns-in-Err-clause-so_far g c = λ past was.
+pub returns-in-Err-clause-output_so_far : goal.returns-in-Err-clause-output_so_far
+returns-in-Err-clause-output_so_far g c = λ past was.
     let inv = c.loop-n.invariant in
     let by = inv.so_far past was in
     let f = by.so_far in
@@ -172,8 +172,8 @@ returns-in-Err-clause-so_far g c = λ past was.
     (omega (arith, inv.given, counted, size), omega (arith, inv.cap, counted, size))
     (c.in-Err.ensures.ran by.past by.followed true [])
 
-pub returns-in-Ok-Some-clause-answers : goal.returns-in-Ok-Some-clause-answers
-returns-in-Ok-Some-clause-answers g c = λ past was.
+pub returns-in-Ok-Some-clause-due_outcome : goal.returns-in-Ok-Some-clause-due_outcome
+returns-in-Ok-Some-clause-due_outcome g c = λ past was.
     let inv = c.loop-n.invariant in
     let by = inv.so_far past was in
     let f = by.so_far in
@@ -204,7 +204,7 @@ loop-n-preserved g c =
       faults = c.in-Ok-read_piece.ensures.cause ∙ inv.faults;
       given = omega (arith, inv.given, c.in-Ok-read_piece.ensures.counted);
       cap = omega (arith, inv.cap, c.in-Ok-read_piece.ensures.counted);
-      names = asks_more (λ other. other ≡ c.args.name.now) _ _ _ inv.names c.in-Ok-read_piece.ensures.names;
+      names = asks_more (λ other. other ≡ c.args.name.now) _ _ _ inv.names c.in-Ok-read_piece.ensures.file_names;
       pieces = omega (arith, inv.pieces, c.in-Ok-read_piece.ensures.read_pieces);
       most = omega (arith, c.in-Ok-read_piece.ensures.counts);
       numbered = omega (arith, number, size, inv.numbered);
@@ -226,8 +226,8 @@ loop-n-preserved g c =
           };
     }
 
-pub returns-then-n-eq0-clause-no_further : goal.returns-then-n-eq0-clause-no_further
-returns-then-n-eq0-clause-no_further g c = λ past was.
+pub returns-then-n-eq0-clause-reads_no_further : goal.returns-then-n-eq0-clause-reads_no_further
+returns-then-n-eq0-clause-reads_no_further g c = λ past was.
     let inv = c.loop-n.invariant in
     let by = inv.so_far past was in
     let f = by.so_far in
@@ -240,8 +240,8 @@ returns-then-n-eq0-clause-no_further g c = λ past was.
     (omega arith) (omega (arith, c.if-n-eq0.true, c.in-Ok-read_piece.ensures.latest))
     (omega (arith, inv.given, counted, c.if-n-eq0.true), omega (arith, inv.cap, counted, c.if-n-eq0.true))
 
-pub returns-then-at-eq-FILE_LIMIT-clause-no_further : goal.returns-then-at-eq-FILE_LIMIT-clause-no_further
-returns-then-at-eq-FILE_LIMIT-clause-no_further g c = λ past was.
+pub returns-then-at-eq-FILE_LIMIT-clause-reads_no_further : goal.returns-then-at-eq-FILE_LIMIT-clause-reads_no_further
+returns-then-at-eq-FILE_LIMIT-clause-reads_no_further g c = λ past was.
     let inv = c.loop-n.invariant in
     let by = inv.so_far past was in
     let f = by.so_far in
@@ -258,8 +258,8 @@ returns-then-at-eq-FILE_LIMIT-clause-no_further g c = λ past was.
     (omega (arith, size, c.in-Ok-read_piece.ensures.latest))
     (omega (arith, inv.given, counted, size), omega (arith, inv.cap, counted, size))
 
-pub returns-in-Ok-Some-clause-no_further : goal.returns-in-Ok-Some-clause-no_further
-returns-in-Ok-Some-clause-no_further g c = λ past was.
+pub returns-in-Ok-Some-clause-reads_no_further : goal.returns-in-Ok-Some-clause-reads_no_further
+returns-in-Ok-Some-clause-reads_no_further g c = λ past was.
     let inv = c.loop-n.invariant in
     let by = inv.so_far past was in
     let f = by.so_far in
@@ -276,26 +276,27 @@ returns-in-Ok-Some-clause-no_further g c = λ past was.
     (omega (arith, size, c.in-Ok-read_piece.ensures.latest))
     (omega (arith, inv.given, counted, size), omega (arith, inv.cap, counted, size))
 
-pub returns-in_default-clause-names : goal.returns-in_default-clause-names
-returns-in_default-clause-names g c = asks_none (λ other. other ≡ c.args.name.now)
+pub returns-in_default-clause-file_names : goal.returns-in_default-clause-file_names
+returns-in_default-clause-file_names g c = asks_none (λ other. other ≡ c.args.name.now)
     (g.S.Shelf.seen c.args.shelf.now).asked
 
-pub returns-in_default-read_piece-clause-names : goal.returns-in_default-read_piece-clause-names
-returns-in_default-read_piece-clause-names g c =
-    asks_more (λ other. other ≡ c.args.name.now) _ _ _ c.loop-n.invariant.names c.in_default-read_piece.ensures.names
+pub returns-in_default-read_piece-clause-file_names : goal.returns-in_default-read_piece-clause-file_names
+returns-in_default-read_piece-clause-file_names g c =
+    asks_more (λ other. other ≡ c.args.name.now) _ _ _ c.loop-n.invariant.names
+    c.in_default-read_piece.ensures.file_names
 
-pub returns-then-n-eq0-clause-names : goal.returns-then-n-eq0-clause-names
-returns-then-n-eq0-clause-names g c =
-    asks_more (λ other. other ≡ c.args.name.now) _ _ _ c.loop-n.invariant.names c.in-Ok-read_piece.ensures.names
+pub returns-then-n-eq0-clause-file_names : goal.returns-then-n-eq0-clause-file_names
+returns-then-n-eq0-clause-file_names g c =
+    asks_more (λ other. other ≡ c.args.name.now) _ _ _ c.loop-n.invariant.names c.in-Ok-read_piece.ensures.file_names
 
-pub returns-then-at-eq-FILE_LIMIT-clause-names : goal.returns-then-at-eq-FILE_LIMIT-clause-names
-returns-then-at-eq-FILE_LIMIT-clause-names g c =
-    asks_more (λ other. other ≡ c.args.name.now) _ _ _ c.loop-n.invariant.names c.in-Ok-read_piece.ensures.names
+pub returns-then-at-eq-FILE_LIMIT-clause-file_names : goal.returns-then-at-eq-FILE_LIMIT-clause-file_names
+returns-then-at-eq-FILE_LIMIT-clause-file_names g c =
+    asks_more (λ other. other ≡ c.args.name.now) _ _ _ c.loop-n.invariant.names c.in-Ok-read_piece.ensures.file_names
 
-pub returns-in-Err-clause-names : goal.returns-in-Err-clause-names
-returns-in-Err-clause-names g c =
-    asks_more (λ other. other ≡ c.args.name.now) _ _ _ c.loop-n.invariant.names c.in-Ok-read_piece.ensures.names
+pub returns-in-Err-clause-file_names : goal.returns-in-Err-clause-file_names
+returns-in-Err-clause-file_names g c =
+    asks_more (λ other. other ≡ c.args.name.now) _ _ _ c.loop-n.invariant.names c.in-Ok-read_piece.ensures.file_names
 
-pub returns-in-Ok-Some-clause-names : goal.returns-in-Ok-Some-clause-names
-returns-in-Ok-Some-clause-names g c =
-    asks_more (λ other. other ≡ c.args.name.now) _ _ _ c.loop-n.invariant.names c.in-Ok-read_piece.ensures.names
+pub returns-in-Ok-Some-clause-file_names : goal.returns-in-Ok-Some-clause-file_names
+returns-in-Ok-Some-clause-file_names g c =
+    asks_more (λ other. other ≡ c.args.name.now) _ _ _ c.loop-n.invariant.names c.in-Ok-read_piece.ensures.file_names

@@ -41,10 +41,10 @@ returns-clause-within g c =
     gave_of (g.S.Shelf.seen c.args.shelf.now).contents c.args.name.now c.loop-buf.bytes.items _ _ inv.read
     (inv.given, inv.cap)
 
-pub returns-in_err-n-clause-names : goal.returns-in_err-n-clause-names
-returns-in_err-n-clause-names g c =
-    asks_more (λ other. other ≡ c.args.name.now) _ _ _ c.loop-buf.invariant.names c.in_err-n.ensures.names
+pub returns-in_err-n-clause-file_names : goal.returns-in_err-n-clause-file_names
+returns-in_err-n-clause-file_names g c =
+    asks_more (λ other. other ≡ c.args.name.now) _ _ _ c.loop-buf.invariant.names c.in_err-n.ensures.file_names
 
-pub returns-then-n-eq0-clause-names : goal.returns-then-n-eq0-clause-names
-returns-then-n-eq0-clause-names g c =
-    asks_more (λ other. other ≡ c.args.name.now) _ _ _ c.loop-buf.invariant.names c.in_ok-n.ensures.names
+pub returns-then-n-eq0-clause-file_names : goal.returns-then-n-eq0-clause-file_names
+returns-then-n-eq0-clause-file_names g c =
+    asks_more (λ other. other ≡ c.args.name.now) _ _ _ c.loop-buf.invariant.names c.in_ok-n.ensures.file_names

@@ -11,24 +11,24 @@ use Rattle.file_runs.specs.Judging.{judgement_due}
 use Rattle.file_runs.proofs.JudgedFiles.{gave_few, gave_long, judged_front, some_wrote}
 use Rattle.file_runs.proofs.judge.judge_file.Goals as goal
 
-pub returns-in-Err-Fault-clause-answers : goal.returns-in-Err-Fault-clause-answers
-returns-in-Err-Fault-clause-answers g c =
+pub returns-in-Err-Fault-clause-due_outcome : goal.returns-in-Err-Fault-clause-due_outcome
+returns-in-Err-Fault-clause-due_outcome g c =
     stopped (g.S.Shelf.seen c.args.shelf.now).contents
     (λ contents. option_map (judgement_due c.args.due.now) (contents c.args.name.now)) c.args.name.now _ _ _ _ _
     unread.Fault
     (λ contents lacks. ap (option_map (judgement_due c.args.due.now)) lacks)
     (rw c.in-Err-Fault.field-0-is at c.in-Err-Fault.ensures.cause)
 
-pub returns-in-Err-Memory-clause-answers : goal.returns-in-Err-Memory-clause-answers
-returns-in-Err-Memory-clause-answers g c =
+pub returns-in-Err-Memory-clause-due_outcome : goal.returns-in-Err-Memory-clause-due_outcome
+returns-in-Err-Memory-clause-due_outcome g c =
     stopped (g.S.Shelf.seen c.args.shelf.now).contents
     (λ contents. option_map (judgement_due c.args.due.now) (contents c.args.name.now)) c.args.name.now _ _ _ _ _
     unread.Memory
     (λ contents lacks. ap (option_map (judgement_due c.args.due.now)) lacks)
     (rw c.in-Err-Memory.field-0-is at c.in-Err-Memory.ensures.cause)
 
-pub returns-in-Ok-clause-answers : goal.returns-in-Ok-clause-answers
-returns-in-Ok-clause-answers g c =
+pub returns-in-Ok-clause-due_outcome : goal.returns-in-Ok-clause-due_outcome
+returns-in-Ok-clause-due_outcome g c =
     let told = (g.S.Shelf.seen c.args.shelf.now).contents in
     let P : Text → Type 0 = λ t. Ran (judgement_due c.args.due.now t) (g.O.Sink.seen c.args.out.now)
     (g.O.Sink.seen c.judge_front.new.out) c.judge_front.result in
@@ -37,14 +37,15 @@ returns-in-Ok-clause-answers g c =
     (judged_front c.args.due.now told c.args.name.now c.in-Ok.front.items c.in-Ok.ensures.bytes) c.in-Ok.ensures.cause
     (subst P c.deref.ensures.value c.judge_front.ensures.ran)
 
-pub returns-in-Err-Fault-clause-so_far : goal.returns-in-Err-Fault-clause-so_far
-returns-in-Err-Fault-clause-so_far g c = gained_none fault.Read (g.O.Sink.seen c.args.out.now).held
+pub returns-in-Err-Fault-clause-output_so_far : goal.returns-in-Err-Fault-clause-output_so_far
+returns-in-Err-Fault-clause-output_so_far g c = gained_none fault.Read (g.O.Sink.seen c.args.out.now).held
 
-pub returns-in-Err-Memory-clause-so_far : goal.returns-in-Err-Memory-clause-so_far
-returns-in-Err-Memory-clause-so_far g c = gained_none fault.Memory (g.O.Sink.seen c.args.out.now).held
+pub returns-in-Err-Memory-clause-output_so_far : goal.returns-in-Err-Memory-clause-output_so_far
+returns-in-Err-Memory-clause-output_so_far g c = gained_none fault.Memory (g.O.Sink.seen c.args.out.now).held
 
-pub returns-in-Ok-clause-so_far : goal.returns-in-Ok-clause-so_far
-returns-in-Ok-clause-so_far g c = some_wrote _ (g.O.Sink.seen c.args.out.now) (g.O.Sink.seen c.judge_front.new.out)
+pub returns-in-Ok-clause-output_so_far : goal.returns-in-Ok-clause-output_so_far
+returns-in-Ok-clause-output_so_far g c = some_wrote _ (g.O.Sink.seen c.args.out.now)
+    (g.O.Sink.seen c.judge_front.new.out)
     c.judge_front.result c.judge_front.ensures.ran
 
 pub returns-in-Ok-clause-long : goal.returns-in-Ok-clause-long

@@ -16,66 +16,71 @@ abbrev call : (g : Over) → goal.After-status_of g → CallSeen
 call g c = run_seen g.S.Shelf.seen g.O.Sink.seen c.args.words.now c.args.shelf.now c.perform.new.shelf c.args.out.now
     c.perform.new.out c.status_of.result
 
-pub returns-clause-answers : goal.returns-clause-answers
-returns-clause-answers g c = rw c.status_of.ensures (rw c.as_slice-words.ensures.value at c.perform.ensures.answers)
+pub returns-clause-due_outcome : goal.returns-clause-due_outcome
+returns-clause-due_outcome g c = rw c.status_of.ensures
+    (rw c.as_slice-words.ensures.value at c.perform.ensures.due_outcome)
 
-pub returns-clause-generated : goal.returns-clause-generated
-returns-clause-generated g c = rw c.status_of.ensures (rw c.as_slice-words.ensures.value at c.perform.ensures.generated)
+pub returns-clause-generated_text : goal.returns-clause-generated_text
+returns-clause-generated_text g c = rw c.status_of.ensures
+    (rw c.as_slice-words.ensures.value at c.perform.ensures.generated_text)
 
 pub returns-clause-runs_generated : goal.returns-clause-runs_generated
-returns-clause-runs_generated g c = runs_generated (call g c) (returns-clause-answers g c)
+returns-clause-runs_generated g c = runs_generated (call g c) (returns-clause-due_outcome g c)
 
-pub returns-clause-so_far : goal.returns-clause-so_far
-returns-clause-so_far g c = rw c.status_of.ensures (rw c.as_slice-words.ensures.value at c.perform.ensures.so_far)
+pub returns-clause-output_so_far : goal.returns-clause-output_so_far
+returns-clause-output_so_far g c = rw c.status_of.ensures
+    (rw c.as_slice-words.ensures.value at c.perform.ensures.output_so_far)
 
-pub returns-clause-no_further : goal.returns-clause-no_further
-returns-clause-no_further g c =
-    rw c.status_of.ensures (rw c.as_slice-words.ensures.value at c.perform.ensures.no_further)
+pub returns-clause-reads_no_further : goal.returns-clause-reads_no_further
+returns-clause-reads_no_further g c =
+    rw c.status_of.ensures (rw c.as_slice-words.ensures.value at c.perform.ensures.reads_no_further)
 
-pub returns-clause-usage : goal.returns-clause-usage
-returns-clause-usage g c = λ same. ended end.Usage _ status.Usage c.perform.result _ refl c.status_of.ensures
-    (rw c.as_slice-words.ensures.value at c.perform.ensures.usage) same
+pub returns-clause-usage_status : goal.returns-clause-usage_status
+returns-clause-usage_status g c = λ same. ended end.Usage _ status.Usage c.perform.result _ refl c.status_of.ensures
+    (rw c.as_slice-words.ensures.value at c.perform.ensures.usage_status) same
 
-pub returns-clause-too_long : goal.returns-clause-too_long
-returns-clause-too_long g c = λ same. ended end.TooLong _ status.TooLong c.perform.result _ refl c.status_of.ensures
-    (rw c.as_slice-words.ensures.value at c.perform.ensures.too_long) same
+pub returns-clause-files_too_long : goal.returns-clause-files_too_long
+returns-clause-files_too_long g c = λ same. ended end.TooLong _ status.TooLong c.perform.result _ refl
+    c.status_of.ensures
+    (rw c.as_slice-words.ensures.value at c.perform.ensures.files_too_long) same
 
-pub returns-clause-whole : goal.returns-clause-whole
-returns-clause-whole g c = λ same. ended end.Done _ status.Done c.perform.result _ refl c.status_of.ensures
-    (rw c.as_slice-words.ensures.value at c.perform.ensures.whole) same
+pub returns-clause-whole_files : goal.returns-clause-whole_files
+returns-clause-whole_files g c = λ same. ended end.Done _ status.Done c.perform.result _ refl c.status_of.ensures
+    (rw c.as_slice-words.ensures.value at c.perform.ensures.whole_files) same
 
 pub returns-clause-all_written : goal.returns-clause-all_written
-returns-clause-all_written g c = all_written c.lines_tell.ensures.told (call g c) (returns-clause-answers g c)
+returns-clause-all_written g c = all_written c.lines_tell.ensures.told (call g c) (returns-clause-due_outcome g c)
 
 pub returns-clause-all_counted : goal.returns-clause-all_counted
-returns-clause-all_counted g c = all_counted (call g c) (returns-clause-generated g c)
+returns-clause-all_counted g c = all_counted (call g c) (returns-clause-generated_text g c)
 
-pub returns-clause-other : goal.returns-clause-other
-returns-clause-other g c = λ same. ended end.Differs _ status.Differs c.perform.result _ refl c.status_of.ensures
-    (rw c.as_slice-words.ensures.value at c.perform.ensures.other) same
+pub returns-clause-differing_text : goal.returns-clause-differing_text
+returns-clause-differing_text g c = λ same. ended end.Differs _ status.Differs c.perform.result _ refl
+    c.status_of.ensures
+    (rw c.as_slice-words.ensures.value at c.perform.ensures.differing_text) same
 
-pub returns-clause-absent : goal.returns-clause-absent
-returns-clause-absent g c = λ same. ended end.NoEvent _ status.NoEvent c.perform.result _ refl c.status_of.ensures
-    (rw c.as_slice-words.ensures.value at c.perform.ensures.absent) same
+pub returns-clause-absent_event : goal.returns-clause-absent_event
+returns-clause-absent_event g c = λ same. ended end.NoEvent _ status.NoEvent c.perform.result _ refl c.status_of.ensures
+    (rw c.as_slice-words.ensures.value at c.perform.ensures.absent_event) same
 
-pub returns-clause-explained : goal.returns-clause-explained
-returns-clause-explained g c = is_explained (call g c) (returns-clause-answers g c)
+pub returns-clause-explained_event : goal.returns-clause-explained_event
+returns-clause-explained_event g c = is_explained (call g c) (returns-clause-due_outcome g c)
 
 pub returns-clause-all_told : goal.returns-clause-all_told
 returns-clause-all_told g c = all_told (call g c)
 
-pub returns-clause-judged : goal.returns-clause-judged
-returns-clause-judged g c = is_judged (call g c) (returns-clause-answers g c)
+pub returns-clause-judged_text : goal.returns-clause-judged_text
+returns-clause-judged_text g c = is_judged (call g c) (returns-clause-due_outcome g c)
 
 pub returns-clause-all_judged : goal.returns-clause-all_judged
 returns-clause-all_judged g c = all_judged (call g c)
 
-pub returns-clause-names : goal.returns-clause-names
-returns-clause-names g c = rw c.as_slice-words.ensures.value at c.perform.ensures.names
+pub returns-clause-file_names : goal.returns-clause-file_names
+returns-clause-file_names g c = rw c.as_slice-words.ensures.value at c.perform.ensures.file_names
 
 -- what the laws suppose of each history that was written, and the laws
 is_due : (g : Over) (c : goal.After-status_of g) → InEvery IsDue (call g c)
-is_due g c = history_is_due c.lines_tell.ensures.tell (call g c) (returns-clause-answers g c)
+is_due g c = history_is_due c.lines_tell.ensures.tell (call g c) (returns-clause-due_outcome g c)
 
 laws : (g : Over) (c : goal.After-status_of g) → InEvery Laws (call g c)
 laws g c plan h w = c.laws_hold.ensures plan h (is_due g c plan h w)
@@ -98,8 +103,8 @@ returns-clause-count_law g c plan h w = (laws g c plan h w).count_law
 pub returns-clause-operations_settle : goal.returns-clause-operations_settle
 returns-clause-operations_settle g c plan h w = (laws g c plan h w).operations_settle
 
-pub returns-clause-stays_secure : goal.returns-clause-stays_secure
-returns-clause-stays_secure g c plan h w = (laws g c plan h w).stays_secure
+pub returns-clause-stream_stays_secure : goal.returns-clause-stream_stays_secure
+returns-clause-stream_stays_secure g c plan h w = (laws g c plan h w).stream_stays_secure
 
 pub returns-clause-keys_follow_operations : goal.returns-clause-keys_follow_operations
 returns-clause-keys_follow_operations g c plan h w = (laws g c plan h w).keys_follow_operations
@@ -107,8 +112,8 @@ returns-clause-keys_follow_operations g c plan h w = (laws g c plan h w).keys_fo
 pub returns-clause-set_go_finds_key : goal.returns-clause-set_go_finds_key
 returns-clause-set_go_finds_key g c plan h w = (laws g c plan h w).set_go_finds_key
 
-pub returns-clause-never_again : goal.returns-clause-never_again
-returns-clause-never_again g c plan h w = (laws g c plan h w).never_again
+pub returns-clause-ended_keys_stay_out : goal.returns-clause-ended_keys_stay_out
+returns-clause-ended_keys_stay_out g c plan h w = (laws g c plan h w).ended_keys_stay_out
 
 pub returns-clause-failed_law : goal.returns-clause-failed_law
 returns-clause-failed_law g c plan h w = (laws g c plan h w).failed_law
@@ -122,14 +127,14 @@ returns-clause-keystream_fresh g c plan h w = (laws g c plan h w).keystream_fres
 pub returns-clause-run_law : goal.returns-clause-run_law
 returns-clause-run_law g c plan h w = (laws g c plan h w).run_law
 
-pub returns-clause-attested : goal.returns-clause-attested
-returns-clause-attested g c plan h w = (laws g c plan h w).attested
+pub returns-clause-reports_are_shown : goal.returns-clause-reports_are_shown
+returns-clause-reports_are_shown g c plan h w = (laws g c plan h w).reports_are_shown
 
 pub returns-clause-lock_law : goal.returns-clause-lock_law
 returns-clause-lock_law g c plan h w = (laws g c plan h w).lock_law
 
-pub returns-clause-scrubbed : goal.returns-clause-scrubbed
-returns-clause-scrubbed g c plan h w = (laws g c plan h w).scrubbed
+pub returns-clause-unlocked_is_scrubbed : goal.returns-clause-unlocked_is_scrubbed
+returns-clause-unlocked_is_scrubbed g c plan h w = (laws g c plan h w).unlocked_is_scrubbed
 
 pub returns-clause-bind_law : goal.returns-clause-bind_law
 returns-clause-bind_law g c plan h w = (laws g c plan h w).bind_law
