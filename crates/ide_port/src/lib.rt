@@ -15,7 +15,7 @@ mod stream;
 mod trusting;
 
 pub use answer::{Arrival, Sent};
-pub use port::Port;
+pub use port::{Port, stream_id};
 pub use send_buffer::SendBuffer;
 pub use stream::{SEND_ROOM, Stream};
 pub use stream_lanes::{MeasuredPackets, SendRefusal};

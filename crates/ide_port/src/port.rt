@@ -4,7 +4,7 @@ ghost use Rattle.std.specs.Prelude.{◌≡◌, ◌<◌, ◌≤◌, ◌^◌, ℕ,
 ghost use Rattle.tlp_layout.specs.Head.{head_bytes};
 ghost use Rattle.tlp_layout.specs.Tlp.{header, body, viewed_tlp};
 ghost use Rattle.tlp_layout.specs.Reading.{read_of};
-ghost use Rattle.tlp_layout.specs.Choice.{plan_place};
+ghost use Rattle.tlp_layout.specs.Choice.{chosen_stream, choice_of_stream, plan_place};
 ghost use Rattle.ide_types.specs.Fits.{FitsStream};
 ghost use Rattle.ide_prefix.specs.Cut.{packet_of_view, IsView};
 ghost use Rattle.ide_port.specs.StreamEnds.{reset_end};
@@ -68,6 +68,16 @@ fn parts<'a>(bytes: &'a [u8], tlp: &TlpView) -> (&'a [u8], &'a [u8])
     bytes.split_at(tlp.head().size())
 }
 
+/// The ID of a stream that was chosen.
+pub fn stream_id(stream: Option<ChosenStream>) -> Option<u8>
+    ensures { result ≡ chosen_stream (choice_of_stream stream) }
+{
+    match stream {
+        None => None,
+        Some(stream) => Some(stream.id),
+    }
+}
+
 // What a stream said of a packet of a sub-stream.
 fn arrival(stream: u8, sub: SubKind, taken: Option<Taken>) -> Arrival
     ensures { result ≡ arrival_said stream sub taken }
@@ -105,6 +115,7 @@ fn reset_streams(streams: &mut Vec<Stream>)
 impl Port {
     ghost use Rattle.ide_port.specs.Ends.{new_port, found_stream, reset_port};
     ghost use Rattle.ide_prefix.specs.Reading.{cut_of};
+    ghost use Rattle.tlp_layout.specs.Outgoing.{outgoing_of, stream_taken};
     ghost use Rattle.ide_port.specs.Sends.{IsSendStep, IsSentAtPort, IsStreamTaken, stream_step};
     ghost use Rattle.ide_port.specs.Arrivals.{take_step, packet_step};
     ghost use Rattle.ide_port.specs.Units.{PortUnitsAtMost};
@@ -312,6 +323,13 @@ impl Port {
             None => None,
             Some(place) => self.streams[place].receiving_draw(sub),
         }
+    }
+
+    /// The ID of the stream that a TLP takes here, if the bytes are one and it takes one.
+    pub fn outgoing_stream(&self, tlp: &OutgoingTlp) -> Option<u8>
+        ensures { result ≡ stream_taken (outgoing_of self.now.plans self.now.name.side tlp.now) }
+    {
+        stream_id(self.choose(tlp))
     }
 
     /// Drops all keys, open units, held packets, counts and failures.

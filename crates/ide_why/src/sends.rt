@@ -68,10 +68,7 @@ impl Reader<'_> {
     {
         match self.links.links.ends.port(end) {
             None => None,
-            Some(port) => match port.choose(tlp) {
-                None => None,
-                Some(stream) => Some(stream.id),
-            },
+            Some(port) => port.outgoing_stream(tlp),
         }
     }
 

@@ -1,10 +1,17 @@
 -- What a reply comes to, by the reads that wait and the number of the reader.
-use Rattle.std.proofs.Common.{◌≡◌, ℕ, ◌∷◌, List, [], refl, ap, sym, ◌∙◌}
-use Rattle.std.specs.Prelude.{Some, None, Err, slice_get}
+use Rattle.std.proofs.Common.{◌≡◌, ℕ, ◌∷◌, List, [], refl, ap, sym, ◌∙◌, subst}
+use Rattle.std.specs.Prelude.{Some, None, Result, Ok, Err, slice_get, MatchResult}
 use Rattle.std.specs.Option.{option_map_or}
 use Rattle.std.proofs.lemmas.Option.{none-some, same_Some}
 use Rattle.event_verdicts.specs.declared.access.AccessVerdict.TheVariants as av
 use Rattle.event_verdicts.specs.declared.verdict.Verdict.TheVariants as v
+use Rattle.tlp_layout.specs.declared.fault.TlpFault.{TlpFault}
+use Rattle.tlp_layout.specs.declared.head.HeadView.{HeadView}
+use Rattle.tlp_layout.specs.declared.tlp.Tlp.{Tlp}
+use Rattle.tlp_layout.specs.Tlp.{header}
+use Rattle.tlp_layout.specs.Reading.{read_of, IsTlpWith}
+use Rattle.trusted_memory.specs.{MemReadView, completion, completion_head}
+unfoldable use Rattle.trusted_memory.specs.{completion_bytes}
 use Rattle.trusted_memory.specs.declared.queue.WaitingRead.{WaitingRead}
 use Rattle.all_links.specs.{LinkEnds}
 use Rattle.link_stores.specs.declared.link.LinkAccesses.{LinkAccesses}
@@ -40,3 +47,13 @@ module _ (s : WholeLinks) (link : ℕ) (l : LinkEnds) (a : LinkAccesses)
       by_reads (q ∷ rs) first =
           ap (λ (x : WaitingRead). reply_numbered s.links.keeper.interfaces l link s.links.trusted.contents x
           (reader_of s.links.keeper.interfaces link x.read.requester)) (same_Some r q first)
+
+-- ---- a completion that was made
+
+-- it is a TLP with the header that it was written with
+pub made_with : (byte : ℕ → ℕ) (read : MemReadView) (head : HeadView) (bytes : List ℕ)
+    → bytes ≡ completion_bytes byte read → head ≡ completion_head read
+    → read_of (completion_bytes byte read) ≡ Ok (completion byte read) → IsTlpWith head bytes
+made_with byte read head bytes made is reads =
+    subst (λ (r : Result Tlp TlpFault). MatchResult r (λ t. header t ≡ head) (λ _. ⊥)) (sym (ap read_of made ∙ reads))
+    (sym is)

@@ -10,10 +10,11 @@ ghost use Rattle.whole_links.specs.Besides.{draw_below};
 ghost use Rattle.all_links.specs.Accesses.{is_sending, reads_at};
 ghost use Rattle.all_links.specs.BesideAfter.{BesideStays};
 
-use crate::reply::{Reply, draw_below, judged, small_number, stream_id};
+use crate::reply::{Reply, draw_below, judged, small_number};
 use crate::verdicts::{dropped, empty, takes_read};
 use crate::whole::WholeLinks;
 use event_verdicts::{AccessVerdict, BlockCause, Verdict};
+use ide_port::stream_id;
 use ide_types::{Binding, Bytes, InterfaceVerdict, OutOfMemory, SubKind, ValidPlan};
 use script_events::{AccessEvent, Event};
 use std::alloc::Global;

@@ -1,7 +1,6 @@
 //! What an answer to the oldest read of a link comes to beside the ports.
 
 ghost use Rattle.std.specs.Prelude.{◌≡◌, Some};
-ghost use Rattle.tlp_layout.specs.Choice.{choice_of_stream, chosen_stream};
 ghost use Rattle.whole_links.specs.Besides.{draw_below, judged_bound, small_number};
 
 use crate::verdicts::dropped;
@@ -18,16 +17,6 @@ pub struct Reply {
     pub stream: Option<ChosenStream>,
     /// The header that it was written with.
     pub head: HeadView,
-}
-
-/// The ID of a stream that was chosen.
-pub fn stream_id(stream: Option<ChosenStream>) -> Option<u8>
-    ensures { result ≡ chosen_stream (choice_of_stream stream) }
-{
-    match stream {
-        None => None,
-        Some(stream) => Some(stream.id),
-    }
 }
 
 /// The binding of an interface, if a completion for it takes that stream, and if its read came under a draw from the
