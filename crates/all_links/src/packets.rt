@@ -1,6 +1,7 @@
 //! What is sent on all lines, and the packets that this sealed.
 
-ghost use Rattle.std.specs.Prelude.{◌≡◌, ◌+◌, ◌<◌, ◌≤◌, ◌^◌, ◌++◌, true, IfOk, OnOk, IsSome, List, length, sum_by};
+ghost use Rattle.std.specs.Prelude.{◌≡◌, ◌+◌, ◌<◌, ◌≤◌, ◌^◌, ◌++◌, true, false, IfOk, OnOk, IsSome, List};
+ghost use Rattle.std.specs.Prelude.{length, sum_by};
 ghost use Rattle.ide_types.specs.Ports.{host_port};
 ghost use Rattle.ide_port.specs.Sends.{lengths_sent};
 ghost use Rattle.ide_port.specs.declared.answer.Sent.TheVariants.{Sealed};

@@ -1,4 +1,5 @@
-use Rattle.all_links.proofs.Terms.{sym, subst, Send, beside_in, links_state}
+use Rattle.all_links.proofs.Terms.{ℕ, List, sym, subst, Send, beside_in, links_state}
+use Rattle.spec_links.specs.Ports.{sealing_end}
 use Rattle.all_links.specs.Links.{EndsSendingOr}
 use Rattle.ide_types.specs.declared.port.PortName.{PortName}
 use Rattle.all_links.proofs.Finds.{nothing_changes}
@@ -17,5 +18,7 @@ pub returns-clause-ends : goal.returns-clause-ends
 returns-clause-ends c =
     sends_or c.args.plan.now c.send_at.result c.args.self.now c.send_at.new.self c.args.port c.args.bytes.now
     c.args.more c.args.trusted (sym c.if-not-may_send.ensures)
+    (subst (λ (bytes : List ℕ). EndsSendingOr c.args.plan.now c.send_at.result c.args.self.now c.send_at.new.self
+    (sealing_end c.args.plan.now c.args.port bytes) bytes c.args.more c.args.trusted) c.of-tlp.ensures
     (subst (λ (end : PortName). EndsSendingOr c.args.plan.now c.send_at.result c.args.self.now c.send_at.new.self end
-    c.args.bytes.now c.args.more c.args.trusted) c.sealing_end-end.ensures c.send_at.ensures.ends)
+    c.of-tlp.result c.args.more c.args.trusted) c.sealing_end-end.ensures c.send_at.ensures.ends))

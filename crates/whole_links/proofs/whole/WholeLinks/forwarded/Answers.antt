@@ -39,5 +39,5 @@ returns-in-Some-clause-ends c =
     (subst (λ (e : PortName). EndsSendingOr c.args.plan.now c.send_at.result old.links c.send_at.new.self e x.bytes
     false x.t) c.leaving_end-end.ensures
     (subst (λ (bs : List ℕ). EndsSendingOr c.args.plan.now c.send_at.result old.links c.send_at.new.self
-    c.leaving_end-end.result bs false x.t) c.as_slice.ensures c.send_at.ensures.ends))
+    c.leaving_end-end.result bs false x.t) (c.of-sent.ensures ∙ c.as_slice.ensures) c.send_at.ensures.ends))
     refl c.requires.bounded
