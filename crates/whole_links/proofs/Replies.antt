@@ -1,21 +1,26 @@
 -- What a reply comes to, by the reads that wait and the number of the reader.
 use Rattle.std.proofs.Common.{◌≡◌, ℕ, ◌∷◌, List, [], refl, ap, sym, ◌∙◌, subst}
-use Rattle.std.specs.Prelude.{Some, None, Result, Ok, Err, slice_get, MatchResult}
+use Rattle.std.specs.Prelude.{Option, Some, None, Result, Ok, Err, slice_get, MatchResult, IfOk, ◌×◌}
 use Rattle.std.specs.Option.{option_map_or}
 use Rattle.std.proofs.lemmas.Option.{none-some, same_Some}
 use Rattle.event_verdicts.specs.declared.access.AccessVerdict.TheVariants as av
 use Rattle.event_verdicts.specs.declared.verdict.Verdict.TheVariants as v
+use Rattle.tlp_layout.specs.declared.choice.ChosenStream.{ChosenStream}
 use Rattle.tlp_layout.specs.declared.fault.TlpFault.{TlpFault}
 use Rattle.tlp_layout.specs.declared.head.HeadView.{HeadView}
 use Rattle.tlp_layout.specs.declared.tlp.Tlp.{Tlp}
 use Rattle.tlp_layout.specs.Tlp.{header}
 use Rattle.tlp_layout.specs.Reading.{read_of, IsTlpWith}
-use Rattle.trusted_memory.specs.{MemReadView, completion, completion_head}
+use Rattle.trusted_memory.specs.declared.read.MemReadView.{MemReadView}
+use Rattle.trusted_memory.specs.{completion, completion_head}
 unfoldable use Rattle.trusted_memory.specs.{completion_bytes}
 use Rattle.trusted_memory.specs.declared.queue.WaitingRead.{WaitingRead}
-use Rattle.all_links.specs.{LinkEnds}
+use Rattle.event_verdicts.specs.declared.verdict.Verdict.{Verdict}
+use Rattle.all_links.specs.{LinkEnds, EndsView, IsTakenAtHost}
 use Rattle.link_stores.specs.declared.link.LinkAccesses.{LinkAccesses}
 use Rattle.whole_links.specs.declared.whole.WholeLinks.{WholeLinks}
+use Rattle.whole_links.specs.declared.reply.Reply.{Reply}
+use Rattle.whole_links.specs.Besides.{IsReplyMade}
 use Rattle.whole_links.specs.Besides.{reply_at_ends, reply_oldest, reply_numbered, reader_of, link_reply}
 
 module _ (s : WholeLinks) (link : ℕ) (l : LinkEnds) (a : LinkAccesses)
@@ -57,3 +62,13 @@ pub made_with : (byte : ℕ → ℕ) (read : MemReadView) (head : HeadView) (byt
 made_with byte read head bytes made is reads =
     subst (λ (r : Result Tlp TlpFault). MatchResult r (λ t. header t ≡ head) (λ _. ⊥)) (sym (ap read_of made ∙ reads))
     (sym is)
+
+-- a reply that is judged goes by it
+pub reply_made : (ends : EndsView) (link : ℕ) (bytes : List ℕ) (stream : Option ChosenStream) (head : HeadView)
+    (r : Result Reply Verdict) → IfOk r (λ x. (x.stream ≡ stream) × (x.head ≡ head)) → IsTlpWith head bytes
+    → IsTakenAtHost ends link bytes stream → IfOk r (λ x. IsReplyMade ends link x bytes)
+reply_made ends link bytes stream head (Ok x) same at taken = record {
+  head = subst (λ (h : HeadView). IsTlpWith h bytes) (sym same.1) at;
+  stream = subst (λ (s : Option ChosenStream). IsTakenAtHost ends link bytes s) (sym same.0) taken;
+}
+reply_made ends link bytes stream head (Err verdict) same at taken = tt

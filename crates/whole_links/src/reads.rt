@@ -14,7 +14,6 @@ use crate::reply::{Reply, draw_below, judged, small_number};
 use crate::verdicts::{dropped, empty, takes_read};
 use crate::whole::WholeLinks;
 use event_verdicts::{AccessVerdict, BlockCause, Verdict};
-use ide_port::stream_id;
 use ide_types::{Binding, Bytes, InterfaceVerdict, OutOfMemory, SubKind, ValidPlan};
 use script_events::{AccessEvent, Event};
 use std::alloc::Global;
@@ -60,12 +59,7 @@ impl WholeLinks {
                 let head = complete(&self.links.trusted, &waiting.read, bytes);
                 let tlp = OutgoingTlp::written(bytes.as_slice(), head);
                 let stream = self.links.ends.link(link).host.choose(&tlp);
-                let binding = judged(stream_id(stream), interface, waiting.draw, bound)?;
-                Ok(Reply {
-                    binding,
-                    stream,
-                    head,
-                })
+                judged(stream, head, interface, waiting.draw, bound)
             }
         }
     }

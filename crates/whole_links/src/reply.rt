@@ -1,10 +1,12 @@
 //! What an answer to the oldest read of a link comes to beside the ports.
 
-ghost use Rattle.std.specs.Prelude.{◌≡◌, Some};
-ghost use Rattle.whole_links.specs.Besides.{draw_below, judged_bound, small_number};
+ghost use Rattle.std.specs.Prelude.{◌≡◌, ◌×◌, Some, IfOk};
+ghost use Rattle.tlp_layout.specs.Choice.{choice_of_stream, chosen_stream};
+ghost use Rattle.whole_links.specs.Besides.{draw_below, judged_bound, reply_binding, small_number};
 
 use crate::verdicts::dropped;
 use event_verdicts::{Verdict, binding_cause};
+use ide_port::stream_id;
 use ide_types::Binding;
 use tlp_layout::{ChosenStream, HeadView};
 
@@ -19,19 +21,27 @@ pub struct Reply {
     pub head: HeadView,
 }
 
-/// The binding of an interface, if a completion for it takes that stream, and if its read came under a draw from the
-/// floor on; else the verdict that drops the read. `taken` is the stream that the completion takes.
+/// The reply to a read of an interface that is bound so, if its completion, which was written with this header and takes
+/// this stream, takes the bound one, and if its read came under a draw from the floor on; else the verdict that drops
+/// the read.
 pub fn judged(
-    taken: Option<u8>,
+    stream: Option<ChosenStream>,
+    head: HeadView,
     interface: u8,
     draw: u32,
-    bound: Binding,
-) -> Result<Binding, Verdict>
-    ensures { result ≡ judged_bound taken interface draw (Some bound) }
+    binding: Binding,
+) -> Result<Reply, Verdict>
+    ensures binding { reply_binding result
+        ≡ judged_bound (chosen_stream (choice_of_stream stream)) interface draw (Some binding) }
+    ensures reply { IfOk result (λ r. (r.stream ≡ stream) × (r.head ≡ head)) }
 {
-    match binding_cause(bound, taken, draw) {
+    match binding_cause(binding, stream_id(stream), draw) {
         Some(cause) => Err(dropped(interface, cause)),
-        None => Ok(bound),
+        None => Ok(Reply {
+            binding,
+            stream,
+            head,
+        }),
     }
 }
 
