@@ -1,6 +1,6 @@
 -- What a reply comes to, by the reads that wait and the number of the reader.
 use Rattle.std.proofs.Common.{◌≡◌, ℕ, ◌∷◌, List, [], refl, ap, sym, ◌∙◌, subst}
-use Rattle.std.specs.Prelude.{Option, Some, None, Result, Ok, Err, slice_get, MatchResult, IfOk, ◌×◌}
+use Rattle.std.specs.Prelude.{Option, Some, None, Result, Ok, Err, slice_get, MatchResult, IfOk}
 use Rattle.std.specs.Option.{option_map_or}
 use Rattle.std.proofs.lemmas.Option.{none-some, same_Some}
 use Rattle.event_verdicts.specs.declared.access.AccessVerdict.TheVariants as av

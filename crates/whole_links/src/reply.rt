@@ -1,6 +1,6 @@
 //! What an answer to the oldest read of a link comes to beside the ports.
 
-ghost use Rattle.std.specs.Prelude.{◌≡◌, ◌×◌, Some, IfOk};
+ghost use Rattle.std.specs.Prelude.{◌≡◌, Some, IfOk};
 ghost use Rattle.tlp_layout.specs.Choice.{choice_of_stream, chosen_stream};
 ghost use Rattle.whole_links.specs.Besides.{draw_below, judged_bound, reply_binding, small_number};
 
