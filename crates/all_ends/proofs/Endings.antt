@@ -112,8 +112,7 @@ kept_part start e old more low high =
 pub kept_and_cut : (start : ℕ) (ports : List PortName) (ends : List ℕ) (port : PortName) (ps : List MeasuredPacket)
     (old more : List ℕ) → EndThere start ports ends (length old)
     → packets_ending start (ports ++ ports_of port ps) (ends ++ packet_ends_from (length old) (lengths_of ps))
-    (old ++ more)
-    ≡ packets_ending start ports ends old ++ cut_packets port (lengths_of ps) more
+    (old ++ more) ≡ packets_ending start ports ends old ++ cut_packets port (lengths_of ps) more
 kept_and_cut start [] [] port ps old more is =
     ap (λ (s : ℕ). packets_ending s (ports_of port ps) (packet_ends_from (length old) (lengths_of ps)) (old ++ more)) is
     ∙ cuts_from port ps (length old) (old ++ more)

@@ -8,9 +8,8 @@ use Rattle.all_ends.proofs.Terms.{peer_live, KeeperView, NoMoreUnits, Operates}
 use Rattle.all_ends.specs.Ends.{trust_at_place, link_trust, asked_trust, pair_trust, settled_place}
 use Rattle.tlp_layout.specs.declared.choice.ChosenStream.{ChosenStream}
 use Rattle.ide_port.specs.Sends.{IsStreamTaken}
-use Rattle.all_ends.specs.AllEnds.{IsTakenAtHost}
-use Rattle.all_ends.specs.AllEnds.{TakesAt, SendsAt, OperatesByPlace, OperatesAt, Settles, Calls, CallsAt}
-use Rattle.all_ends.specs.AllEnds.{Asks, AsksAt, IsEnded}
+use Rattle.all_ends.specs.AllEnds.{IsTakenAtHost, TakesAt, SendsAt, OperatesByPlace, OperatesAt, Settles, Calls}
+use Rattle.all_ends.specs.AllEnds.{CallsAt, Asks, AsksAt, IsEnded}
 use Rattle.all_ends.specs.Places.{code_behind}
 use Rattle.all_ends.specs.States.{EndsUnitsAtMost}
 use Rattle.link_ends.specs.declared.host.HostKeeper.{HostKeeper}

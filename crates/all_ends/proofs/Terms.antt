@@ -7,6 +7,7 @@ pub use Rattle.ide_port.specs.{Found, PortEnd, SendStep, changed_states, found_s
 pub use Rattle.ide_port.specs.{take_step}
 pub use Rattle.ide_prefix.specs.Packet.{Packet, packet_bytes}
 pub use Rattle.arrival_verdicts.specs.{joined_packets, numbered_from, opened_if_accepted, packet_lengths, new_sending}
+pub use Rattle.arrival_verdicts.specs.{has_stream, is_closed, aggregation_of, streams_of, with_id}
 pub use Rattle.ide_types.specs.declared.port.PortName.{PortName}
 pub use Rattle.ide_types.specs.declared.port.Side.{Side}
 pub use Rattle.ide_types.specs.declared.port.Side.TheVariants.{Device, Host}
@@ -23,9 +24,8 @@ unfoldable pub use Rattle.arrival_verdicts.specs.{stream_plan, streams_by_line}
 pub use Rattle.machine_ports.specs.Machine.{BesidePorts, LinkPacket, LinkState, Stepped, stepped_answer, kept_packet}
 pub use Rattle.machine_ports.specs.Machine.{port_at, port_place, reset_state, machine_status}
 pub use Rattle.spec_stream.specs.Stream.{unit_name, Failed, Held, Insecure, LiveKey, StreamState, PacketOutcome, Three}
-pub use Rattle.spec_stream.specs.Stream.{TxSub}
-pub use Rattle.spec_stream.specs.Stream.{at_sub, outcome_of_checks, holds_any, is_allowed, is_tagged, lanes_of, live_in}
-pub use Rattle.spec_stream.specs.Stream.{sealed_all, slot_in_set, stream_outcome, stream_outcome_by_keys}
+pub use Rattle.spec_stream.specs.Stream.{TxSub, at_sub, outcome_of_checks, holds_any, is_allowed, is_tagged, lanes_of}
+pub use Rattle.spec_stream.specs.Stream.{live_in, sealed_all, slot_in_set, stream_outcome, stream_outcome_by_keys}
 unfoldable pub use Rattle.machine_ports.specs.Machine.{find, find_op, with_stream_state}
 pub use Rattle.machine_ports.specs.Stands.{PortsStandFor, op_at, stream_state_due}
 pub use Rattle.event_verdicts.specs.declared.verdict.Effect.{Effect}
@@ -63,6 +63,5 @@ pub use Rattle.link_ends.specs.LineEnds.{end_in, with_end, reset_pair}
 pub use Rattle.link_ends.specs.Ends.{port_in, with_port}
 pub use Rattle.link_ends.specs.Keepers.{KeeperView, NoMoreUnits, Operates}
 pub use Rattle.link_ends.specs.declared.ends.LinkEnds.{LinkEnds}
-pub use Rattle.arrival_verdicts.specs.{has_stream, is_closed, aggregation_of, streams_of, with_id}
 pub use Rattle.link_ends.specs.{KeysKept}
 pub use Rattle.std.proofs.lemmas.Bool.{cases_lt}

@@ -2,14 +2,14 @@
 -- the manager's streams are as before, since only the interfaces of its device change, and what the manager knows of
 -- it.
 use Rattle.all_links.proofs.Terms.{length-set, ◌≡◌, ℕ, suc, zero, ◌+◌, ◌<◌, List, [], ◌∷◌, length, refl, ap, sym, ◌∙◌}
-use Rattle.all_links.proofs.Terms.{subst, arith, nat_tests, Option, Some, None, IsSome, slice_get, slice_set}
-use Rattle.all_links.proofs.Terms.{◌-◌, option_and_then, none-some, same_Some, slice_get_within, Verdict}
-use Rattle.all_links.proofs.Terms.{StreamState, LinkEnds, Links, InterfacesView, KeeperView, ports_in, IsBounded}
-use Rattle.all_links.proofs.Terms.{links_state, EndsWith, Stepped, Interface, answer_of_links, EndsView}
-use Rattle.all_links.proofs.Terms.{peer_live, Plan, AreLinks, Side, Host, Device, port_in, state_of, nat_lt}
-use Rattle.all_links.proofs.Terms.{true, ◌++◌, if◌then◌else◌, ◌==◌, Bool, false, true-lt, nat_le}
-use Rattle.line_arrivals.specs.{changed_at, in_sixteen, pair_ports, operated_on, HostKeeper, IsThere}
-use Rattle.line_arrivals.specs.{CallsAt, AsksAt, place_on_links, code_behind, outcome_verdict, report_of}
+use Rattle.all_links.proofs.Terms.{subst, arith, nat_tests, Option, Some, None, IsSome, slice_get, slice_set, ◌-◌}
+use Rattle.all_links.proofs.Terms.{option_and_then, none-some, same_Some, slice_get_within, Verdict, StreamState}
+use Rattle.all_links.proofs.Terms.{LinkEnds, Links, InterfacesView, KeeperView, ports_in, IsBounded, links_state}
+use Rattle.all_links.proofs.Terms.{EndsWith, Stepped, Interface, answer_of_links, EndsView, peer_live, Plan, AreLinks}
+use Rattle.all_links.proofs.Terms.{Side, Host, Device, port_in, state_of, nat_lt, true, ◌++◌, if◌then◌else◌, ◌==◌, Bool}
+use Rattle.all_links.proofs.Terms.{false, true-lt, nat_le}
+use Rattle.line_arrivals.specs.{changed_at, in_sixteen, pair_ports, operated_on, HostKeeper, IsThere, CallsAt, AsksAt}
+use Rattle.line_arrivals.specs.{place_on_links, code_behind, outcome_verdict, report_of}
 use Rattle.all_links.specs.BesideAfter.{with_device}
 use Rattle.interface_host.specs.declared.operation.PeerStream.{PeerStream}
 use Rattle.std.specs.Prelude.{IfSome}
@@ -31,9 +31,8 @@ use Rattle.interface_ends.specs.Keepers.{Ended}
 use Rattle.script_events.specs.declared.event.InterfaceEvent.{InterfaceEvent}
 use Rattle.script_events.specs.declared.event.Loss.{Loss}
 use Rattle.all_links.specs.Interfaces.{interface_named, named_device_interface, interface_of_ends, ended_in}
-use Rattle.all_links.specs.Interfaces.{ended_if_there}
-use Rattle.all_links.specs.Interfaces.{ended_on_link, verdict_in, has_peer_in, managed_peer_stream, peer_verdict_in}
-use Rattle.all_links.specs.Interfaces.{has_peer_if_there}
+use Rattle.all_links.specs.Interfaces.{ended_if_there, ended_on_link, verdict_in, has_peer_in, managed_peer_stream}
+use Rattle.all_links.specs.Interfaces.{peer_verdict_in, has_peer_if_there}
 use Rattle.all_links.specs.Besides.{op_verdict}
 use Rattle.all_links.proofs.Finds.{answers, nothing_changes, only_says}
 use Rattle.std.proofs.Common.{◌&&◌}
@@ -296,10 +295,9 @@ any_report n loss report other (Done shown) some = refl
 any_report n loss report other (Refused r) some = some
 
 pub answered : (old : Links) (n : ℕ) (at : ℕ × ℕ) (o : InterfaceOperation) (loss : Option Loss)
-    (outcome : InterfaceOutcome) (ends : EndsView) (k : HostKeeper)
-    → Some at ≡ interface_named old.keeper.interfaces old.ends.links n
-    → AsksAt old.ends at.0 old.keeper n o loss outcome ends k → IsSome (op_verdict old n o loss)
-    → (report : List ℕ) → IsSome (outcome_verdict n loss report outcome)
+    (outcome : InterfaceOutcome) (ends : EndsView) (k : HostKeeper) → Some at
+    ≡ interface_named old.keeper.interfaces old.ends.links n → AsksAt old.ends at.0 old.keeper n o loss outcome ends k
+    → IsSome (op_verdict old n o loss) → (report : List ℕ) → IsSome (outcome_verdict n loss report outcome)
 answered old n at o loss outcome ends k named asks some report =
     let x = came_to old n at o loss outcome ends k named asks in
     any_report n loss (report_of o x.ended) report outcome
@@ -366,12 +364,10 @@ pub some_if : {A : Type 0} (b : Bool) (x y : A) → Some y ≡ (if b then Some x
 some_if true x y is = (refl, same_Some y x is)
 some_if false x y is = absurd (none-some y (sym is))
 
-pub none_peer : (k : HostKeeper) (v : EndsView) (n line stream : ℕ) (o : Option (ℕ × ℕ))
-    → o ≡ interface_named k.interfaces v.links n
-    → None ≡ (if nat_lt stream 256 && has_peer_if_there v line stream o then Some (managed_peer_stream k line stream)
-    else
-    None)
-    → (nat_lt stream 256 && has_peer_in k v n line stream) ≡ false
+pub none_peer : (k : HostKeeper) (v : EndsView) (n line stream : ℕ) (o : Option (ℕ × ℕ)) → o
+    ≡ interface_named k.interfaces v.links n → None
+    ≡ (if nat_lt stream 256 && has_peer_if_there v line stream o then Some (managed_peer_stream k line stream) else
+    None) → (nat_lt stream 256 && has_peer_in k v n line stream) ≡ false
 none_peer k v n line stream o named none =
     ap (λ (p : Option (ℕ × ℕ)). nat_lt stream 256 && has_peer_if_there v line stream p) (sym named)
     ∙ none_if (nat_lt stream 256 && has_peer_if_there v line stream o) (managed_peer_stream k line stream) none
@@ -382,13 +378,10 @@ pub record IsPeer (k : HostKeeper) (v : EndsView) (n line stream : ℕ) (peer : 
   pub has : has_peer_in k v n line stream ≡ true
   pub peer_is : peer ≡ managed_peer_stream k line stream
 
-pub is_peer : (k : HostKeeper) (v : EndsView) (n line stream : ℕ) (peer : PeerStream) (o : Option (ℕ × ℕ))
-    → o ≡ interface_named k.interfaces v.links n
-    → Some peer ≡ (if nat_lt stream 256 && has_peer_if_there v line stream o then Some
-    (managed_peer_stream k line stream)
-    else
-    None)
-    → IsPeer k v n line stream peer
+pub is_peer : (k : HostKeeper) (v : EndsView) (n line stream : ℕ) (peer : PeerStream) (o : Option (ℕ × ℕ)) → o
+    ≡ interface_named k.interfaces v.links n → Some peer
+    ≡ (if nat_lt stream 256 && has_peer_if_there v line stream o then Some (managed_peer_stream k line stream) else
+    None) → IsPeer k v n line stream peer
 is_peer k v n line stream peer o named is =
     let parts = some_if (nat_lt stream 256 && has_peer_if_there v line stream o) (managed_peer_stream k line stream)
     peer is

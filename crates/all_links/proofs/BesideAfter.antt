@@ -217,15 +217,11 @@ module _ (q : StreamStage) (before after : ℕ) (m : InterfacesView) where
   -- of another line
   told_other : (c : OpCall) (begins : Bool) (result : StreamOutcome) (near : Bool) → nat_lt (op_name c).line 16 ≡ near
       → told_by_place (if near then Near ((op_name c).line - 8) else Pair ((op_name c).line - 16)) c begins drew before
-      result
-      m
-      ≡ (if nat_le 24 (op_name c).line then told_by_peer (op_name c).operation (op_name c).line m else m)
+      result m ≡ (if nat_le 24 (op_name c).line then told_by_peer (op_name c).operation (op_name c).line m else m)
   told_other (call.Establish line id) begins result near is = both near (nat_le 24 line)
     where
       both : (a b : Bool) → told_by_place (if a then Near (line - 8) else Pair (line - 16)) (call.Establish line id)
-          begins
-          drew
-          before result m ≡ (if b then m else m)
+          begins drew before result m ≡ (if b then m else m)
       both true true = refl
       both true false = refl
       both false true = refl
@@ -233,8 +229,7 @@ module _ (q : StreamStage) (before after : ℕ) (m : InterfacesView) where
   told_other (call.Refresh line id) begins result near is = both near (nat_le 24 line)
     where
       both : (a b : Bool) → told_by_place (if a then Near (line - 8) else Pair (line - 16)) (call.Refresh line id)
-          begins drew
-          before result m ≡ (if b then m else m)
+          begins drew before result m ≡ (if b then m else m)
       both true true = refl
       both true false = refl
       both false true = refl
@@ -249,10 +244,9 @@ module _ (q : StreamStage) (before after : ℕ) (m : InterfacesView) where
       ≡ told_on_line (op_name c).operation (op_name c).line (op_name c).stream q before after verdict m
   told_here c loss result verdict says = by (nat_lt (op_name c).line 8) refl
     where
-      by : (b : Bool) → nat_lt (op_name c).line 8 ≡ b
-          → told_by_place (if b then Link (op_name c).line else if nat_lt (op_name c).line 16 then Near
-          ((op_name c).line - 8)
-          else Pair ((op_name c).line - 16)) c (work_of (op_name c).operation q 0).begins drew before result m
+      by : (b : Bool) → nat_lt (op_name c).line 8 ≡ b → told_by_place
+          (if b then Link (op_name c).line else if nat_lt (op_name c).line 16 then Near ((op_name c).line - 8) else Pair
+          ((op_name c).line - 16)) c (work_of (op_name c).operation q 0).begins drew before result m
           ≡ (if b then told_by_link (op_name c).operation (op_name c).line (op_name c).stream q before after verdict m
           else if nat_le 24 (op_name c).line then told_by_peer (op_name c).operation (op_name c).line m else m)
       by true is = told_link c loss result verdict says
@@ -266,10 +260,8 @@ drawn_here (call.Establish line id) before after draws = by (nat_lt line 8) refl
     drawn : Bool → List ℕ
     drawn b = if b && not (after == before) then slice_set draws (peer_of line) before else draws
 
-    behind : (b : Bool) → nat_lt line 16 ≡ b
-        → drawn_at_place (if b then Near (line - 8) else Pair (line - 16)) (call.Establish line id)
-        (not (after == before))
-        before draws ≡ drawn (nat_le 24 line)
+    behind : (b : Bool) → nat_lt line 16 ≡ b → drawn_at_place (if b then Near (line - 8) else Pair (line - 16))
+        (call.Establish line id) (not (after == before)) before draws ≡ drawn (nat_le 24 line)
     behind true is = sym (ap drawn (not_peers line is))
     behind false is = refl
 

@@ -51,9 +51,8 @@ module _ (plan : Plan) (old : Links) (h : History) (ends : EndsView) (k' : Keepe
     (name : op_name call ≡ record { operation = operation; line = line; stream = id })
     (works_is : works_on operation line ≡ true) (here : IsSome (port_on old.ends (host_port line)))
     (operates : OperatesAt old.ends line old.keeper.keys call loss result ends k') where
-  pub comes_to : OperationsJoin → PairOperationsJoin
-      → Operated plan old.ends old.keeper.keys old.packets.packets h k' call operation line id loss result n links
-      stands named_is name ends
+  pub comes_to : OperationsJoin → PairOperationsJoin → Operated plan old.ends old.keeper.keys old.packets.packets h k'
+      call operation line id loss result n links stands named_is name ends
   comes_to joins pairs =
       operated plan old.ends old.keeper.keys old.packets.packets h k' call operation line id loss result n links stands
       named_is name (works operation line works_is) ends joins pairs here operates

@@ -113,9 +113,8 @@ operated_many place o status draws said loss m d i =
     }) d refl
 
 pub asked_place : (old : Links) (n : ℕ) (at : ℕ × ℕ) (o : InterfaceOperation) (loss : Option Loss)
-    (outcome : InterfaceOutcome) (ends : EndsView) (k : HostKeeper)
-    → Some at ≡ interface_named old.keeper.interfaces old.ends.links n
-    → AsksAt old.ends at.0 old.keeper n o loss outcome ends k
+    (outcome : InterfaceOutcome) (ends : EndsView) (k : HostKeeper) → Some at
+    ≡ interface_named old.keeper.interfaces old.ends.links n → AsksAt old.ends at.0 old.keeper n o loss outcome ends k
     → interface_named k.interfaces ends.links n ≡ interface_named old.keeper.interfaces old.ends.links n
 asked_place old n at o loss outcome ends k named asks =
     let x = is_found old.keeper.interfaces old.ends n at named in

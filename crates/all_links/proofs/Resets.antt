@@ -41,11 +41,12 @@ far_there v line e is = by (line_place line) is
 
 -- the states that were read, under the numbers that a name gives
 pub status_read : (old : Links) (plan : Plan) (h : History) (line stream a b : ℕ)
-    (read : Option (StreamStatus × StreamStatus))
-    → AreLinks plan old.ends old.keeper.keys → PortsStandFor plan (links_state plan old) h
-    → IsName old.keeper.keys.manager old.ends line stream a b → read ≡ statuses_of old.ends a b → read ≡ Some (
+    (read : Option (StreamStatus × StreamStatus)) → AreLinks plan old.ends old.keeper.keys
+    → PortsStandFor plan (links_state plan old) h → IsName old.keeper.keys.manager old.ends line stream a b → read
+    ≡ statuses_of old.ends a b → read ≡ Some (
       machine_status plan (links_state plan old) Host line stream,
-      machine_status plan (links_state plan old) Device line stream,
+      machine_status plan (links_state plan old) Device
+          line stream,
     )
 status_read old plan h line stream a b read links stands n reads =
     let q = some_op (named_stream old.keeper.keys.manager line stream) n.there in

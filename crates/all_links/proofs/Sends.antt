@@ -134,11 +134,10 @@ pub not_sealed : (answer : Sent) → ((ps : List MeasuredPacket) → answer ≡ 
 not_sealed answer none = grind (arith, none)
 
 -- the lengths of the packets add up to that of what was sealed
-pub sealed_length : (old new : EndsView) (end : PortName) (bytes : List ℕ) (more trusted : Bool)
-    (answer : Sent) (sealed : List ℕ) (ps : List MeasuredPacket) → IsSome (port_on old end)
-    → SendsAt old end bytes more trusted answer new sealed
-    → map (λ (p : MeasuredPacket). p.length) ps ≡ lengths_sent answer
-    → sum_by (λ (p : MeasuredPacket). p.length) ps ≡ length sealed
+pub sealed_length : (old new : EndsView) (end : PortName) (bytes : List ℕ) (more trusted : Bool) (answer : Sent)
+    (sealed : List ℕ) (ps : List MeasuredPacket) → IsSome (port_on old end)
+    → SendsAt old end bytes more trusted answer new sealed → map (λ (p : MeasuredPacket). p.length) ps
+    ≡ lengths_sent answer → sum_by (λ (p : MeasuredPacket). p.length) ps ≡ length sealed
 sealed_length old new end bytes more trusted answer sealed ps here sends said =
     let put = is_put old new end bytes more trusted answer sealed here sends in
     let e : PortEnd = put.port in
@@ -168,9 +167,8 @@ bytes_sent plan b st port bytes more trusted is =
 
 -- at the end of the line that association gives
 pub sends_there : (plan : Plan) (verdict : Verdict) (old new : Links) (port : PortName) (bytes : List ℕ)
-    (more trusted : Bool) → may_send plan port ≡ true
-    → EndsSending plan verdict old new (sealing_end plan port bytes) bytes more trusted
-    → EndsWith plan verdict old new (Send port bytes more trusted)
+    (more trusted : Bool) → may_send plan port ≡ true → EndsSending plan verdict old new (sealing_end plan port bytes)
+    bytes more trusted → EndsWith plan verdict old new (Send port bytes more trusted)
 sends_there plan verdict old new port bytes more trusted may x = record {
   counted = x.counted;
   bounded = x.bounded;
@@ -196,9 +194,8 @@ nowhere_sent plan old end none links has =
     never false is some = absurd cc
 
 pub sends_or : (plan : Plan) (result : Result Verdict OutOfMemory) (old new : Links) (port : PortName) (bytes : List ℕ)
-    (more trusted : Bool) → may_send plan port ≡ true
-    → EndsSendingOr plan result old new (sealing_end plan port bytes) bytes more trusted
-    → EndsOr plan result old new (Send port bytes more trusted)
+    (more trusted : Bool) → may_send plan port ≡ true → EndsSendingOr plan result old new (sealing_end plan port bytes)
+    bytes more trusted → EndsOr plan result old new (Send port bytes more trusted)
 sends_or plan (Ok verdict) old new port bytes more trusted may x =
     sends_there plan verdict old new port bytes more trusted may x
 sends_or plan (Err e) old new port bytes more trusted may stays = stays

@@ -82,9 +82,8 @@ failed_twice (ConfigLocked lock nonce) = refl
 failed_twice (Run lock) = refl
 failed_twice Error = refl
 
-bindings_twice : (s : TdiState) (bs : List Binding)
-    → bindings_left (after_failure s) (after_failure (after_failure s)) (bindings_left s (after_failure s) bs)
-    ≡ bindings_left s (after_failure s) bs
+bindings_twice : (s : TdiState) (bs : List Binding) → bindings_left (after_failure s) (after_failure (after_failure s))
+    (bindings_left s (after_failure s) bs) ≡ bindings_left s (after_failure s) bs
 bindings_twice ConfigUnlocked bs = refl
 bindings_twice (ConfigLocked lock nonce) bs = refl
 bindings_twice (Run lock) bs = refl
@@ -103,8 +102,7 @@ interface_twice : (f : ℕ → Bool) (t : DeviceTdi) → settled_interface f (se
 interface_twice f t = by (is_left f (bound_link_stream t.state) || any_left f t.bindings) refl
   where
     again : (b : Bool) → (if b then interface_after_call (interface_after_call t StreamLeft) StreamLeft else
-        interface_after_call t StreamLeft)
-        ≡ interface_after_call t StreamLeft
+        interface_after_call t StreamLeft) ≡ interface_after_call t StreamLeft
     again true = left_twice t
     again false = refl
 

@@ -104,9 +104,8 @@ pub record BesideOperation (o : Operation) (line stream : ℕ) (verdict : Verdic
       → new.keeper.interfaces ≡ told_on_line o line stream n.stream.op old.keeper.keys.pool.draws
       new.keeper.keys.pool.draws verdict old.keeper.interfaces
   pub drawn : (n : Named) → stream_named old.keeper.keys.manager old.ends line stream ≡ Some (line, stream)
-      → named_stream old.keeper.keys.manager line stream ≡ Some n
-      → new.keeper.peer_draws ≡ peers_drawn o line old.keeper.keys.pool.draws new.keeper.keys.pool.draws
-      old.keeper.peer_draws
+      → named_stream old.keeper.keys.manager line stream ≡ Some n → new.keeper.peer_draws
+      ≡ peers_drawn o line old.keeper.keys.pool.draws new.keeper.keys.pool.draws old.keeper.peer_draws
 
 -- ---- a reset
 

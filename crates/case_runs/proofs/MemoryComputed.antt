@@ -31,9 +31,8 @@ write_unit = record { stream = 5; sub = Pr; draw = 0; unit = 1 }
 pub write_admitted : newest_first
     (admitted_writes interface_plan (grant_at interface_plan (sealed_write ∷ started_event ∷ reported_history))
     (host_port 0) write_unit
-    (arrival_packet (comes_at (host_port 0) (packet_of interface_plan [] write_tlp
-    (packet_description 1 (device_port 0) Pr 1 true 0) []))
-    ∷ [])) []
+    (arrival_packet (comes_at (host_port 0)
+    (packet_of interface_plan [] write_tlp (packet_description 1 (device_port 0) Pr 1 true 0) [])) ∷ [])) []
     ≡ applied_write ∷ []
 unfolding due_on_literals
 write_admitted =

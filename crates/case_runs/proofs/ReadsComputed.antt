@@ -66,8 +66,7 @@ unfolding due_on_literals
 before_read = write_admitted
 
 then_read : writes_in interface_plan (sealed_packets interface_plan waiting_history) waiting_history
-    ≡ newest_first of_read
-    (writes_in interface_plan (sealed_packets interface_plan waiting_history) written_history)
+    ≡ newest_first of_read (writes_in interface_plan (sealed_packets interface_plan waiting_history) written_history)
 unfolding writes_in of_read
 then_read = refl
 

@@ -38,9 +38,7 @@ late_7 =
 
 late_8 : due (plan 1 false)
     (accepted_unit 3 1 1 ∷ accepted_unit 1 0 1 ∷ seal_step 3 1 1 ∷ refresh_step ∷ seal_step 2 0 2 ∷ seal_step 1 0 1
-    ∷ establish_step
-    ∷ [])
-    (fails_key (Pass 2)).0 ≡ (fails_key (Pass 2)).1
+    ∷ establish_step ∷ []) (fails_key (Pass 2)).0 ≡ (fails_key (Pass 2)).1
 unfolding due_on_literals
 late_8 =
     stops (plan 1 false) (accepted_unit 3 1 1 ∷ accepted_unit 1 0 1 ∷ seal_step 3 1 1 ∷ refresh_step ∷ seal_step 2 0 2
@@ -57,8 +55,7 @@ unfolding due_on_literals
 reply_lost_due = (refl, (refl, (refl, (refl, tt))))
 
 open_tail_5 : due (plan 1 false) (seal_step 2 1 1 ∷ refresh_step ∷ seal_step 1 0 1 ∷ establish_step ∷ [])
-    (accepted_unit 2 1 1).0
-    ≡ (accepted_unit 2 1 1).1
+    (accepted_unit 2 1 1).0 ≡ (accepted_unit 2 1 1).1
 unfolding due_on_literals
 open_tail_5 =
     ends (plan 1 false) (seal_step 2 1 1 ∷ refresh_step ∷ seal_step 1 0 1 ∷ establish_step ∷ []) _ newer_write Pr 1 1
@@ -70,8 +67,7 @@ unfolding due_on_literals
 open_tail_due = (refl, (refl, (refl, (refl, (open_tail_5, tt)))))
 
 closed_tail_5 : due (plan 1 true) (seal_step 2 1 1 ∷ refresh_step ∷ seal_step 1 0 1 ∷ establish_step ∷ [])
-    (fails (Pass 2)).0
-    ≡ (fails (Pass 2)).1
+    (fails (Pass 2)).0 ≡ (fails (Pass 2)).1
 unfolding due_on_literals
 closed_tail_5 =
     ends (plan 1 true) (seal_step 2 1 1 ∷ refresh_step ∷ seal_step 1 0 1 ∷ establish_step ∷ []) _ closed_write Pr 1 1

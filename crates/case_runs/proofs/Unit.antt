@@ -28,8 +28,7 @@ two_4 =
     (ap comes first_read_is) refl
 
 two_5 : due (plan 2 false) (held_packet ∷ seal_read_step 2 true ∷ seal_read_step 1 false ∷ establish_step ∷ [])
-    both_accepted.0
-    ≡ both_accepted.1
+    both_accepted.0 ≡ both_accepted.1
 unfolding due_on_literals masked_bytes
 two_5 =
     ends (plan 2 false) (held_packet ∷ seal_read_step 2 true ∷ seal_read_step 1 false ∷ establish_step ∷ []) _
@@ -45,9 +44,7 @@ two_6 = refl
 
 two_7 : due (plan 2 false)
     (unfinished_write ∷ both_accepted ∷ held_packet ∷ seal_read_step 2 true ∷ seal_read_step 1 false ∷ establish_step
-    ∷ [])
-    unfinished_send.0
-    ≡ unfinished_send.1
+    ∷ []) unfinished_send.0 ≡ unfinished_send.1
 unfolding due_on_literals
 two_7 = refl
 

@@ -32,8 +32,7 @@ accepted_once_4 =
     (ap comes write_1_is) refl (ap (bytes_eq tag_1) repeated_tag_is)
 
 accepted_once_5 : due (plan 1 false) (fails (Pass 1) ∷ accepted_unit 1 0 1 ∷ seal_step 1 0 1 ∷ establish_step ∷ [])
-    insecure.0
-    ≡ insecure.1
+    insecure.0 ≡ insecure.1
 unfolding due_on_literals
 accepted_once_5 =
     stops (plan 1 false) (fails (Pass 1) ∷ accepted_unit 1 0 1 ∷ seal_step 1 0 1 ∷ establish_step ∷ []) _ write_1 _
@@ -67,8 +66,7 @@ unfolding due_on_literals
 rekeyed_due = (refl, (refl, (rekeyed_3, tt)))
 
 one_missing_5 : due (plan 1 false) (seal_step 3 0 3 ∷ seal_step 2 0 2 ∷ seal_step 1 0 1 ∷ establish_step ∷ [])
-    (accepted_unit 1 0 1).0
-    ≡ (accepted_unit 1 0 1).1
+    (accepted_unit 1 0 1).0 ≡ (accepted_unit 1 0 1).1
 unfolding due_on_literals
 one_missing_5 =
     ends (plan 1 false) (seal_step 3 0 3 ∷ seal_step 2 0 2 ∷ seal_step 1 0 1 ∷ establish_step ∷ []) _ write_1 Pr 0 1

@@ -125,10 +125,8 @@ front_of_cut limit front file (rest, e) le = by_feed (slice_index_or file limit 
 -- the run of a file ends at some end of the run after a prefix of it
 in_file : {S : Type 0} (advance : S → ℕ → Text → Result (S × Text) LineFault) (closing : S → Due) (first : S)
     (file : Option Text) (front : Text) (s0 s1 : ℕ) (o0 o1 : SinkSeen) (r : Result End Fault) → IsReadIn file front
-    → 0 < length
-    front
-    → length front ≤ file_limit → s1 ≡ s0 →
-    ((over : Bool) (left : Text) → Ran (process advance closing over 1 first (pieces (front ++ left))) o0 o1 r)
+    → 0 < length front → length front ≤ file_limit → s1 ≡ s0
+    → ((over : Bool) (left : Text) → Ran (process advance closing over 1 first (pieces (front ++ left))) o0 o1 r)
     → EndsDue (option_map (file_due advance closing first) file) (Rose s0 s1) (Rose o0.faults o1.faults)
     (Quiet s0 s1 o0.faults o1.faults) (Gained o0.held o1.held) r
 in_file advance closing first None front s0 s1 o0 o1 r read some le same ran = absurd (omega (arith, ap length read))
@@ -140,8 +138,7 @@ in_file advance closing first (Some file) front s0 s1 o0 o1 r read some le same 
 
 pub in_told : {S : Type 0} (advance : S → ℕ → Text → Result (S × Text) LineFault) (closing : S → Due) (first : S)
     (name front : Text) (s0 s1 : ShelfSeen) (o0 o1 : SinkSeen) (r : Result End Fault)
-    → IsReadIfTold s0.contents name front
-    → 0 < length front → length front ≤ file_limit → s1.faults ≡ s0.faults
+    → IsReadIfTold s0.contents name front → 0 < length front → length front ≤ file_limit → s1.faults ≡ s0.faults
     → ((over : Bool) (left : Text) → Ran (process advance closing over 1 first (pieces (front ++ left))) o0 o1 r)
     → RanOn (λ contents. option_map (file_due advance closing first) (contents name)) s0 s1 o0 o1 r
 in_told advance closing first name front s0 s1 o0 o1 r read some le same ran = by_told s0.contents read
@@ -159,12 +156,10 @@ in_told advance closing first name front s0 s1 o0 o1 r read some le same ran = b
 
 pub end_in_piece : {S : Type 0} (advance : S → ℕ → Text → Result (S × Text) LineFault) (closing : S → Due) (first : S)
     (name : Text) (at n : ℕ) (s : S) (before piece : Text) (s0 s1 : ShelfSeen) (o0 o1 o2 : SinkSeen)
-    (r : Result End Fault)
-    → (f : FileSoFar advance closing first s0.contents name at n s before o0 o1)
+    (r : Result End Fault) → (f : FileSoFar advance closing first s0.contents name at n s before o0 o1)
     → IsReadIfTold s0.contents name (f.front ++ piece) → 0 < length piece → at + length piece ≤ file_limit → s1.faults
-    ≡ s0.faults
-    → ((over : Bool) (left : Text) → Ran (due_behind advance closing over n s before (piece ++ left)) o1 o2 r)
-    → RanOn (λ contents. option_map (file_due advance closing first) (contents name)) s0 s1 o0 o2 r
+    ≡ s0.faults → ((over : Bool) (left : Text) → Ran (due_behind advance closing over n s before (piece ++ left)) o1 o2
+    r) → RanOn (λ contents. option_map (file_due advance closing first) (contents name)) s0 s1 o0 o2 r
 end_in_piece advance closing first name at n s before piece s0 s1 o0 o1 o2 r f read some le same ran =
     in_told advance closing first name (f.front ++ piece) s0 s1 o0 o2 r read
     (omega (arith, length-append f.front piece)) (omega (arith, length-append f.front piece, f.size)) same
@@ -246,9 +241,8 @@ unended_by advance closing n s before byte is =
 
 limit_ran : {S : Type 0} (advance : S → ℕ → Text → Result (S × Text) LineFault) (closing : S → Due) (first : S)
     (told : Option Contents) (name : Text) (at n : ℕ) (s : S) (before : Text) (byte : ℕ) (o0 o1 o2 : SinkSeen)
-    (r : Result End Fault)
-    → (f : FileSoFar advance closing first told name at n s before o0 o1) → (b : Bool) → (byte == 10) ≡ b
-    → Ran (unended_due n (if b then before else before ++ byte ∷ [])) o1 o2 r
+    (r : Result End Fault) → (f : FileSoFar advance closing first told name at n s before o0 o1) → (b : Bool)
+    → (byte == 10) ≡ b → Ran (unended_due n (if b then before else before ++ byte ∷ [])) o1 o2 r
     → Ran (process advance closing true 1 first (pieces (if b then f.front else f.front ++ byte ∷ []))) o0 o2 r
 limit_ran advance closing first told name at n s before byte o0 o1 o2 r f true is ran =
     let P : Text → Type 0 = λ t. Ran (process advance closing true 1 first (pieces t)) o0 o2 r in
@@ -263,10 +257,9 @@ limit_ran advance closing first told name at n s before byte o0 o1 o2 r f false 
     (unended_by advance closing n s before byte is) ran
 
 limit_in : {S : Type 0} (advance : S → ℕ → Text → Result (S × Text) LineFault) (closing : S → Due) (first : S)
-    (file : Option Text) (front : Text) (byte s0 s1 : ℕ) (o0 o1 : SinkSeen) (r : Result End Fault) → IsReadIn file
-    (front ++ byte ∷ [])
-    → length front ≡ file_limit → s1 ≡ s0 → Ran
-    (process advance closing true 1 first (pieces (if byte == 10 then front else front ++ byte ∷ []))) o0 o1 r
+    (file : Option Text) (front : Text) (byte s0 s1 : ℕ) (o0 o1 : SinkSeen) (r : Result End Fault)
+    → IsReadIn file (front ++ byte ∷ []) → length front ≡ file_limit → s1 ≡ s0
+    → Ran (process advance closing true 1 first (pieces (if byte == 10 then front else front ++ byte ∷ []))) o0 o1 r
     → EndsDue (option_map (file_due advance closing first) file) (Rose s0 s1) (Rose o0.faults o1.faults)
     (Quiet s0 s1 o0.faults o1.faults) (Gained o0.held o1.held) r
 limit_in advance closing first None front byte s0 s1 o0 o1 r read size same ran = absurd
@@ -283,11 +276,10 @@ limit_in advance closing first (Some file) front byte s0 s1 o0 o1 r (rest, e) si
 
 pub end_at_limit : {S : Type 0} (advance : S → ℕ → Text → Result (S × Text) LineFault) (closing : S → Due) (first : S)
     (name : Text) (at n : ℕ) (s : S) (before : Text) (byte : ℕ) (s0 s1 : ShelfSeen) (o0 o1 o2 : SinkSeen)
-    (r : Result End Fault)
-    → (f : FileSoFar advance closing first s0.contents name at n s before o0 o1) → at ≡ file_limit
-    → IsReadIfTold s0.contents name (f.front ++ byte ∷ []) → s1.faults ≡ s0.faults
-    → Ran (limit_due n before byte) o1 o2 r
-    → RanOn (λ contents. option_map (file_due advance closing first) (contents name)) s0 s1 o0 o2 r
+    (r : Result End Fault) → (f : FileSoFar advance closing first s0.contents name at n s before o0 o1) → at
+    ≡ file_limit → IsReadIfTold s0.contents name (f.front ++ byte ∷ []) → s1.faults ≡ s0.faults
+    → Ran (limit_due n before byte) o1 o2 r → RanOn
+    (λ contents. option_map (file_due advance closing first) (contents name)) s0 s1 o0 o2 r
 end_at_limit advance closing first name at n s before byte s0 s1 o0 o1 o2 r f is read same ran = by_told s0.contents
     read
   where
@@ -416,8 +408,7 @@ all_read_in advance closing first file front piece given latest (rest, is) all l
 
 all_read : {S : Type 0} (advance : S → ℕ → Text → Result (S × Text) LineFault) (closing : S → Due) (first : S)
     (file : Option Text) (front piece : Text) (given latest : ℕ) → IsReadIn file (front ++ piece) → given
-    ≡ length front + length piece
-    → length piece ≡ latest → GoesOn advance closing first front
+    ≡ length front + length piece → length piece ≡ latest → GoesOn advance closing first front
     → NoFurther (GoesOn advance closing first) (bytes_of file) given (given - latest)
 all_read advance closing first None front piece given latest read all last goes_on = all_read_in advance closing first
     [] front piece given latest ([], append-nil (front ++ piece) ∙ read) all last goes_on
@@ -482,8 +473,7 @@ more_gained h0 h1 h2 text later was (front, is, gained) = (front, gained_more h0
 -- what runs after the lines that ended is cut off
 pub cut_wrote : {S : Type 0} (advance : S → ℕ → Text → Result (S × Text) LineFault) (closing : S → Due) (first : S)
     (name : Text) (at n : ℕ) (s : S) (before piece : Text) (s0 s1 : ShelfSeen) (o0 o1 o2 : SinkSeen) (last : Due)
-    (r : Result End Fault)
-    → (f : FileSoFar advance closing first s0.contents name at n s before o0 o1)
+    (r : Result End Fault) → (f : FileSoFar advance closing first s0.contents name at n s before o0 o1)
     → IsReadIfTold s0.contents name (f.front ++ piece) → length before ≤ 20000 → length piece ≤ s1.latest
     → Gave s0.given (at + length piece) s1.given → Ran last o1 o2 r
     → IfErr r (λ e. WroteEnded e (ended_text advance closing first) name s0 s1 o0 o2)
@@ -513,8 +503,7 @@ nothing_wrote advance closing first name shelf sink =
 -- the cause of a fault, and the whole lines that were written
 fault_in : {S : Type 0} (advance : S → ℕ → Text → Result (S × Text) LineFault) (closing : S → Due) (first : S)
     (contents : Contents) (file : Option Text) (name front text : Text) (later : Bool → Text → Due) (s0 s1 : ℕ)
-    (o0 o1 : SinkSeen)
-    → contents name ≡ file → IsReadIn file front → length front ≤ file_limit → text
+    (o0 o1 : SinkSeen) → contents name ≡ file → IsReadIn file front → length front ≤ file_limit → text
     ≡ ended_text advance closing first front → IsWholeLines text → Gained o0.held o1.held text
     → ((over : Bool) (left : Text) → process advance closing over 1 first (pieces (front ++ left))
     ≡ after text (later over left)) → (Rose s0 s1 ⊎ (contents name ≡ None))

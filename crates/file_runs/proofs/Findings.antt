@@ -84,9 +84,8 @@ found_other lines due claimed line later is lacks =
     rw (is, first.is, lacks) refl
 
 -- a line that is
-pub found_same : (lines : ℕ) (due claimed : List Text) (line later rest : Text) → due ≡ line ∷ pieces later
-    → claimed ≡ line ∷ pieces rest
-    → found_after (lines + 1) (pieces later) (pieces rest) ≡ found_after lines due claimed
+pub found_same : (lines : ℕ) (due claimed : List Text) (line later rest : Text) → due ≡ line ∷ pieces later → claimed
+    ≡ line ∷ pieces rest → found_after (lines + 1) (pieces later) (pieces rest) ≡ found_after lines due claimed
 found_same lines due claimed line later rest is claims =
     let first = some later in
     let next = some rest in

@@ -8,8 +8,7 @@ use Rattle.cli_files.specs.declared.shelf.ShelfFault.{ShelfFault}
 use Rattle.cli_files.specs.Outside.{Contents, ReadAt, ReadOrRefused, ReadIfTold}
 use Rattle.file_runs.specs.Gain.{Text, IsFront}
 use Rattle.file_runs.specs.Front.{FrontIn, FrontIfTold, Gave, GaveRestIfTold, GaveIfTold, bytes_of, IsReadIn}
-use Rattle.file_runs.specs.Front.{IsReadIfTold, IsWholeIn}
-use Rattle.file_runs.specs.Front.{IsWholeIfTold, ReadsOn}
+use Rattle.file_runs.specs.Front.{IsReadIfTold, IsWholeIn, IsWholeIfTold, ReadsOn}
 
 pub empty : (xs : Text) → length xs ≡ 0 → xs ≡ []
 empty [] e = refl

@@ -106,9 +106,8 @@ line_came_to advance closing over n m s t before now rest line later left w e ca
     (line_came advance closing over n s t before rest line later left w e came)
 
 -- a line is not spelled
-pub line_refused : {S : Type 0} (advance : S → ℕ → Text → Result (S × Text) LineFault) (closing : S → Due)
-    (over : Bool) (n : ℕ) (s : S) (before rest line later left : Text) (f : LineFault) → pieces rest ≡ line
-    ∷ pieces later
+pub line_refused : {S : Type 0} (advance : S → ℕ → Text → Result (S × Text) LineFault) (closing : S → Due) (over : Bool)
+    (n : ℕ) (s : S) (before rest line later left : Text) (f : LineFault) → pieces rest ≡ line ∷ pieces later
     → advance s n (before ++ line) ≡ Err f → due_behind advance closing over n s before (rest ++ left) ≡ refusal n f
 line_refused advance closing over n s before rest line later left f e came =
     let go : List Text → Due = λ ps. process advance closing over n s ps in

@@ -15,10 +15,9 @@ use Rattle.file_runs.specs.Lines.{after, go_on, process}
 use Rattle.file_runs.proofs.Gains.{gained_more}
 
 -- a line, and the pieces after it
-pub process_line : {S : Type 0} (advance : S → ℕ → Text → Result (S × Text) LineFault) (closing : S → Due)
-    (over : Bool) (n : ℕ) (s : S) (line rest : Text)
-    → process advance closing over n s (line ∷ pieces rest) ≡ go_on n (advance s n line)
-    (λ t. process advance closing over (n + 1) t (pieces rest))
+pub process_line : {S : Type 0} (advance : S → ℕ → Text → Result (S × Text) LineFault) (closing : S → Due) (over : Bool)
+    (n : ℕ) (s : S) (line rest : Text) → process advance closing over n s (line ∷ pieces rest)
+    ≡ go_on n (advance s n line) (λ t. process advance closing over (n + 1) t (pieces rest))
 process_line advance closing over n s line rest = let p = some rest in rw p.is refl
 
 front_later : (h0 h1 h2 : Option Text) (w part rest whole : Text) → whole ≡ w ++ (part ++ rest) → Gained h0 h1 w
@@ -53,9 +52,8 @@ ran_later (Err f) due last h0 h1 h2 f0 f1 f2 w e gain same h =
 
 -- a last line without a line feed
 pub one_line : {S : Type 0} (advance : S → ℕ → Text → Result (S × Text) LineFault) (closing : S → Due) (over : Bool)
-    (n : ℕ) (s t : S) (piece text : Text)
-    → over ≡ false → (length piece == 0) ≡ false → advance s n piece ≡ Ok (t, text)
-    → process advance closing over n s (piece ∷ []) ≡ after text (closing t)
+    (n : ℕ) (s t : S) (piece text : Text) → over ≡ false → (length piece == 0) ≡ false → advance s n piece
+    ≡ Ok (t, text) → process advance closing over n s (piece ∷ []) ≡ after text (closing t)
 one_line advance closing over n s t piece text o some a = rw (o, some, a) refl
 
 -- the text of a line was cut off

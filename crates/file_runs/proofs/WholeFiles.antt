@@ -43,9 +43,8 @@ stopped_told contents (Some due) name s0 s1 write quiet h unread.Fault lacks c =
 stopped_told contents (Some due) name s0 s1 write quiet h unread.Memory lacks c = ([], (due.1, refl), gained_nothing h)
 
 pub stopped : (told : Option Contents) (due : Contents → Option Due) (name : Text) (s0 s1 : ℕ) (write quiet : Type 0)
-    (h : Option Text) (e : Unread)
-    → ((contents : Contents) → contents name ≡ None → due contents ≡ None) → UnreadCause s0 s1 told name e
-    → EndsToldOrBlind told due (Rose s0 s1) write quiet (Gained h h) (Err (fault_of e))
+    (h : Option Text) (e : Unread) → ((contents : Contents) → contents name ≡ None → due contents ≡ None)
+    → UnreadCause s0 s1 told name e → EndsToldOrBlind told due (Rose s0 s1) write quiet (Gained h h) (Err (fault_of e))
 stopped None due name s0 s1 write quiet h unread.Fault lacks c = elim c.1 [ inl r ↦ r | inr none ↦ absurd none ]
 stopped None due name s0 s1 write quiet h unread.Memory lacks c = tt
 stopped (Some contents) due name s0 s1 write quiet h e lacks c = stopped_told contents (due contents) name s0 s1 write
@@ -70,8 +69,7 @@ ran_blind last s0 s1 o0 o1 gained (Err fault.Memory) same h = tt
 pub ran_after : (told : Option Contents) (due : Contents → Option Due) (last : Due) (s0 s1 o0 o1 : ℕ)
     (gained : Text → Type 0) (r : Result End Fault) → IsDue told due last → s1 ≡ s0
     → EndsBy last ⊥ (Rose o0 o1) (o1 ≡ o0) gained r → EndsToldOrBlind told due (Rose s0 s1) (Rose o0 o1)
-    (Quiet s0 s1 o0 o1)
-    gained r
+    (Quiet s0 s1 o0 o1) gained r
 ran_after None due last s0 s1 o0 o1 gained r is same h = ran_blind last s0 s1 o0 o1 gained r same h
 ran_after (Some contents) due last s0 s1 o0 o1 gained r is same h = ran_told (due contents) last s0 s1 o0 o1 gained r is
     same h

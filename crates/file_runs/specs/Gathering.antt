@@ -119,8 +119,7 @@ pub record WroteEndedIn (e : Fault) (text : Text → Text) (file : Text) (shelf 
   pub gained : GainedAt e sink.held sink_now.held (text (take ran file))
 
 abbrev pub WroteEndedIfTold : Fault → (Text → Text) → Option Contents → Text → ShelfSeen → ShelfSeen → SinkSeen
-    → SinkSeen
-    → Type 0
+    → SinkSeen → Type 0
 WroteEndedIfTold e text None name shelf shelf_now sink sink_now = Unit {0}
 WroteEndedIfTold e text (Some contents) name shelf shelf_now sink sink_now = WroteEndedIn e text
     (bytes_of (contents name))

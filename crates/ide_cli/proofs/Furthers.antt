@@ -20,8 +20,7 @@ asked_far call a is far = subst
 
 -- nothing is read if nothing is asked for, or generated events are
 pub nothing_read : (call : CallSeen) (a : Option CommandRequest) → command_asked call.words ≡ a → call.shelf_after
-    ≡ call.shelf_before
-    → ((contents : Contents) (ahead : ℕ) → AskedNoFurther a contents 0 ahead) → ReadNoFurther call
+    ≡ call.shelf_before → ((contents : Contents) (ahead : ℕ) → AskedNoFurther a contents 0 ahead) → ReadNoFurther call
 nothing_read call a is same none = subst
     (λ (o : Option CommandRequest). IfOk call.outcome
     (λ e. ReadAsFar (AskedNoFurther o) call.shelf_before call.shelf_after))

@@ -27,8 +27,7 @@ use Rattle.ide_cli.specs.Reads.{most_counted}
 use Rattle.ide_cli.specs.Seen.{CallSeen, outcome_of_status}
 
 pub asks_for : {request : Option CommandRequest} {a : CommandRequest} {s0 s1 : ShelfSeen} {o0 o1 : SinkSeen}
-    {r : Result End Fault}
-    → request ≡ Some a → AnsweredFor (Some a) s0 s1 o0 o1 r → AnsweredFor request s0 s1 o0 o1 r
+    {r : Result End Fault} → request ≡ Some a → AnsweredFor (Some a) s0 s1 o0 o1 r → AnsweredFor request s0 s1 o0 o1 r
 asks_for {request} {a} {s0} {s1} {o0} {o1} {r} is answered =
     subst (λ (o : Option CommandRequest). AnsweredFor o s0 s1 o0 o1 r) (sym is) answered
 
@@ -168,8 +167,7 @@ said to (Err f) A holds = tt
 
 -- the run did not end so
 pub never_ends : (Asks : Option CommandRequest → Type 0) (to : End) (words : Option CommandRequest)
-    (r : Result End Fault)
-    (before now : ℕ) → IfOk r (λ e. e ≢ to) → EndsFor Asks to words r before now
+    (r : Result End Fault) (before now : ℕ) → IfOk r (λ e. e ≢ to) → EndsFor Asks to words r before now
 never_ends Asks to words (Ok e) before now other = λ is. absurd (other is)
 never_ends Asks to words (Err f) before now other = tt
 

@@ -43,11 +43,9 @@ due_is : (migrated : Text) (call : CallSeen) (plan : Plan) (script : Script) (a 
 due_is migrated call plan script a = rw (a.asks, a.topology_is, a.plan_is, a.script_is, a.read) refl
 
 ran_script : (migrated : Text) (call : CallSeen) (read write quiet : Type 0) (gained : Text → Type 0)
-    (r : Result End Fault)
-    → EndsToldOrBlind call.shelf_before.contents (command_due migrated (command_asked call.words)) read write quiet
-    gained r
-    → (plan : Plan) (script : Script) → AsksRun call plan script
-    → EndsBy (due_after plan [] script) read write quiet gained r
+    (r : Result End Fault) → EndsToldOrBlind call.shelf_before.contents
+    (command_due migrated (command_asked call.words)) read write quiet gained r → (plan : Plan) (script : Script)
+    → AsksRun call plan script → EndsBy (due_after plan [] script) read write quiet gained r
 ran_script migrated call read write quiet gained r ran plan script a =
     let due = command_due migrated (command_asked call.words) in
     let ran_there : EndsDue (due a.contents) read write quiet gained r = subst

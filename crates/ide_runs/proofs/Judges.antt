@@ -184,12 +184,11 @@ further_done : (topology script verdicts : Option Text) (due : Option Due) (text
 further_done topology script verdicts due text n m ahead is le more = rw is (omega (arith, le, more))
 
 -- after a run that came to the end of its script
-pub far_judged : (topology script verdicts text : Text) (s0 s1 s2 : ShelfSeen) (r : Result End Fault)
-    → s1.contents ≡ s0.contents → IsDue s0.contents (run_on topology script) (end.Done, text)
+pub far_judged : (topology script verdicts text : Text) (s0 s1 s2 : ShelfSeen) (r : Result End Fault) → s1.contents
+    ≡ s0.contents → IsDue s0.contents (run_on topology script) (end.Done, text)
     → ReadAsFar (λ contents. RunNoFurther (contents topology) (contents script)) s0 s1
-    → GaveIfTold s1.contents verdicts s1.given s2.given
-    → IfOk r (λ e. ReadAsFar (λ contents. JudgeNoFurther (contents topology) (contents script) (contents verdicts))
-    s0 s2)
+    → GaveIfTold s1.contents verdicts s1.given s2.given → IfOk r
+    (λ e. ReadAsFar (λ contents. JudgeNoFurther (contents topology) (contents script) (contents verdicts)) s0 s2)
 far_judged topology script verdicts text s0 s1 s2 (Err e) same is one two = tt
 far_judged topology script verdicts text s0 s1 s2 (Ok e) same is one two =
     by_told s0.contents is one (subst (λ (told : Option Contents). GaveIfTold told verdicts s1.given s2.given) same two)

@@ -161,8 +161,7 @@ gave_all_of (Some contents) name read before now is few gave = gave_all_in (cont
 
 pub gave_all : {L : Type 0} (long : L) (told : Option Contents) (name read : Text) (r : Result L Fault) (before now : ℕ)
     → FrontIfTold told name 1048577 read → Gave before (length read) now
-    → IfOk r (λ l. l ≢ long → length read ≤ 1048576)
-    → IfOk r (λ l. l ≢ long → GaveAllOf told name before now)
+    → IfOk r (λ l. l ≢ long → length read ≤ 1048576) → IfOk r (λ l. l ≢ long → GaveAllOf told name before now)
 gave_all long told name read (Ok l) before now is gave few = λ other. gave_all_of told name read before now is
     (few other) gave
 gave_all long told name read (Err e) before now is gave few = few
@@ -281,9 +280,8 @@ ended_by text name s0 s1 o0 o1 (Err e) wrote = by_told s0.contents wrote
 
 -- of the script after a topology that was wholly read
 run_ended_in : (due : Plan → Text → Text) (e : Fault) (topology script : Option Text) (plan : Plan)
-    (s0 s1 s2 : ShelfSeen) (o0 o1 : SinkSeen)
-    → LoadedIn loaded_topology topology (Sound plan) → Gave s0.given (length (bytes_of topology)) s1.given
-    → WroteEndedIn e (due plan) (bytes_of script) s1 s2 o0 o1
+    (s0 s1 s2 : ShelfSeen) (o0 o1 : SinkSeen) → LoadedIn loaded_topology topology (Sound plan)
+    → Gave s0.given (length (bytes_of topology)) s1.given → WroteEndedIn e (due plan) (bytes_of script) s1 s2 o0 o1
     → WroteByIn e (λ n. files_so_far due topology script n) (λ n. script_given topology script n) s0 s2 o0 o1
 run_ended_in due e None script plan s0 s1 s2 o0 o1 is all wrote = absurd is
 run_ended_in due e (Some file) script plan s0 s1 s2 o0 o1 is all wrote =
@@ -305,10 +303,8 @@ run_ended_in due e (Some file) script plan s0 s1 s2 o0 o1 is all wrote =
     }
 
 pub run_ended : (due : Plan → Text → Text) (topology script : Text) (plan : Plan) (s0 s1 s2 : ShelfSeen)
-    (o0 o1 : SinkSeen) (r : Result End Fault)
-    → s1.contents ≡ s0.contents → LoadedIfTold loaded_topology s0.contents topology (Sound plan)
-    → GaveAllOf s0.contents topology
-    s0.given s1.given
+    (o0 o1 : SinkSeen) (r : Result End Fault) → s1.contents ≡ s0.contents
+    → LoadedIfTold loaded_topology s0.contents topology (Sound plan) → GaveAllOf s0.contents topology s0.given s1.given
     → IfErr r (λ e. WroteEnded e (due plan) script s1 s2 o0 o1)
     → IfErr r (λ e. WroteBy e (λ contents n. files_so_far due (contents topology) (contents script) n)
     (λ contents n. script_given (contents topology) (contents script) n) s0 s2 o0 o1)

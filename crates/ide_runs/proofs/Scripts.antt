@@ -114,9 +114,8 @@ past_of : Plan → History → ScriptPast
 past_of plan h = record { plan = plan; history = h }
 
 -- a line before what comes later
-one_line : (plan : Plan) (n : ℕ) (h : History) (m : Result (Option ScriptEvent) LineFault)
-    (later : ScriptPast → Due) (script : Script)
-    → ((g : History) → later (past_of plan g) ≡ due_after plan g script)
+one_line : (plan : Plan) (n : ℕ) (h : History) (m : Result (Option ScriptEvent) LineFault) (later : ScriptPast → Due)
+    (script : Script) → ((g : History) → later (past_of plan g) ≡ due_after plan g script)
     → go_on n (by_meaning (past_of plan h) m) later ≡ due_after plan h (with_line n m script)
 unfolding past_of
 one_line plan n h (Err fault) later script rest = refl

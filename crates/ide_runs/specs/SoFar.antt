@@ -52,8 +52,7 @@ pub record WroteByIn (e : Fault) (text lines : ℕ → Text) (shelf shelf_now : 
   pub gained : GainedAt e sink.held sink_now.held (text ran)
 
 abbrev pub WroteByIfTold : Fault → (text lines : Contents → ℕ → Text) → Option Contents → ShelfSeen → ShelfSeen
-    → SinkSeen
-    → SinkSeen → Type 0
+    → SinkSeen → SinkSeen → Type 0
 WroteByIfTold e text lines None shelf shelf_now sink sink_now = Unit {0}
 WroteByIfTold e text lines (Some contents) shelf shelf_now sink sink_now = WroteByIn e (text contents) (lines contents)
     shelf shelf_now sink sink_now

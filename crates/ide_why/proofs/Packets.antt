@@ -100,8 +100,7 @@ module _ (plan : Plan) (s : WholeLinks) (h : History) (stood : WorldStandsFor (w
 
     received_is : (port : PortName) (p : Packet) (o : Option StreamState)
         → received_read plan s port (option_map_or (held_by p.prefix.sub p.prefix.k) o []) p
-        (option_map (stream_facts (is_closed plan port.line p.prefix.stream)) o)
-        ≡ received_by plan stood.whole port p o
+        (option_map (stream_facts (is_closed plan port.line p.prefix.stream)) o) ≡ received_by plan stood.whole port p o
     received_is port p None = refl
     received_is port p (Some x) =
         (λ i. state_fact (stream_status x)

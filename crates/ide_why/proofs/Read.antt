@@ -48,21 +48,19 @@ module _ (plan : Plan) (s : WholeLinks) (links : AreLinks plan s.links.ends s.li
 
     establish_by : (line stream : ℕ) (q : Option StreamStage)
         → if_found q (λ q. manager_fact q ∷ draws_fact (state_of_whole plan s).draws (pool_of plan)
-        ∷ exchanges_read plan s op.Establish line stream q)
-        ≡ if_found q (λ q. establish_facts plan (ports_of plan (state_of_whole plan s)) line stream q
-        (state_of_whole plan s).draws)
+        ∷ exchanges_read plan s op.Establish line stream q) ≡ if_found q
+        (λ q. establish_facts plan (ports_of plan (state_of_whole plan s)) line stream q (state_of_whole plan s).draws)
     establish_by line stream None = refl
     establish_by line stream (Some q) =
         ap (λ (fs : List Fact). manager_fact q ∷ draws_fact (state_of_whole plan s).draws (pool_of plan) ∷ fs)
         (exchanges_are plan s line stream (state_of_whole plan s).draws op.Establish q)
 
-    refresh_by : (line stream : ℕ) (q : Option StreamStage)
-        → if_found q (λ q. manager_fact q ∷ state_fact (machine_status plan (state_of_whole plan s) Host line stream)
+    refresh_by : (line stream : ℕ) (q : Option StreamStage) → if_found q
+        (λ q. manager_fact q ∷ state_fact (machine_status plan (state_of_whole plan s) Host line stream)
         ∷ draws_fact (state_of_whole plan s).draws (pool_of plan)
         ∷ (opens_read plan s line stream q ++ exchanges_read plan s op.Refresh line stream q))
         ≡ if_found q (λ q. refresh_facts plan (ports_of plan (state_of_whole plan s)) line stream q
-        (state_of_whole plan s).draws
-        (machine_status plan (state_of_whole plan s) Host line stream))
+        (state_of_whole plan s).draws (machine_status plan (state_of_whole plan s) Host line stream))
     refresh_by line stream None = refl
     refresh_by line stream (Some q) =
         (λ i. manager_fact q ∷ state_fact (machine_status plan (state_of_whole plan s) Host line stream)

@@ -74,9 +74,8 @@ pub record IsNamedFace (s : WholeLinks) (number link place : ℕ) : Type 0 where
   pub ends_are : slice_get s.links.ends.links link ≡ Some there
   pub within : place < length there.device.interfaces.interfaces
 
-pub named_face : (s : WholeLinks) (number link place : ℕ)
-    → interface_named s.links.keeper.interfaces s.links.ends.links number ≡ Some (link, place)
-    → IsNamedFace s number link place
+pub named_face : (s : WholeLinks) (number link place : ℕ) → interface_named s.links.keeper.interfaces s.links.ends.links
+    number ≡ Some (link, place) → IsNamedFace s number link place
 named_face s number link place is =
     by (nat_lt number (length s.links.keeper.interfaces.interfaces)) (nat_le number 255) refl refl is
   where

@@ -37,8 +37,7 @@ is_site_requester link requester x = (x.link == link) && (x.plan.requester == re
 -- ---- the lines of an interface that is seen
 
 pub face_is : (draw : ℕ → ℕ → ℕ) (tdis : ℕ → Option DeviceTdi) (y : Site × Face) (f : FaceSeen)
-    → IsFaceSeen draw tdis y f
-    → face_seen f ≡ face_facts y.0 y.1.tdi y.1.managed
+    → IsFaceSeen draw tdis y f → face_seen f ≡ face_facts y.0 y.1.tdi y.1.managed
 face_is draw tdis y f is =
     (λ i. interface_fact (is.number i) (is.state i) ∷ fact.Interface (face.View (is.view i))
     ∷ fact.Interface (face.Needs (is.needs i)) ∷ bound_facts (is.bound i))
@@ -121,15 +120,12 @@ module _ (plan : Plan) (s : WholeLinks) (links : AreLinks plan s.links.ends s.li
       stood.whole
       stood.is.beside links.fits links.many i x p j) (p.interface_is j))
 
-  pub face_read_is : (i : ℕ)
-      → AreFacesSeen stood.whole.draw (device_interface_read s)
-      (find_face (λ x. x.number == i) (sites plan) stood.whole.faces.list)
-      (face_read s i)
+  pub face_read_is : (i : ℕ) → AreFacesSeen stood.whole.draw (device_interface_read s)
+      (find_face (λ x. x.number == i) (sites plan) stood.whole.faces.list) (face_read s i)
   face_read_is i = ⊎_elim here nowhere (cases_lt i (length (sites plan)))
     where
       here : i < length (sites plan) → AreFacesSeen stood.whole.draw (device_interface_read s)
-          (find_face (λ x. x.number == i) (sites plan) stood.whole.faces.list)
-          (face_read s i)
+          (find_face (λ x. x.number == i) (sites plan) stood.whole.faces.list) (face_read s i)
       here lt =
           let x = get_there (sites plan) i lt in
           let p = stood.is.beside.placed i x.0 x.1 in
@@ -140,8 +136,7 @@ module _ (plan : Plan) (s : WholeLinks) (links : AreLinks plan s.links.ends s.li
           (placed_seen i x.0 p x.1))
 
       nowhere : length (sites plan) ≤ i → AreFacesSeen stood.whole.draw (device_interface_read s)
-          (find_face (λ x. x.number == i) (sites plan) stood.whole.faces.list)
-          (face_read s i)
+          (find_face (λ x. x.number == i) (sites plan) stood.whole.faces.list) (face_read s i)
       nowhere le =
           subst (λ o. AreFacesSeen stood.whole.draw (device_interface_read s) o (face_read s i))
           (sym (face_absent plan stood.whole.faces.list i le))
@@ -240,16 +235,14 @@ module _ (plan : Plan) (s : WholeLinks) (links : AreLinks plan s.links.ends s.li
           let no : true ≡ false = sym passes ∙ fails k z.0 z.1 in absurd cc)
           (λ not_so. not_so) cases
 
-  pub requester_read_is : (link requester : ℕ)
-      → AreFacesSeen stood.whole.draw (device_interface_read s) (with_requester plan stood.whole.faces link requester)
-      (requester_read s link requester)
+  pub requester_read_is : (link requester : ℕ) → AreFacesSeen stood.whole.draw (device_interface_read s)
+      (with_requester plan stood.whole.faces link requester) (requester_read s link requester)
   requester_read_is link requester =
       ⊎_elim here nowhere (site_or_none (is_site_requester link requester) (sites plan))
     where
       here : IsSomeSite (is_site_requester link requester) (sites plan)
           → AreFacesSeen stood.whole.draw (device_interface_read s)
-          (with_requester plan stood.whole.faces link requester)
-          (requester_read s link requester)
+          (with_requester plan stood.whole.faces link requester) (requester_read s link requester)
       here t =
           let p = stood.is.beside.placed t.place t.site t.site_is in
           subst (λ o. AreFacesSeen stood.whole.draw (device_interface_read s) o (requester_read s link requester))
@@ -263,8 +256,7 @@ module _ (plan : Plan) (s : WholeLinks) (links : AreLinks plan s.links.ends s.li
 
       nowhere : ((k : ℕ) (y : Site) → slice_get (sites plan) k ≡ Some y → is_site_requester link requester y ≡ false)
           → AreFacesSeen stood.whole.draw (device_interface_read s)
-          (with_requester plan stood.whole.faces link requester)
-          (requester_read s link requester)
+          (with_requester plan stood.whole.faces link requester) (requester_read s link requester)
       nowhere fails =
           subst (λ o. AreFacesSeen stood.whole.draw (device_interface_read s) o (requester_read s link requester))
           (sym (requester_nowhere plan s.links.ends.links s.links.keeper.interfaces s.links.trusted.contents stood.whole

@@ -74,11 +74,9 @@ module _ (plan : Plan) (s : WholeLinks) (links : AreLinks plan s.links.ends s.li
         ∙ ap (λ (st : LinkState). live_by_id (live_draw_at_end plan st) plan.peers link stream) st_is
 
     bind_is : (y : Site × Face) (f : FaceSeen) (line stream : ℕ)
-        → IsFaceSeen stood.whole.draw (device_interface_read s) y f
-        → has_peer plan.peers y.0.link line stream ≡ true
-        → bind_read plan s f line stream
-        ≡ bind_facts (asked_state_of_face plan (whole_streams plan stood.whole) stood.whole.faces.used y.0 y.1) line
-        stream
+        → IsFaceSeen stood.whole.draw (device_interface_read s) y f → has_peer plan.peers y.0.link line stream ≡ true
+        → bind_read plan s f line stream ≡ bind_facts
+        (asked_state_of_face plan (whole_streams plan stood.whole) stood.whole.faces.used y.0 y.1) line stream
     bind_is y f line stream seen has =
         let live = ap (λ (n : ℕ). peer_live s.links.ends n stream) seen.link ∙ peer_live_is y.0.link stream in
         (λ j. peer_facts (op_or_idle (find_op plan (st_is j) line stream))
@@ -99,10 +97,9 @@ module _ (plan : Plan) (s : WholeLinks) (links : AreLinks plan s.links.ends s.li
         by false same = refl
 
     besides_are : (e : InterfaceEvent) (y : Site × Face) (f : FaceSeen)
-        → IsFaceSeen stood.whole.draw (device_interface_read s) y f
-        → besides_read plan s f e
-        ≡ asked_besides plan y.0 (asked_state_of_face plan (whole_streams plan stood.whole) stood.whole.faces.used y.0
-        y.1) e
+        → IsFaceSeen stood.whole.draw (device_interface_read s) y f → besides_read plan s f e
+        ≡ asked_besides plan y.0
+        (asked_state_of_face plan (whole_streams plan stood.whole) stood.whole.faces.used y.0 y.1) e
     besides_are (ie.Lock i loss) y f seen =
         (λ j. state_fact (machine_status plan (st_is j) Host (seen.link j) (seen.stream j)) ∷ [])
     besides_are (ie.Start i loss) y f seen =

@@ -73,9 +73,8 @@ and_false false = refl
 
 -- `a` says that the place is there at an exchange that is left
 refusing_found : (a : Bool) (p : Place) (k closed : Bool) (o : Option StreamState)
-    → option_map_or (λ sets. a && refuses_seen k sets)
-    (option_map (lane_sets p) (option_map (stream_facts closed) o)) false
-    ≡ (a && is_some (refusal_if (refuses_at p.sends p.sub k o)))
+    → option_map_or (λ sets. a && refuses_seen k sets) (option_map (lane_sets p) (option_map (stream_facts closed) o))
+    false ≡ (a && is_some (refusal_if (refuses_at p.sends p.sub k o)))
 refusing_found a p k closed None = and_false a
 refusing_found a p k closed (Some x) =
     ap (λ b. a && b) (ap (refuses_seen k) (sets_are p closed x) ∙ refuses_is k (slots_at p.sends p.sub x)
@@ -137,9 +136,8 @@ module _ (plan : Plan) (s : WholeLinks) (o : Operation) (set : Bool) (first : �
       → refusal_facts plan o (first_refusing plan s o set first side line stream) ≡ due (places_of side line stream)
   six_are side line stream = six_before None [] side line stream refl
 
-  twelve_are : (next : Option Place) (ks : List KeyPlace) (side : Side) (line stream : ℕ)
-      → refusal_facts plan o next ≡ due ks
-      → refusal_facts plan o (place_or (first_refusing plan s o set first side line stream) next)
+  twelve_are : (next : Option Place) (ks : List KeyPlace) (side : Side) (line stream : ℕ) → refusal_facts plan o next
+      ≡ due ks → refusal_facts plan o (place_or (first_refusing plan s o set first side line stream) next)
       ≡ due (places_of side line stream ++ ks)
   twelve_are next ks side line stream same =
       ap (refusal_facts plan o) (or_is next) ∙ six_before next ks side line stream same

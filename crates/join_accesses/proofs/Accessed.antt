@@ -239,10 +239,9 @@ module _ (plan : Plan) (ends : List LinkEnds) (m : InterfacesView) (memory : Mem
 
   module _ (xs : List LinkAccesses) (whole : length xs ≡ length ends)
       (accesses : AreAccesses plan (link_seen xs) w.accesses) where
-    statuses_there : (link : ℕ) (l : LinkEnds) (a : LinkAccesses) → slice_get ends link ≡ Some l
-        → slice_get xs link ≡ Some a
-        → device_statuses a.floors l.device.interfaces ≡ face_statuses link (sites plan) w.faces.list
-        w.accesses.floors
+    statuses_there : (link : ℕ) (l : LinkEnds) (a : LinkAccesses) → slice_get ends link ≡ Some l → slice_get xs link
+        ≡ Some a → device_statuses a.floors l.device.interfaces
+        ≡ face_statuses link (sites plan) w.faces.list w.accesses.floors
     statuses_there link l a is at =
         let floors : a.floors ≡ on_link link (sites plan) w.accesses.floors =
         ap (λ (o : Option LinkAccesses). option_map_or (λ x. x.floors) o []) (sym at) ∙ accesses.floors link in
@@ -280,8 +279,7 @@ module _ (plan : Plan) (ends : List LinkEnds) (m : InterfacesView) (memory : Mem
     -- ---- answers
 
     reader_known : (link requester place : ℕ) (x : Site) → slice_get (sites plan) place ≡ Some x
-        → reads_there link requester x ≡ true
-        → interface_of_requester m link requester ≡ Some place
+        → reads_there link requester x ≡ true → interface_of_requester m link requester ≡ Some place
     reader_known link requester place x is passes =
         let mine = and_parts (x.link == link) (x.plan.requester == requester) passes in
         let p = beside.placed place x is in
@@ -320,9 +318,8 @@ module _ (plan : Plan) (ends : List LinkEnds) (m : InterfacesView) (memory : Mem
     reader_unknown link requester fails = position_none (is_reader link requester) m.interfaces
         (λ k y there. none k y there (cases_Bool (is_reader link requester y)))
       where
-        none : (k : ℕ) (y : HostTdi) → slice_get m.interfaces k ≡ Some y
-            → (is_reader link requester y ≡ true) ⊎ (is_reader link requester y ≡ false)
-            → is_reader link requester y ≡ false
+        none : (k : ℕ) (y : HostTdi) → slice_get m.interfaces k ≡ Some y → (is_reader link requester y ≡ true)
+            ⊎ (is_reader link requester y ≡ false) → is_reader link requester y ≡ false
         none k y there cases = ⊎_elim
             (λ so.
             let z = get_there (sites plan) k
@@ -356,9 +353,8 @@ module _ (plan : Plan) (ends : List LinkEnds) (m : InterfacesView) (memory : Mem
         (site_or_none (reads_there link requester) (sites plan))
       where
         first : (s : IsSomeSite (reads_there link requester) (sites plan)) (k : ℕ) (y : Site) → k < s.place
-            → slice_get (sites plan) k ≡ Some y
-            → (reads_there link requester y ≡ true) ⊎ (reads_there link requester y ≡ false)
-            → reads_there link requester y ≡ false
+            → slice_get (sites plan) k ≡ Some y → (reads_there link requester y ≡ true)
+            ⊎ (reads_there link requester y ≡ false) → reads_there link requester y ≡ false
         first s k y lt at cases = ⊎_elim
             (λ also.
             let its = and_parts (y.link == link) (y.plan.requester == requester) also in
@@ -448,9 +444,8 @@ module _ (plan : Plan) (ends : List LinkEnds) (m : InterfacesView) (memory : Mem
           mmio_if (option_map_or (λ (at : ℕ × ℕ). has_bytes (sizes_at xs at.0) at.1 bar offset len) o false)
           (option_map_or (λ (at : ℕ × ℕ). bytes_from (mmio_at xs at.0 at.1 bar) offset len) o [])
 
-      shown_there : (i : ℕ) (x : Site) (p : IsPlaced plan ends m w i x) (bar offset len : ℕ)
-          → slice_get (sites plan) i ≡ Some x
-          → shown_by (Some (x.link, p.place)) bar offset len
+      shown_there : (i : ℕ) (x : Site) (p : IsPlaced plan ends m w i x) (bar offset len : ℕ) → slice_get (sites plan) i
+          ≡ Some x → shown_by (Some (x.link, p.place)) bar offset len
           ≡ mmio_shown plan w.accesses.happened (Some x) bar offset len
       shown_there i x p bar offset len is =
           (λ j. mmio_if (fits_range (4096 * slice_index (sizes_there i x p is j) bar) offset len)

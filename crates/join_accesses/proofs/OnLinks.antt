@@ -156,10 +156,9 @@ on_link_past plan link k ys many le =
 
 -- ---- one is changed
 
-pub on_link_set : {A : Type 0} (plan : Plan) (link place : ℕ) (ys : List A) (y : A)
-    → length ys ≡ length (sites plan) → place < length (planned_on plan.links link)
-    → on_link link (sites plan) (slice_set ys (interfaces_before plan.links link + place) y)
-    ≡ slice_set (on_link link (sites plan) ys) place y
+pub on_link_set : {A : Type 0} (plan : Plan) (link place : ℕ) (ys : List A) (y : A) → length ys ≡ length (sites plan)
+    → place < length (planned_on plan.links link) → on_link link (sites plan)
+    (slice_set ys (interfaces_before plan.links link + place) y) ≡ slice_set (on_link link (sites plan) ys) place y
 on_link_set plan link place ys y many lt =
     let b = interfaces_before plan.links link in
     let n = length (planned_on plan.links link) in

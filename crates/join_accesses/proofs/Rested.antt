@@ -108,8 +108,7 @@ touches_memory (event.Interface (ie.Flr i)) = true
 touches_memory e = false
 
 pub none_stored : (plan : Plan) (statuses : ℕ → List InterfaceStatus) (e : Event) (port : PortName) (unit : UnitName)
-    (effects : List Effect) (link : ℕ)
-    → [] ≡ happens_by plan statuses [] e (v.Accepted port unit effects) link
+    (effects : List Effect) (link : ℕ) → [] ≡ happens_by plan statuses [] e (v.Accepted port unit effects) link
 none_stored plan statuses e port unit effects link =
     by ((port_of plan port).line == link) (is_device_port plan (port_of plan port))
   where
@@ -192,8 +191,7 @@ came f g = not (is_run f.tdi.state) && is_run g.tdi.state
 
 -- only the floor of the interface of this number changes, if it came into RUN
 pub floors_started : (base k : ℕ) (loss : Option Loss) (draw : Site → ℕ) (xs : List Site) (fs gs : List Face)
-    (ns : List ℕ) (x : Site) (f g : Face)
-    → ((j : ℕ) (y : Site) → slice_get xs j ≡ Some y → y.number ≡ base + j)
+    (ns : List ℕ) (x : Site) (f g : Face) → ((j : ℕ) (y : Site) → slice_get xs j ≡ Some y → y.number ≡ base + j)
     → slice_get xs k ≡ Some x → slice_get fs k ≡ Some f → slice_get gs k ≡ Some g → AreMany xs fs gs ns
     → floors_after (event.Interface (ie.Start (base + k) loss)) draw xs fs gs ns
     ≡ (if came f g then slice_set ns k (draw x) else ns)

@@ -44,8 +44,7 @@ use Rattle.join_world.specs.{AccessesInterface, AccessesTurn, AreLeftBy, arrival
 use Rattle.join_world.specs.{carried_after_event, device_draw, floors_at, floors_set, floors_started, flr_at, halted_in}
 use Rattle.join_world.specs.{happens_at, interface_named, LinkEnds, links_state, mmio_at, nothing_happens, reads_at}
 use Rattle.join_world.specs.{reset_happens, runs_in, same_carried, same_floors, same_reads, sizes_at}
-use Rattle.join_world.specs.{named_device_interface}
-use Rattle.join_world.specs.{interface_of_ends, WholeLinks}
+use Rattle.join_world.specs.{named_device_interface, interface_of_ends, WholeLinks}
 use Rattle.spec_links.specs.Hops.{HopTlp}
 use Rattle.law_reads.specs.Waiting.{waiting_next}
 use Rattle.machine_whole.specs.Accesses.{device_draw_at, floors_after, face_statuses, unit_tlps, waiting_reads_after}
@@ -61,8 +60,8 @@ use Rattle.join_world.proofs.Places.{get_there, site_numbered}
 use Rattle.join_world.proofs.Sites.{held_before, interface_there, interface_absent, located_read}
 use Rattle.join_world.proofs.Statuses.{device_draw_is}
 use Rattle.join_accesses.proofs.Rested.{AreMany, touches_hops, touches_reads, touches_memory, hops_rest, no_unit}
-use Rattle.join_accesses.proofs.Rested.{starts, reads_rest, memory_rests, none_stored}
-use Rattle.join_accesses.proofs.Rested.{floors_rest, floors_many, floors_started as started, floors_unnamed}
+use Rattle.join_accesses.proofs.Rested.{starts, reads_rest, memory_rests, none_stored, floors_rest, floors_many}
+use Rattle.join_accesses.proofs.Rested.{floors_started as started, floors_unnamed}
 
 -- nothing changes
 stays : (xs ys : List LinkAccesses) → ys ≡ xs → AccessesTurn same_reads same_floors nothing_happens same_carried xs ys
@@ -142,15 +141,14 @@ module _ (plan : Plan) (old new : WholeLinks) (w : Whole) (verdict : Verdict)
   turned : (e : Event) (reads_then : ℕ → List WaitingRead → List WaitingRead) (floors_then : ℕ → List ℕ → List ℕ)
       (happens : ℕ → List (Option Happened)) (carried_then : ℕ → Direction → List HopTlp → List HopTlp) → IsAfter e
       → AccessesTurn reads_then floors_then happens carried_then old.accesses new.accesses
-      → ((link : ℕ) (rs : List WaitingRead)
-      → reads_then link rs ≡ waiting_reads_after plan (ended_unit plan w e) e verdict link rs)
+      → ((link : ℕ) (rs : List WaitingRead) → reads_then link rs
+      ≡ waiting_reads_after plan (ended_unit plan w e) e verdict link rs)
       → ((link : ℕ) → floors_then link (on_link link (sites plan) w.accesses.floors)
       ≡ on_link link (sites plan)
       (floors_after e (device_draw_at plan w.links) (sites plan) w.faces.list (faces_now e) w.accesses.floors))
       → ((link : ℕ) → happens link ≡ happens_by plan statuses (ended_unit plan w e) e verdict link)
       → ((link : ℕ) (d : Direction) (xs : List HopTlp) → link < 8 → carried_then link d xs
-      ≡ waiting_next (unit_tlps plan (ended_unit plan w e) verdict) link d e verdict xs)
-      → AreAfter e
+      ≡ waiting_next (unit_tlps plan (ended_unit plan w e) verdict) link d e verdict xs) → AreAfter e
   turned e reads_then floors_then happens carried_then after turn reads floors same carried = record {
     floored = floors_many e (device_draw_at plan w.links) (sites plan) w.faces.list (faces_now e) w.accesses.floors
         (are_many e after);
@@ -225,8 +223,7 @@ module _ (plan : Plan) (old new : WholeLinks) (w : Whole) (verdict : Verdict)
   -- ---- answers
 
   answered : (link : ℕ) → IsAfter (event.Access (ae.Answer link))
-      → AccessesAnswer plan (event.Access (ae.Answer link)) verdict old new
-      → AreAfter (event.Access (ae.Answer link))
+      → AccessesAnswer plan (event.Access (ae.Answer link)) verdict old new → AreAfter (event.Access (ae.Answer link))
   answered link after turn =
       let e = event.Access (ae.Answer link) in
       turned e (waiting_reads_after plan [] e verdict) same_floors nothing_happens same_carried after turn
@@ -326,12 +323,10 @@ module _ (plan : Plan) (old new : WholeLinks) (w : Whole) (verdict : Verdict)
 
   -- what happens at the place of the interface is what happens to it by number
   happens_there : (e : Event) (after : IsAfter e) (i link : ℕ) (b : Bool) (which : ℕ → List BarPlan → Happened)
-      (by_site : Option Site → List (Option Happened))
-      → by_site None ≡ [] → ((x : Site) → by_site (Some x) ≡ happens_if ((x.link == link) && b)
-      (which (place_of plan x) x.plan.bars))
+      (by_site : Option Site → List (Option Happened)) → by_site None ≡ []
+      → ((x : Site) → by_site (Some x) ≡ happens_if ((x.link == link) && b) (which (place_of plan x) x.plan.bars))
       → happens_at b (interface_named new.links.keeper.interfaces new.links.ends.links i)
-      (λ place. which place (bars_named new.links i)) link
-      ≡ by_site (site_at plan i)
+      (λ place. which place (bars_named new.links i)) link ≡ by_site (site_at plan i)
   happens_there e after i link b which by_site absent there = ⊎_elim
       (λ lt. let x = get_there (sites plan) i lt in at x.0 x.1 (after.placed i x.0 x.1))
       (λ le. ap (λ (o : Option (ℕ × ℕ)). happens_at b o (λ place. which place (bars_named new.links i)) link)
@@ -341,8 +336,7 @@ module _ (plan : Plan) (old new : WholeLinks) (w : Whole) (verdict : Verdict)
     where
       at : (x : Site) → slice_get (sites plan) i ≡ Some x
           → (p : IsPlaced plan new.links.ends.links new.links.keeper.interfaces (whole_after plan w e verdict links_now)
-          i x)
-          → happens_at b (interface_named new.links.keeper.interfaces new.links.ends.links i)
+          i x) → happens_at b (interface_named new.links.keeper.interfaces new.links.ends.links i)
           (λ place. which place (bars_named new.links i)) link ≡ by_site (site_at plan i)
       at x is p =
           ap (λ (o : Option (ℕ × ℕ)). happens_at b o (λ place. which place (bars_named new.links i)) link)
@@ -484,9 +478,8 @@ module _ (plan : Plan) (old new : WholeLinks) (w : Whole) (verdict : Verdict)
 
         floors_by : (b c : Bool) (link : ℕ) → came_in ≡ b → (x.link == link) ≡ c
             → (if b then (if c then slice_set (on_link link (sites plan) w.accesses.floors) q.place
-            (device_draw_at plan w.links x) else on_link link (sites plan) w.accesses.floors)
-            else on_link link (sites plan) w.accesses.floors)
-            ≡ on_link link (sites plan)
+            (device_draw_at plan w.links x) else on_link link (sites plan) w.accesses.floors) else on_link link
+            (sites plan) w.accesses.floors) ≡ on_link link (sites plan)
             (if b then slice_set w.accesses.floors i (device_draw_at plan w.links x) else w.accesses.floors)
         floors_by true true link came_now here = set_there link (device_draw_at plan w.links x) here
         floors_by true false link came_now far = set_elsewhere link (device_draw_at plan w.links x) far
@@ -499,9 +492,8 @@ module _ (plan : Plan) (old new : WholeLinks) (w : Whole) (verdict : Verdict)
         draw_at c link is floors =
             ap (λ (d : ℕ). if c then slice_set floors q.place d else floors) draw_is
 
-        floors_there : (link : ℕ)
-            → floors_started old.links new.links i link (on_link link (sites plan) w.accesses.floors)
-            ≡ on_link link (sites plan) floors_machine
+        floors_there : (link : ℕ) → floors_started old.links new.links i link
+            (on_link link (sites plan) w.accesses.floors) ≡ on_link link (sites plan) floors_machine
         floors_there link =
             (λ j. if came_is j then floors_set new.links i (interface_now e_start after i x at q j) link
             (on_link link (sites plan) w.accesses.floors) else on_link link (sites plan) w.accesses.floors)
@@ -510,9 +502,8 @@ module _ (plan : Plan) (old new : WholeLinks) (w : Whole) (verdict : Verdict)
             ∙ (floors_by came_in (x.link == link) link refl refl
             ∙ ap (λ (ns : List ℕ). on_link link (sites plan) ns) (sym machine_floors)))
 
-    floors_nowhere : length (sites plan) ≤ i → (link : ℕ)
-        → floors_started old.links new.links i link (on_link link (sites plan) w.accesses.floors)
-        ≡ on_link link (sites plan) floors_machine
+    floors_nowhere : length (sites plan) ≤ i → (link : ℕ) → floors_started old.links new.links i link
+        (on_link link (sites plan) w.accesses.floors) ≡ on_link link (sites plan) floors_machine
     floors_nowhere le link =
         (λ j. if not (runs_in old.links i) && runs_in new.links i
         then floors_set new.links i (nowhere_now e_start after i le j) link

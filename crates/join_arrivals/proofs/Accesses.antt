@@ -395,10 +395,9 @@ module _ (plan : Plan) (ends : EndsView) (k : KeeperView) (packets : List LinkPa
       ≡ newest_happened (of_unit answer (λ unit. map (packet_stored (link_statuses l a) port unit) delivered)) older
   stores_agree older = by_side port.side refl
     where
-      by_side : (s : Side) → port.side ≡ s
-          → newest_happened (of_unit answer (λ unit. unit_happenings (link_statuses l a) plan end unit ended)) older
-          ≡ newest_happened (of_unit answer (λ unit. map (packet_stored (link_statuses l a) port unit) delivered))
-          older
+      by_side : (s : Side) → port.side ≡ s → newest_happened
+          (of_unit answer (λ unit. unit_happenings (link_statuses l a) plan end unit ended)) older
+          ≡ newest_happened (of_unit answer (λ unit. map (packet_stored (link_statuses l a) port unit) delivered)) older
       by_side Device device =
           ap (λ (hs : List (Option Happened)). newest_happened hs older)
           (agrees (λ unit ps. unit_happenings (link_statuses l a) plan end unit ps)
@@ -412,12 +411,11 @@ module _ (plan : Plan) (ends : EndsView) (k : KeeperView) (packets : List LinkPa
   abbrev says : Verdict
   says = arrival_verdict end port answer effects
 
-  turns_here : (new : List HopTlp) (a' : LinkAccesses)
-      → a'.reads ≡ a.reads ++ of_unit answer (λ unit. reads_by unit.draw (effects unit) delivered)
-      → a'.floors ≡ a.floors → a'.guarded.sizes ≡ a.guarded.sizes
-      → MmioLeads a.guarded (of_unit answer (λ unit. map (packet_stored (link_statuses l a) port unit) delivered))
-      a'.guarded → a'.carried ≡ a.carried
-      → TurnsHere (waiting_reads_after plan ended e says port.line) (same_floors port.line)
+  turns_here : (new : List HopTlp) (a' : LinkAccesses) → a'.reads ≡ a.reads
+      ++ of_unit answer (λ unit. reads_by unit.draw (effects unit) delivered) → a'.floors ≡ a.floors → a'.guarded.sizes
+      ≡ a.guarded.sizes → MmioLeads a.guarded
+      (of_unit answer (λ unit. map (packet_stored (link_statuses l a) port unit) delivered)) a'.guarded → a'.carried
+      ≡ a.carried → TurnsHere (waiting_reads_after plan ended e says port.line) (same_floors port.line)
       (happens_by plan statuses ended e says port.line) (carried_next new e says port.line) a a'
   turns_here new a' reads floors sizes stored carried = record {
     reads_are = reads ∙ ap (λ (ws : List WaitingRead). a.reads ++ ws) (sym reads_agree)

@@ -75,9 +75,8 @@ module _ (plan : Plan) (policy : Policy) (port : PortName) (unit : UnitName) (ap
   same_host waiting p (Err f) = refl
   same_host waiting p (Ok head) = refl
 
-  same_device : (p : Packet) (r : Result HeadView TlpFault)
-      → claimed_effect (policy.statuses port.line) unit p.prefix.t r
-      ≡ device_effect (policy.statuses port.line) unit p r
+  same_device : (p : Packet) (r : Result HeadView TlpFault) → claimed_effect (policy.statuses port.line) unit p.prefix.t
+      r ≡ device_effect (policy.statuses port.line) unit p r
   same_device p (Err f) = refl
   same_device p (Ok head) = refl
 

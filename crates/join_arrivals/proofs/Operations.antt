@@ -142,8 +142,7 @@ module _ (plan : Plan) (ends : EndsView) (k : KeeperView) (packets : List LinkPa
 
   steps_by : (b : BesidePorts) (operation : Operation) (line id : ℕ) (n : Named) (loss : Option Loss)
       (near far near' far' : PortEnd) (v' : EndsView) (k' : KeeperView) (result : StreamOutcome) (verdict : Verdict)
-      → AreLinks plan ends k → WorksOn operation line
-      → Gives operation line id n loss near far near' far' k' result
+      → AreLinks plan ends k → WorksOn operation line → Gives operation line id n loss near far near' far' k' result
       → rows_of v' ≡ rows_of (with_both ends line near' far') → AreLinks plan v' k
       → verdict_of operation line id loss result ≡ Some verdict
       → StepsTo plan v' k' packets verdict (step_of plan b st (operation_event operation line id loss))
@@ -543,9 +542,8 @@ module _ (plan : Plan) (ends : EndsView) (k : KeeperView) (packets : List LinkPa
       })
 
   on_pair : PairOperationsJoin → (i : ℕ) → line ≡ 16 + i → line_place line ≡ Pair i → is_hosted line ≡ false
-      → is_link_line line ≡ false
-      → IsSome (port_at_place ends Host (Pair i)) → OperatesByPlace ends (Pair i) k call loss result ends' k'
-      → Comes ends'
+      → is_link_line line ≡ false → IsSome (port_at_place ends Host (Pair i))
+      → OperatesByPlace ends (Pair i) k call loss result ends' k' → Comes ends'
   on_pair joins i line_is place paired late some operates =
       let at = mapped_from (λ (l : PairEnds). pair_port Host l) (slice_get ends.pairs i) some in
       let l : PairEnds = at.0 in

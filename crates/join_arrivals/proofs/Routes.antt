@@ -321,11 +321,9 @@ module _ (plan : Plan) (fits : FitsPlan plan) where
           let one = ap (λ (q : PortName). q.line) (same_Some x e same) in
           (0, omega (arith, line, one), omega arith)
 
-      by : (a b : Bool) → (peer_end ps (n + 1) link id ≡ Some e
-          → (k : ℕ) × (e.line ≡ 24 + ((n + 1) + k)) × (k < length ps))
-          → (if a then Some (host_port (peer_line n)) else if b then Some (device_port (peer_line n))
-          else peer_end ps (n + 1) link id) ≡ Some e
-          → (k : ℕ) × (e.line ≡ 24 + (n + k)) × (k < length (p ∷ ps))
+      by : (a b : Bool) → (peer_end ps (n + 1) link id ≡ Some e → (k : ℕ) × (e.line ≡ 24 + ((n + 1) + k))
+          × (k < length ps)) → (if a then Some (host_port (peer_line n)) else if b then Some (device_port (peer_line n))
+          else peer_end ps (n + 1) link id) ≡ Some e → (k : ℕ) × (e.line ≡ 24 + (n + k)) × (k < length (p ∷ ps))
       by true b later is = here (host_port (peer_line n)) refl is
       by false true later is = here (device_port (peer_line n)) refl is
       by false false later is =

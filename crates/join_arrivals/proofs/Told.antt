@@ -55,8 +55,7 @@ module _ (o : Operation) (line id : ℕ) (loss : Option Loss) where
   pair_next_told requester e (Some a) = outcome_told false a (pair_exchanged loss requester a e).judged
 
   pair_goes_told : (q : StreamOutcome) (e : PairStreams) (rest : PairWalked) → is_told o (verdict_of o line id loss q)
-      ≡ true
-      → is_told o (verdict_of o line id loss rest.outcome) ≡ true
+      ≡ true → is_told o (verdict_of o line id loss rest.outcome) ≡ true
       → is_told o (verdict_of o line id loss (pair_goes_on q e rest).outcome) ≡ true
   pair_goes_told outcome.Next e rest told more = more
   pair_goes_told q e rest told more = told
@@ -80,9 +79,8 @@ outcome_unless None walked = walked
 
 pub pool_same : (o : Operation) (line id : ℕ) (q : StreamStage) (host : HostView) (pool : Pool) (loss : Option Loss)
     (walked : StreamOutcome) (verdict : Verdict) (w : Work) (r : Option StreamRefusal) → refusal_of o q host pool ≡ r
-    → is_told o (verdict_of o line id loss walked) ≡ true
-    → verdict_of o line id loss (outcome_unless r walked) ≡ Some verdict
-    → unless r pool (begun_pool w pool) ≡ pool_by w (reach_of o verdict) pool
+    → is_told o (verdict_of o line id loss walked) ≡ true → verdict_of o line id loss (outcome_unless r walked)
+    ≡ Some verdict → unless r pool (begun_pool w pool) ≡ pool_by w (reach_of o verdict) pool
 pool_same o line id q host pool loss walked verdict w (Some r) refused told is =
     let none : reach_of o verdict ≡ None = refused_reach line o q host pool loss r verdict refused is in
     sym (ap (λ (p : Option Reach). pool_by w p pool) none)

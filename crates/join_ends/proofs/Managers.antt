@@ -88,11 +88,9 @@ pub record ChangesLink (line : ℕ) (f : List StreamView → List StreamView)
       → (line_ops ss (f vs) ≡ line_ops ss vs) × (views_after ss (f vs) ≡ f (views_after ss vs))
 
 pub ops_changed : (line : ℕ) (f : List StreamView → List StreamView)
-    (g : List StreamPlan → List StreamStage → List StreamStage)
-    → ChangesLink line f g
+    (g : List StreamPlan → List StreamStage → List StreamStage) → ChangesLink line f g
     → (links : List (List StreamPlan)) (from i : ℕ) (vs : List StreamView) → from + i ≡ line → map name_of vs
-    ≡ names_from_line from links
-    → ops_by_line links (f vs) ≡ slice_set (ops_by_line links vs) i
+    ≡ names_from_line from links → ops_by_line links (f vs) ≡ slice_set (ops_by_line links vs) i
     (g (slice_index_or links i []) (slice_index_or (ops_by_line links vs) i []))
 ops_changed line f g c [] from i vs at names = refl
 ops_changed line f g c (ss ∷ links) from zero vs at names =

@@ -143,8 +143,7 @@ module _ (plan : Plan) (k : KeeperView) (packets : List LinkPacket) (line id : �
 
   kept_side : (v : EndsView) (side : Side) (e e' : PortEnd) (f : Found) (x : StreamState) → AreLinks plan v k
       → port_on v (port_at side line) ≡ Some e → found_stream e.plans e.states id ≡ Some f → HasStream e id x e' → x
-      ≡ f.state
-      → state_of plan v k packets ≡ state_of plan (with_port_on v (port_at side line) e') k packets
+      ≡ f.state → state_of plan v k packets ≡ state_of plan (with_port_on v (port_at side line) e') k packets
   kept_side v side e e' f x links is at has x_is =
       state_kept plan v k packets (wired plan v k links) (port_at side line) e is e' (ap (λ (p : PortEnd). p.states) has
       ∙ (ap (λ (z : StreamState). changed_states e.plans e.states id z) x_is ∙ changed_same _ _ id f at))

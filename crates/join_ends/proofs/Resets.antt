@@ -381,8 +381,7 @@ links_reset plan link ends v k links =
     (reset_names ends k.manager.streams) (reset_kept plan ends k.manager.streams links.kept) refl
 
 pub state_reset : (plan : Plan) (v : EndsView) (k : KeeperView) (packets : List LinkPacket) (link : ℕ)
-    (ends : List PortName) → AreLinks plan v k
-    → state_of plan (reset_all link ends v) (keeper_reset ends k) packets
+    (ends : List PortName) → AreLinks plan v k → state_of plan (reset_all link ends v) (keeper_reset ends k) packets
     ≡ reset_state plan (state_of plan v k packets) ends
 state_reset plan v k packets link ends links =
     let u : EndsView = unlocked_link (all_cleared v ends) link in

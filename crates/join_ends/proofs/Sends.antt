@@ -197,9 +197,8 @@ module _ (plan : Plan) (ends : EndsView) (k : KeeperView) (packets : List LinkPa
           same)
 
       by_outgoing : (o : Outgoing) → outgoing_of (streams_of plan end.line) end.side bytes ≡ o
-          → stepped_send plan b st end o more asked
-          ≡ state_after_send plan ends k packets end (send_step e o more (λ head stream. b.t end head stream asked)
-          (length packets + 1))
+          → stepped_send plan b st end o more asked ≡ state_after_send plan ends k packets end
+          (send_step e o more (λ head stream. b.t end head stream asked) (length packets + 1))
       by_outgoing (NoTlp fault) comes = unsealed_as (λ n. v.Malformed n (tlp_word fault) (place_in fault)) refl
       by_outgoing OnNone comes = unsealed_as (λ n. v.Plain n) refl
       by_outgoing (OnStream t id) comes =

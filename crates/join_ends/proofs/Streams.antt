@@ -119,9 +119,8 @@ module _ (plan : Plan) (v : EndsView) (k : KeeperView) (links : AreLinks plan v 
 
 -- ---- what is found at an end
 
-pub end_found : (plan : Plan) (v : EndsView) (k : KeeperView) (packets : List LinkPacket) (end : PortName)
-    (e : PortEnd) (stream : ℕ) → AreLinks plan v k → port_on v end ≡ Some e
-    → find plan (state_of plan v k packets) end stream
+pub end_found : (plan : Plan) (v : EndsView) (k : KeeperView) (packets : List LinkPacket) (end : PortName) (e : PortEnd)
+    (stream : ℕ) → AreLinks plan v k → port_on v end ≡ Some e → find plan (state_of plan v k packets) end stream
     ≡ option_map (λ (f : Found). f.state) (found_stream e.plans e.states stream)
 end_found plan v k packets end e stream links is =
     find_at plan v k packets (wired plan v k links) end e is stream (port_is plan v k links end e is)
@@ -153,8 +152,7 @@ name_is m v line stream a b is = tested (is_some (port_on v (host_port line))) (
     is
   where
     tested : (p q : Bool) → is_some (port_on v (host_port line)) ≡ p → is_some (named_stream m line stream) ≡ q
-        → Some (a, b) ≡ name_if (nat_lt line 32 && nat_le stream 255 && p && q) line stream
-        → IsName m v line stream a b
+        → Some (a, b) ≡ name_if (nat_lt line 32 && nat_le stream 255 && p && q) line stream → IsName m v line stream a b
     tested p q there names is = grind (arith, nat_tests)
 
 no_op : (o : Option Named) → is_some o ≡ false → op_named o ≡ None
@@ -216,9 +214,8 @@ unnamed plan v k packets line stream links is =
     gone none = ap (λ (ss : List StreamPlan). machine.found_by_id ss os stream)
         (absent plan v k links Host line none).no_streams
 
-    by_tests : (a b c d : Bool) → nat_lt line 32 ≡ a → nat_le stream 255 ≡ b
-        → is_some (port_on v (host_port line)) ≡ c → is_some (named_stream k.manager line stream) ≡ d
-        → None ≡ name_if (a && b && c && d) line stream
+    by_tests : (a b c d : Bool) → nat_lt line 32 ≡ a → nat_le stream 255 ≡ b → is_some (port_on v (host_port line)) ≡ c
+        → is_some (named_stream k.manager line stream) ≡ d → None ≡ name_if (a && b && c && d) line stream
         → machine.found_by_id (streams_of plan line) os stream ≡ None
     by_tests false b c d late less there names none = gone (past_lines plan v k line links late)
     by_tests true false c d late less there names none =
@@ -258,9 +255,8 @@ port_found plan v k packets h end stream e links stands known is =
     let f = found_some (found_stream e.plans e.states stream) (stream_state_due plan h end stream) (sym seen ∙ one) in
     (f.0, f.1, seen ∙ ap (λ (o : Option Found). option_map (λ (f : Found). f.state) o) f.1)
 
-pub at_side : (plan : Plan) (v : EndsView) (k : KeeperView) (packets : List LinkPacket) (h : History)
-    (line stream : ℕ) (side : Side) (e : PortEnd) → AreLinks plan v k
-    → PortsStandFor plan (state_of plan v k packets) h
+pub at_side : (plan : Plan) (v : EndsView) (k : KeeperView) (packets : List LinkPacket) (h : History) (line stream : ℕ)
+    (side : Side) (e : PortEnd) → AreLinks plan v k → PortsStandFor plan (state_of plan v k packets) h
     → is_some (stream_plan plan line stream) ≡ true → port_on v (port_at side line) ≡ Some e
     → port_stream_status e stream ≡ Some (machine_status plan (state_of plan v k packets) side line stream)
 at_side plan v k packets h line stream side e links stands known is =

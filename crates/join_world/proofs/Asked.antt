@@ -96,12 +96,11 @@ module _ (plan : Plan) (v : EndsView) (k : HostKeeper) (packets : List LinkPacke
 
   -- the operation reads of the ends and of the draws what the machine has
   operated_is : (i : ℕ) (o : InterfaceOperation) (loss : Option Loss) (x : Site)
-      (p : IsPlaced plan v.links k.interfaces w i x)
-      → interface_operated i o (op_host (whole_streams plan w).op ((whole_streams plan w).host x.link x.plan.stream) o)
+      (p : IsPlaced plan v.links k.interfaces w i x) → interface_operated i o
+      (op_host (whole_streams plan w).op ((whole_streams plan w).host x.link x.plan.stream) o)
       (whole_streams plan w).drawn (said_of (whole_streams plan w) x (live_for (peer_live v x.link) o)) loss
-      k.interfaces
-      p.link_ends.device.interfaces p.interface
-      ≡ operated_on i o loss k.keys (peer_live v x.link) k.interfaces p.link_ends p.interface
+      k.interfaces p.link_ends.device.interfaces p.interface ≡ operated_on i o loss k.keys (peer_live v x.link)
+      k.interfaces p.link_ends p.interface
   operated_is i o loss x p =
       let secure : machine_secure plan w.links x.link x.plan.stream
       ≡ secure_at p.link_ends.device.port p.interface.stream =
@@ -168,8 +167,7 @@ module _ (plan : Plan) (v : EndsView) (k : HostKeeper) (packets : List LinkPacke
       → (has_peer plan.peers x.link line stream ≡ false → said.Nothing
       ≡ asked_due plan x (asked_state_of_face plan (whole_streams plan w) w.faces.used x p.face) (op_event o i loss))
       → (if has_peer v.peers x.link line stream then verdict_in i o loss
-      (ended_if_there k v i o loss (Some (x.link, p.place)))
-      else Some said.Nothing)
+      (ended_if_there k v i o loss (Some (x.link, p.place))) else Some said.Nothing)
       ≡ Some (asked_due plan x (asked_state_of_face plan (whole_streams plan w) w.faces.used x p.face)
       (op_event o i loss))
   peer_if i o loss line stream x p is there absent =

@@ -71,10 +71,8 @@ shown_is true bytes = refl
 shown_is false bytes = refl
 
 pub memory_is : (plan : Plan) (memory : MemoryContents) (written : List Write) (at len : ℕ) → memory.regions
-    ≡ plan.memory
-    → IsLeftBy memory written
-    → memory_verdict (in_one_region memory.regions at len) (bytes_from (byte_at memory) at len)
-    ≡ memory_shown plan written (ie.Memory at len)
+    ≡ plan.memory → IsLeftBy memory written → memory_verdict (in_one_region memory.regions at len)
+    (bytes_from (byte_at memory) at len) ≡ memory_shown plan written (ie.Memory at len)
 memory_is plan memory written at len regions left =
     shown_is (in_one_region memory.regions at len) (bytes_from (byte_at memory) at len)
     ∙ (λ j. shown_if (in_one_region (regions j) at len) (bytes_from (λ a. left a j) at len))
@@ -121,8 +119,7 @@ module _ (plan : Plan) (ends : List LinkEnds) (m : InterfacesView) (memory : Mem
 
       ahead : (k : ℕ) (y : HostTdi) → k < s.place → slice_get m.interfaces k ≡ Some y
           → (((y.link == link) && (y.requester == requester)) ≡ true)
-          ⊎ (((y.link == link) && (y.requester == requester)) ≡ false)
-          → is_granted link requester y ≡ false
+          ⊎ (((y.link == link) && (y.requester == requester)) ≡ false) → is_granted link requester y ≡ false
       ahead k y lt there cases =
           ⊎_elim (λ so. absurd (omega (arith, lt, only k y there so)))
           (and_left ((y.link == link) && (y.requester == requester)) (is_running y.seen)) cases
@@ -141,11 +138,9 @@ module _ (plan : Plan) (ends : List LinkEnds) (m : InterfacesView) (memory : Mem
           (λ k y lt there. ahead k y lt there (cases_Bool ((y.link == link) && (y.requester == requester)))))
           ∙ ap (λ (o : Option HostTdi). option_map_or host_grant o None) p.interface_is
 
-      idle : (p : IsPlaced plan ends m w s.place s.site) → is_running p.interface.seen ≡ false
-          → (k : ℕ) (y : HostTdi) → slice_get m.interfaces k ≡ Some y
-          → (((y.link == link) && (y.requester == requester)) ≡ true)
-          ⊎ (((y.link == link) && (y.requester == requester)) ≡ false)
-          → is_granted link requester y ≡ false
+      idle : (p : IsPlaced plan ends m w s.place s.site) → is_running p.interface.seen ≡ false → (k : ℕ) (y : HostTdi)
+          → slice_get m.interfaces k ≡ Some y → (((y.link == link) && (y.requester == requester)) ≡ true)
+          ⊎ (((y.link == link) && (y.requester == requester)) ≡ false) → is_granted link requester y ≡ false
       idle p not_so k y there cases =
           ⊎_elim (λ so.
           let same : p.interface ≡ y = same_Some p.interface y
@@ -172,8 +167,7 @@ module _ (plan : Plan) (ends : List LinkEnds) (m : InterfacesView) (memory : Mem
     where
       none : (k : ℕ) (y : HostTdi) → slice_get m.interfaces k ≡ Some y
           → (((y.link == link) && (y.requester == requester)) ≡ true)
-          ⊎ (((y.link == link) && (y.requester == requester)) ≡ false)
-          → is_granted link requester y ≡ false
+          ⊎ (((y.link == link) && (y.requester == requester)) ≡ false) → is_granted link requester y ≡ false
       none k y there cases =
           ⊎_elim (λ so.
           let x = interface_site k y there in

@@ -40,8 +40,7 @@ and_none : (a b : Bool) → b ≡ false → (a && b) ≡ false
 and_none a b none = grind arith
 
 pub none_given : (plan : Plan) (s : Streams) (used : ℕ → ℕ) (e : Event) (w : Verdict) (link : ℕ) (xs : List Site)
-    (fs : List Face)
-    → ((i : ℕ) (x : Site) (f : Face) → slice_get xs i ≡ Some x → slice_get fs i ≡ Some f
+    (fs : List Face) → ((i : ℕ) (x : Site) (f : Face) → slice_get xs i ≡ Some x → slice_get fs i ≡ Some f
     → accepts_lock (around_of plan s used x f) x e w f.tdi ≡ false)
     → list_any is_true (with_each (gives_nonce plan s used e w link) xs fs) ≡ false
 none_given plan s used e w link xs fs none =

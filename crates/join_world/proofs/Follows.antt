@@ -107,13 +107,10 @@ led_same plan old new link l l' led = ⊎_elim
     }) led
 
 pub led_interface : (plan : Plan) (old new : LinkState) (x : Site) (l l' : LinkEnds) (place : ℕ) (tdi : DeviceTdi)
-    → FitsPlan plan → x.link < 8 → IsLed plan old new x.link l l'
-    → slice_get l.device.interfaces.interfaces place ≡ Some tdi → Keeps (says_by_ports plan old x.link) x.plan tdi
-    → slice_get l'.device.interfaces.interfaces place
+    → FitsPlan plan → x.link < 8 → IsLed plan old new x.link l l' → slice_get l.device.interfaces.interfaces place
+    ≡ Some tdi → Keeps (says_by_ports plan old x.link) x.plan tdi → slice_get l'.device.interfaces.interfaces place
     ≡ Some (interface_if_called
-    (leaves_stream (says_by_ports plan old x.link) (says_by_ports plan new x.link) x.plan tdi.bindings)
-    StreamLeft
-    tdi)
+    (leaves_stream (says_by_ports plan old x.link) (says_by_ports plan new x.link) x.plan tdi.bindings) StreamLeft tdi)
 led_interface plan old new x l l' place tdi fits lt led is keeps = ⊎_elim
     (λ same. ap (λ (d : DeviceTdis). slice_get d.interfaces place) same
     ∙ slice_get-map (settled_interface (is_said_secure (says_by_ports plan new x.link))) l.device.interfaces.interfaces
@@ -132,8 +129,7 @@ pub record OnlyLeaves (plan : Plan) (w : Whole) (e : Event) (verdict : Verdict) 
   pub next : (next_face plan (whole_streams plan w) (ends_in plan new) w.faces.used e verdict x f).tdi
       ≡ interface_if_called
       (leaves_stream (says_by_ports plan w.links x.link) (says_by_ports plan new x.link) x.plan f.tdi.bindings)
-      StreamLeft
-      f.tdi
+      StreamLeft f.tdi
   pub none : accepts_lock (around_of plan (whole_streams plan w) w.faces.used x f) x e verdict f.tdi ≡ false
 
 -- the manager keeps of it what the machine keeps of it after the event
@@ -141,9 +137,8 @@ pub record IsManagedAfter (plan : Plan) (w : Whole) (e : Event) (verdict : Verdi
     (x : Site) (f : Face) : Type 0 where
   pub interface : HostTdi
   pub interface_is : slice_get m.interfaces i ≡ Some interface
-  pub managed : IsManaged
-      (draw_after (whole_streams plan w).op w.links.draws e verdict w.draw x.link x.plan.stream) x interface
-      (managed_after (whole_streams plan w).op w.links.draws x e verdict f.managed)
+  pub managed : IsManaged (draw_after (whole_streams plan w).op w.links.draws e verdict w.draw x.link x.plan.stream) x
+      interface (managed_after (whole_streams plan w).op w.links.draws x e verdict f.managed)
 
 pub placed_keeps : (plan : Plan) (ends : List LinkEnds) (m : InterfacesView) (w : Whole) (i : ℕ) (x : Site)
     → (p : IsPlaced plan ends m w i x) → Keeps (says_by_ports plan w.links x.link) x.plan p.tdi
@@ -163,11 +158,10 @@ link_few plan i x fits at =
 
 pub placed_led : (plan : Plan) (w : Whole) (e : Event) (verdict : Verdict) (new : LinkState)
     (ends ends' : List LinkEnds) (m m' : InterfacesView) (i : ℕ) (x : Site) (l' : LinkEnds) → FitsPlan plan
-    → slice_get (sites plan) i ≡ Some x
-    → (p : IsPlaced plan ends m w i x) → slice_get ends' x.link ≡ Some l' → place_on_links 0 i ends'
-    ≡ place_on_links 0 i ends
-    → IsLed plan w.links new x.link p.link_ends l' → OnlyLeaves plan w e verdict new x p.face
-    → IsManagedAfter plan w e verdict m' i x p.face → IsPlaced plan ends' m' (whole_after plan w e verdict new) i x
+    → slice_get (sites plan) i ≡ Some x → (p : IsPlaced plan ends m w i x) → slice_get ends' x.link ≡ Some l'
+    → place_on_links 0 i ends' ≡ place_on_links 0 i ends → IsLed plan w.links new x.link p.link_ends l'
+    → OnlyLeaves plan w e verdict new x p.face → IsManagedAfter plan w e verdict m' i x p.face
+    → IsPlaced plan ends' m' (whole_after plan w e verdict new) i x
 placed_led plan w e verdict new ends ends' m m' i x l' fits at p is same led only managed =
     let before = says_by_ports plan w.links x.link in
     let after = says_by_ports plan new x.link in

@@ -210,8 +210,7 @@ module _ (plan : Plan) (old new : Links) (w : Whole) (verdict : Verdict) (beside
   -- one that may seal packets
   sealing_beside : (e : Event) → (verdict, links_state plan new) ≡ step_of plan beside w.links e
       → StaySecure plan w.links (step_of plan beside w.links e).1 → is_of_packets e verdict ≡ true
-      → arrival_of plan w.links e ≡ None
-      → IsBeside plan new.ends.links new.keeper.interfaces new.trusted.contents
+      → arrival_of plan w.links e ≡ None → IsBeside plan new.ends.links new.keeper.interfaces new.trusted.contents
       (whole_after plan w e verdict (links_state plan new))
   sealing_beside e step stays packets none =
       still_beside e (record {
@@ -236,19 +235,16 @@ module _ (plan : Plan) (old new : Links) (w : Whole) (verdict : Verdict) (beside
   answer_beside link step =
       sealing_beside (Access (ae.Answer link)) step (answer_kept plan beside w.links link) refl refl
 
-  pub forward_beside : (link : ℕ) (d : Direction)
-      → (verdict, links_state plan new) ≡ step_of plan beside w.links (Forward link d)
-      → IsBeside plan new.ends.links new.keeper.interfaces new.trusted.contents
-      (whole_after plan w (Forward link d) verdict (links_state plan new))
+  pub forward_beside : (link : ℕ) (d : Direction) → (verdict, links_state plan new)
+      ≡ step_of plan beside w.links (Forward link d) → IsBeside plan new.ends.links new.keeper.interfaces
+      new.trusted.contents (whole_after plan w (Forward link d) verdict (links_state plan new))
   forward_beside link d step =
       sealing_beside (Forward link d) step (forward_kept plan beside w.links link d) refl refl
 
   -- an event that leaves the ports as they are
-  pub leaving_beside : (e : Event) → leaves_ports plan e ≡ true
-      → (verdict, links_state plan new) ≡ step_of plan beside w.links e
-      → ((i : ℕ) (x : Site) → slice_get (sites plan) i ≡ Some x → Rests e verdict x)
-      → draw_after (whole_streams plan w).op w.links.draws e verdict w.draw ≡ w.draw
-      → arrival_of plan w.links e ≡ None
+  pub leaving_beside : (e : Event) → leaves_ports plan e ≡ true → (verdict, links_state plan new)
+      ≡ step_of plan beside w.links e → ((i : ℕ) (x : Site) → slice_get (sites plan) i ≡ Some x → Rests e verdict x)
+      → draw_after (whole_streams plan w).op w.links.draws e verdict w.draw ≡ w.draw → arrival_of plan w.links e ≡ None
       → IsBeside plan new.ends.links new.keeper.interfaces new.trusted.contents
       (whole_after plan w e verdict (links_state plan new))
   leaving_beside e leaving step rests draw none =
@@ -266,10 +262,9 @@ module _ (plan : Plan) (old new : Links) (w : Whole) (verdict : Verdict) (beside
   dump_beside n step =
       leaving_beside (Dump n) refl step (λ i x at. rests_of_packets (Dump n) verdict x refl) refl refl
 
-  pub status_beside : (link stream : ℕ)
-      → (verdict, links_state plan new) ≡ step_of plan beside w.links (Status link stream)
-      → IsBeside plan new.ends.links new.keeper.interfaces new.trusted.contents
-      (whole_after plan w (Status link stream) verdict (links_state plan new))
+  pub status_beside : (link stream : ℕ) → (verdict, links_state plan new)
+      ≡ step_of plan beside w.links (Status link stream) → IsBeside plan new.ends.links new.keeper.interfaces
+      new.trusted.contents (whole_after plan w (Status link stream) verdict (links_state plan new))
   status_beside link stream step =
       leaving_beside (Status link stream) refl step (λ i x at. rests_of_packets (Status link stream) verdict x refl)
       refl refl
@@ -321,10 +316,9 @@ module _ (plan : Plan) (old new : Links) (w : Whole) (verdict : Verdict) (beside
       leaving_beside Absent refl step (λ i x at. rests_of_packets Absent verdict x refl) refl refl
 
   -- a reset of a link that is not there
-  pub absent_beside : (link : ℕ) (ends : List PortName) → length old.ends.links ≤ link
-      → (verdict, links_state plan new) ≡ step_of plan beside w.links (Reset link ends)
-      → IsBeside plan new.ends.links new.keeper.interfaces new.trusted.contents
-      (whole_after plan w (Reset link ends) verdict (links_state plan new))
+  pub absent_beside : (link : ℕ) (ends : List PortName) → length old.ends.links ≤ link → (verdict, links_state plan new)
+      ≡ step_of plan beside w.links (Reset link ends) → IsBeside plan new.ends.links new.keeper.interfaces
+      new.trusted.contents (whole_after plan w (Reset link ends) verdict (links_state plan new))
   absent_beside link ends past step =
       let absent = not_there link (length plan.links) (omega (arith, past, both.links.many)) in
       let nothing : verdict ≡ v.Nothing =

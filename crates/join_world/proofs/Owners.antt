@@ -80,17 +80,15 @@ module _ (plan : Plan) (ends : List LinkEnds) (m : InterfacesView) (memory : Mem
   -- ---- the site of an owner
 
   -- what is kept of the site of a link and a requester
-  pub requester_found : (link requester i : ℕ) (x : Site) (p : IsPlaced plan ends m w i x)
-      → slice_get (sites plan) i ≡ Some x → is_requester link requester x ≡ true
-      → with_requester plan w.faces link requester ≡ Some (x, p.face)
+  pub requester_found : (link requester i : ℕ) (x : Site) (p : IsPlaced plan ends m w i x) → slice_get (sites plan) i
+      ≡ Some x → is_requester link requester x ≡ true → with_requester plan w.faces link requester ≡ Some (x, p.face)
   requester_found link requester i x p is passes =
       let mine = requester_true link requester x passes in
       face_first (is_requester link requester) (sites plan) w.faces.list i x p.face is p.face_is passes
       (λ k y lt at. other k y lt at (cases_Bool (is_requester link requester y)))
     where
-      other : (k : ℕ) (y : Site) → k < i → slice_get (sites plan) k ≡ Some y
-          → (is_requester link requester y ≡ true) ⊎ (is_requester link requester y ≡ false)
-          → is_requester link requester y ≡ false
+      other : (k : ℕ) (y : Site) → k < i → slice_get (sites plan) k ≡ Some y → (is_requester link requester y ≡ true)
+          ⊎ (is_requester link requester y ≡ false) → is_requester link requester y ≡ false
       other k y lt at cases = ⊎_elim (λ also.
           let mine = requester_true link requester x passes in
           let its = requester_true link requester y also in
@@ -216,9 +214,8 @@ module _ (plan : Plan) (ends : List LinkEnds) (m : InterfacesView) (memory : Mem
         sym (ap (λ (o : Option (Site × Face)). option_map_or kept o false)
         (requester_nowhere link requester (λ k y at. elsewhere k y at (cases_Bool (is_requester link requester y)))))
       where
-        elsewhere : (k : ℕ) (y : Site) → slice_get (sites plan) k ≡ Some y
-            → (is_requester link requester y ≡ true) ⊎ (is_requester link requester y ≡ false)
-            → is_requester link requester y ≡ false
+        elsewhere : (k : ℕ) (y : Site) → slice_get (sites plan) k ≡ Some y → (is_requester link requester y ≡ true)
+            ⊎ (is_requester link requester y ≡ false) → is_requester link requester y ≡ false
         elsewhere k y at cases = ⊎_elim (λ so.
             let p = beside.placed k y at in
             absurd (none-some p.link_ends (sym is ∙ ap (slice_get ends) (sym (requester_true link requester y so).0)
@@ -397,8 +394,7 @@ module _ (plan : Plan) (v : EndsView) (k : KeeperView) (m : InterfacesView) (mem
       owner_is plan v.links m memory w beside links.fits links.many line stream l (owner_id head) is
 
   on_link : (s : Side) (line : ℕ) (head : HeadView) (stream : ℕ) (trusted : Bool) → line < 8
-      → trusting_on v (port_at s line) trusted head stream
-      ≡ t_kept plan w.faces (port_at s line) head stream trusted
+      → trusting_on v (port_at s line) trusted head stream ≡ t_kept plan w.faces (port_at s line) head stream trusted
   on_link s line head stream trusted lt =
       trusts_link v s line head stream trusted lt
       ∙ link_is s line (slice_get v.links line) head stream trusted refl
@@ -406,8 +402,7 @@ module _ (plan : Plan) (v : EndsView) (k : KeeperView) (m : InterfacesView) (mem
       (below_not_peer plan s line (omega (arith, lt)))
 
   on_near : (s : Side) (line : ℕ) (head : HeadView) (stream : ℕ) (trusted : Bool) → 8 ≤ line → line < 16
-      → trusting_on v (port_at s line) trusted head stream
-      ≡ t_kept plan w.faces (port_at s line) head stream trusted
+      → trusting_on v (port_at s line) trusted head stream ≡ t_kept plan w.faces (port_at s line) head stream trusted
   on_near Host line head stream trusted le lt =
       trusts_near v Host line head stream trusted le lt
       ∙ kept_own plan w.faces (port_at Host line) head stream trusted (near_host plan line lt)
@@ -417,8 +412,7 @@ module _ (plan : Plan) (v : EndsView) (k : KeeperView) (m : InterfacesView) (mem
       ∙ kept_sent plan w.faces (port_at Device line) head stream trusted (near_switch plan line few le lt)
 
   on_far : (s : Side) (line : ℕ) (head : HeadView) (stream : ℕ) (trusted : Bool) → 16 ≤ line → line < 24
-      → trusting_on v (port_at s line) trusted head stream
-      ≡ t_kept plan w.faces (port_at s line) head stream trusted
+      → trusting_on v (port_at s line) trusted head stream ≡ t_kept plan w.faces (port_at s line) head stream trusted
   on_far Host line head stream trusted le lt =
       trusts_far v Host line head stream trusted le lt
       ∙ kept_sent plan w.faces (port_at Host line) head stream trusted (far_switch plan line few le lt)
@@ -431,8 +425,7 @@ module _ (plan : Plan) (v : EndsView) (k : KeeperView) (m : InterfacesView) (mem
 
   -- at a device's end of a stream between it and another
   bound_by : (s : Side) (line : ℕ) (o : Option LinkEnds) (link : ℕ) (head : HeadView) (stream : ℕ)
-      → slice_get v.links link ≡ o
-      → bound_trust (option_map (λ (l : LinkEnds). l.device.interfaces) o) head stream
+      → slice_get v.links link ≡ o → bound_trust (option_map (λ (l : LinkEnds). l.device.interfaces) o) head stream
       ≡ peer_t_of plan w.faces link stream (owner_id head)
   bound_by s line None link head stream is =
       bound_nowhere plan v.links m memory w beside links.fits links.many link stream (owner_id head) is
@@ -453,8 +446,7 @@ module _ (plan : Plan) (v : EndsView) (k : KeeperView) (m : InterfacesView) (mem
       ∙ ap (λ n. peer_t_of plan w.faces n stream (owner_id head)) (sym (owners_are plan s line p few le is))
 
   on_peer : (s : Side) (line : ℕ) (head : HeadView) (stream : ℕ) (trusted : Bool) → 24 ≤ line
-      → trusting_on v (port_at s line) trusted head stream
-      ≡ t_kept plan w.faces (port_at s line) head stream trusted
+      → trusting_on v (port_at s line) trusted head stream ≡ t_kept plan w.faces (port_at s line) head stream trusted
   on_peer s line head stream trusted le =
       let place : line - 16 - 8 ≡ line - 24 = omega arith in
       trusts_peer v s line head stream trusted le

@@ -186,10 +186,9 @@ module _ (plan : Plan) (ends : List LinkEnds) (m : InterfacesView) (memory : Mem
       ∙ sym (sites_many plan)
 
   site_within : (link place : ℕ) (l : LinkEnds) (t : DeviceTdi) → IsBeside plan ends m memory w → slice_get ends link
-      ≡ Some l
-      → slice_get l.device.interfaces.interfaces place ≡ Some t
-      → held_before ends link + place < length (sites plan)
-      → IsSiteAt plan ends m w link place (held_before ends link + place) t
+      ≡ Some l → slice_get l.device.interfaces.interfaces place ≡ Some t
+      → held_before ends link + place < length (sites plan) → IsSiteAt plan ends m w link place
+      (held_before ends link + place) t
   site_within link place l t beside is there lt =
       let n = held_before ends link + place in
       let x = get_there (sites plan) n lt in
@@ -214,9 +213,8 @@ module _ (plan : Plan) (ends : List LinkEnds) (m : InterfacesView) (memory : Mem
       }
 
   -- each place of a device
-  pub site_at_place : (link place : ℕ) (l : LinkEnds) (t : DeviceTdi) → IsBeside plan ends m memory w
-      → length ends ≡ length plan.links → slice_get ends link ≡ Some l
-      → slice_get l.device.interfaces.interfaces place ≡ Some t
+  pub site_at_place : (link place : ℕ) (l : LinkEnds) (t : DeviceTdi) → IsBeside plan ends m memory w → length ends
+      ≡ length plan.links → slice_get ends link ≡ Some l → slice_get l.device.interfaces.interfaces place ≡ Some t
       → IsSiteAt plan ends m w link place (held_before ends link + place) t
   site_at_place link place l t beside many is there =
       site_within link place l t beside is there
@@ -230,8 +228,7 @@ module _ (plan : Plan) (ends : List LinkEnds) (m : InterfacesView) (memory : Mem
 
   -- no place before it has its requester
   requester_ahead : (i k : ℕ) (x : Site) (p : IsPlaced plan ends m w i x) (t : DeviceTdi)
-      → IsBeside plan ends m memory w
-      → FitsPlan plan → slice_get (sites plan) i ≡ Some x → k < p.place
+      → IsBeside plan ends m memory w → FitsPlan plan → slice_get (sites plan) i ≡ Some x → k < p.place
       → slice_get p.link_ends.device.interfaces.interfaces k ≡ Some t → t.plan.requester ≡ x.plan.requester → ⊥
   requester_ahead i k x p t beside fits is lt there same =
       let at = located_read 0 i ends (x.link, p.place) p.located_is in
@@ -262,9 +259,8 @@ module _ (plan : Plan) (ends : List LinkEnds) (m : InterfacesView) (memory : Mem
   -- ---- as the operations want it
 
   pub is_at : (i : ℕ) (x : Site) (p : IsPlaced plan ends m w i x) → IsBeside plan ends m memory w → FitsPlan plan
-      → slice_get (sites plan) i ≡ Some x
-      → IsAt plan (whole_streams plan w) w.faces.used x p.face i p.place m p.link_ends.device.interfaces p.interface
-      p.tdi
+      → slice_get (sites plan) i ≡ Some x → IsAt plan (whole_streams plan w) w.faces.used x p.face i p.place m
+      p.link_ends.device.interfaces p.interface p.tdi
   is_at i x p beside fits is =
       let planned = site_planned plan i x fits is in
       let d = beside.devices x.link p.link_ends p.ends_are in

@@ -250,9 +250,8 @@ pub record IsBoundFloor (plan : Plan) (h : History) (x : Site) (floor : ℕ) : T
   pub same_lock : locks_accepted plan older x ≡ locks_accepted plan h x
   pub needs : needs_at older x ≤ floor
 
-later_floor : (plan : Plan) (h : History) (e : Event) (w : Verdict) (x : Site)
-    → locks_accepted plan ((e, w) ∷ h) x ≡ locks_accepted plan h x → (floor : ℕ) → IsBoundFloor plan h x floor
-    → IsBoundFloor plan ((e, w) ∷ h) x floor
+later_floor : (plan : Plan) (h : History) (e : Event) (w : Verdict) (x : Site) → locks_accepted plan ((e, w) ∷ h) x
+    ≡ locks_accepted plan h x → (floor : ℕ) → IsBoundFloor plan h x floor → IsBoundFloor plan ((e, w) ∷ h) x floor
 later_floor plan h e w x same floor was = record {
   older = was.older;
   came = record { since = (e, w) ∷ was.came.since; is = ap (λ (g : History). (e, w) ∷ g) was.came.is };
@@ -318,8 +317,7 @@ found_floor P stream floor [] each is = absurd cc
 found_floor P stream floor (b ∷ bs) each is = by (is_binding_on stream b) is (found_floor P stream floor bs each.1)
   where
     by : (c : Bool) → option_map (λ (z : Binding). z.floor) (if c then Some b else find (is_binding_on stream) bs)
-        ≡ Some floor
-        → (floor_on stream bs ≡ Some floor → P floor) → P floor
+        ≡ Some floor → (floor_on stream bs ≡ Some floor → P floor) → P floor
     by true is later = subst P (cc (is)) each.0
     by false is later = later is
 

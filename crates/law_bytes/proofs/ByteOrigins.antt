@@ -182,11 +182,10 @@ module _ (plan : Plan) (whole : FitsPlan plan) (fits : StreamsFit plan) (facts :
 
   own_of : (port_sent : PortName) (bytes : List ℕ) (more trusted : Bool) (ds : List SealedPacket) (older : History)
       (place : ℕ) (x : SealedPacket × Packet) → slice_get (sealed_packets plan h) place ≡ Some x → x.1 ≡ p
-      → sub_stream_of x.0 ≡ s → x.0.draw ≡ unit.draw
-      → sub_stream_packets (take place (sealed_packets plan h)) s unit.draw ≡ take m (sent_packets plan h s unit.draw)
-      → CameFrom ((Send port_sent bytes more trusted, Sealed ds) ∷ older) h → IsAmong ds x.0
-      → sealing_end plan port_sent bytes ≡ x.0.port
-      → IsSealedFor plan (take place (sealed_packets plan h)) bytes x → IsOwn
+      → sub_stream_of x.0 ≡ s → x.0.draw ≡ unit.draw → sub_stream_packets (take place (sealed_packets plan h)) s
+      unit.draw ≡ take m (sent_packets plan h s unit.draw) → CameFrom
+      ((Send port_sent bytes more trusted, Sealed ds) ∷ older) h → IsAmong ds x.0 → sealing_end plan port_sent bytes
+      ≡ x.0.port → IsSealedFor plan (take place (sealed_packets plan h)) bytes x → IsOwn
   own_of port_sent bytes more trusted ds older place x at same stream draw before came among end made =
       let site = for.site in
       let known = interface_cause plan h cause.1 in
@@ -230,12 +229,11 @@ module _ (plan : Plan) (whole : FitsPlan plan) (fits : StreamsFit plan) (facts :
 
   -- by the event that sealed it: a send
   by_event : (ev : Event) (ds : List SealedPacket) (older : History) (place : ℕ) (x : SealedPacket × Packet)
-      → slice_get (sealed_packets plan h) place ≡ Some x → x.1 ≡ p
-      → sub_stream_of x.0 ≡ s → x.0.draw ≡ unit.draw
+      → slice_get (sealed_packets plan h) place ≡ Some x → x.1 ≡ p → sub_stream_of x.0 ≡ s → x.0.draw ≡ unit.draw
       → sub_stream_packets (take place (sealed_packets plan h)) s unit.draw ≡ take m (sent_packets plan h s unit.draw)
-      → CameFrom ((ev, Sealed ds) ∷ older) h → IsAmong ds x.0 → Sealed ds ≡ due plan older ev
-      → x.0.port ≡ device_port port.line
-      → IsSealedFor plan (take place (sealed_packets plan h)) (sent_bytes plan older ev) x → IsOwn
+      → CameFrom ((ev, Sealed ds) ∷ older) h → IsAmong ds x.0 → Sealed ds ≡ due plan older ev → x.0.port
+      ≡ device_port port.line → IsSealedFor plan (take place (sealed_packets plan h)) (sent_bytes plan older ev) x
+      → IsOwn
   unfolding bytes_by
   by_event (Send q bytes more trusted) ds older place x at same stream draw before came among is device made =
       own_of q bytes more trusted ds older place x at same stream draw before came among

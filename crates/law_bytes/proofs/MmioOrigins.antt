@@ -297,8 +297,7 @@ bound_on plan h x stream draw floor runs is le =
 
 -- the stream of an interface in RUN is one of its link
 own_there : (plan : Plan) → FitsPlan plan → (h : History) → CauseLaw plan h → (x : Site) → site_at plan x.number
-    ≡ Some x
-    → runs_at plan h x ≡ true → own_has_id (slice_get plan.links x.link) x.plan.stream ≡ true
+    ≡ Some x → runs_at plan h x ≡ true → own_has_id (slice_get plan.links x.link) x.plan.stream ≡ true
 own_there plan fits h cause x known runs =
     let start = keeps_floors plan h cause x.number x known runs in
     let law = (cause_at plan start.since ((start.event, start.verdict) ∷ start.older) h start.came cause).1 in
@@ -311,10 +310,9 @@ own_there plan fits h cause x known runs =
     off false floor is = absurd cc
 
     by : (b : Bool) → nat_lt x.link 8 ≡ true → line_has plan x.link x.plan.stream ≡ b
-        → is_some (stream_plan plan x.link x.plan.stream) ≡ line_has plan x.link x.plan.stream
-        → (g : History) → CauseLaw plan g → (set : Bool)
-        → on_in (key_in (place_keys g (posted_receiver x)) set) ≡ Some (device_floor plan h x)
-        → own_has_id (slice_get plan.links x.link) x.plan.stream ≡ true
+        → is_some (stream_plan plan x.link x.plan.stream) ≡ line_has plan x.link x.plan.stream → (g : History)
+        → CauseLaw plan g → (set : Bool) → on_in (key_in (place_keys g (posted_receiver x)) set)
+        ≡ Some (device_floor plan h x) → own_has_id (slice_get plan.links x.link) x.plan.stream ≡ true
     by true low has is g law set on = rw low at has
     by false low has is g law set on =
         absurd (off set (device_floor plan h x)
@@ -325,11 +323,10 @@ own_there plan fits h cause x known runs =
 
 -- on the stream of the lock it was asked for
 was_asked : (plan : Plan) → FitsPlan plan → (h : History) (e : Event) (end : PortName) (unit : UnitName)
-    (effects : List Effect) (x : Site) (n : ℕ) (p : Packet)
-    → CauseLaw plan ((e, Accepted end unit effects) ∷ h) → NoForgery plan ((e, Accepted end unit effects) ∷ h)
-    → site_at plan x.number ≡ Some x → slice_get (unit_ended plan h e end unit) n ≡ Some p → p.prefix.t ≡ true
-    → IsTaken plan h x end unit p → end ≡ device_port x.link → device_floor plan h x ≤ unit.draw
-    → WasAsked plan h x (received_in end unit) unit.draw
+    (effects : List Effect) (x : Site) (n : ℕ) (p : Packet) → CauseLaw plan ((e, Accepted end unit effects) ∷ h)
+    → NoForgery plan ((e, Accepted end unit effects) ∷ h) → site_at plan x.number ≡ Some x
+    → slice_get (unit_ended plan h e end unit) n ≡ Some p → p.prefix.t ≡ true → IsTaken plan h x end unit p → end
+    ≡ device_port x.link → device_floor plan h x ≤ unit.draw → WasAsked plan h x (received_in end unit) unit.draw
     (length (accepted_packets plan h (received_in end unit) unit.draw) + n) p
 was_asked plan whole h e end unit effects x n p cause forged known stands trusted taken there least =
     let s = received_in end unit in
@@ -420,9 +417,8 @@ on_binding plan whole h e end unit effects x n p floor cause forged known stands
 -- ---- packet n of a unit
 
 asked_at : (plan : Plan) → FitsPlan plan → (h : History) (e : Event) (end : PortName) (unit : UnitName)
-    (effects : List Effect)
-    → CauseLaw plan ((e, Accepted end unit effects) ∷ h) → NoForgery plan ((e, Accepted end unit effects) ∷ h)
-    → StoresAsked plan h e (Accepted end unit effects)
+    (effects : List Effect) → CauseLaw plan ((e, Accepted end unit effects) ∷ h)
+    → NoForgery plan ((e, Accepted end unit effects) ∷ h) → StoresAsked plan h e (Accepted end unit effects)
 asked_at plan whole h e end unit effects cause forged x bar n w p known stored stands trusted =
     let taken = is_taken plan h e end unit effects x bar n w p cause.0 known stored stands trusted in
     let there = accepted_known plan h e end unit effects cause.0 in

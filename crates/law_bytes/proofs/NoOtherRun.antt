@@ -150,9 +150,8 @@ stands_there plan k x at cause runs =
 
 -- so its lock is the one that stood before this RUN was started, if a draw that was made by then is from the floor on
 one_lock_then : (plan : Plan) (j : ℕ) (b : Begun) (since k : History) (x : Site) → site_at plan x.number ≡ Some x
-    → CauseLaw plan (since ++ k) → CauseLaw plan k → runs_at plan k x ≡ true
-    → begun_of_draw (manager k).begun j ≡ Some b → needs_at (since ++ k) x ≤ j
-    → locks_accepted plan (since ++ k) x ≡ locks_accepted plan k x
+    → CauseLaw plan (since ++ k) → CauseLaw plan k → runs_at plan k x ≡ true → begun_of_draw (manager k).begun j
+    ≡ Some b → needs_at (since ++ k) x ≤ j → locks_accepted plan (since ++ k) x ≡ locks_accepted plan k x
 one_lock_then plan j b since k x at cause before runs made least =
     by (later plan (locks_accepted plan k x) j b since k x at (interface_cause plan (since ++ k) cause) (record {
       made = made;

@@ -107,9 +107,8 @@ port_is plan fits e = by (has_link plan e.line) refl
         few m n most less = grind (arith, nat_tests, most, less)
 
 -- is that one
-pub is_between : (plan : Plan) → FitsPlan plan → (link id : ℕ) (e end : PortName)
-    → peer_end plan.peers 0 link id ≡ Some e → port_of plan end ≡ device_port link → has_stream plan end id ≡ true
-    → nat_le 24 end.line ≡ true
+pub is_between : (plan : Plan) → FitsPlan plan → (link id : ℕ) (e end : PortName) → peer_end plan.peers 0 link id
+    ≡ Some e → port_of plan end ≡ device_port link → has_stream plan end id ≡ true → nat_le 24 end.line ≡ true
 is_between plan fits link id e end peer at known =
     let found = is_found plan fits link id e peer in
     let has : line_has plan end.line id ≡ true = sym (stream_is_there plan end.line id) ∙ known in

@@ -109,8 +109,7 @@ get_less (y ∷ xs) (suc n) x is = let rest = get_less xs n x is in omega (arith
 
 grows_to : (xs : SealedList) (s : SubStream) (j i more : ℕ) → i + more ≤ length xs
     → ((n : ℕ) (z : SealedPacket × Packet) → i ≤ n → n < i + more → slice_get xs n ≡ Some z → is_sealed_under s j z
-    ≡ true
-    → z.1.prefix.m ≡ false) → sealed_to xs s j i ≤ sealed_to xs s j (i + more)
+    ≡ true → z.1.prefix.m ≡ false) → sealed_to xs s j i ≤ sealed_to xs s j (i + more)
 grows_to xs s j i zero le goes_on = let same : i + 0 ≡ i = omega arith in rw same (omega arith)
 grows_to xs s j i (suc more) le goes_on =
     let here = element_at xs (i + more) (omega (arith, le)) in

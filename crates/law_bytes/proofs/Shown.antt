@@ -140,8 +140,7 @@ placed_is regions b (Some z) w is = grind arith
 
 write_is : (plan : Plan) (grants : Grants) (port : PortName) (unit : UnitName) (p : Packet) (payload : List ℕ)
     (w : Write) (head : HeadView) → write_if_admitted plan grants port unit p payload ≡ Some w → read_head_of p.head
-    ≡ Ok head
-    → memory_write head payload ≡ Some w
+    ≡ Ok head → memory_write head payload ≡ Some w
 write_is plan grants port unit p payload w head is reads =
     by (not (is_sync_packet p)) (at_switch plan port) (sent_direction port.side == 0) (read_head_of p.head) reads is
   where
@@ -191,10 +190,9 @@ forged_at plan since g h is forged = by since (subst (NoForgery plan) (sym is) f
 
 -- the write of an admitted packet whose body masks the payload of a TLP that its interface sent
 write_sent : (plan : Plan) (grants : Grants) (q : PortName) (unit : UnitName) (p : Packet) (payload : List ℕ)
-    (w : Write)
-    (head : HeadView) (tlp : Tlp) → write_if_admitted plan grants q unit p payload ≡ Some w → read_head_of p.head
-    ≡ Ok head
-    → header tlp ≡ head → payload ≡ body tlp → memory_write (header tlp) (body tlp) ≡ Some w
+    (w : Write) (head : HeadView) (tlp : Tlp) → write_if_admitted plan grants q unit p payload ≡ Some w
+    → read_head_of p.head ≡ Ok head → header tlp ≡ head → payload ≡ body tlp → memory_write (header tlp) (body tlp)
+    ≡ Some w
 write_sent plan grants q unit p payload w head tlp is reads head_is opens =
     (λ i. memory_write (head_is i) (sym opens i)) ∙ write_is plan grants q unit p payload w head is reads
 

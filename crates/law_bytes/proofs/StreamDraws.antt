@@ -5,17 +5,15 @@
 use Rattle.spec_keys.proofs.Terms.{◌≡◌, ℕ, ◌+◌, ◌<◌, ◌≤◌, ◌==◌, ◌⊎◌, inl, inr, ◌&&◌, Bool, true, false, not, List, []}
 use Rattle.spec_keys.proofs.Terms.{◌∷◌, ◌++◌, Option, Some, None, refl, ap, sym, subst, ◌∙◌, arith, nat_tests, nat_lt}
 use Rattle.spec_keys.proofs.Terms.{if◌then◌else◌, is_some, Loss, SealedPacket, Verdict, KeyPlan, KeyPlace, is_on_stream}
-use Rattle.spec_keys.proofs.Terms.{Touch, Program, Go, Accept, Keys, key_in, on_in, refuses}
-use Rattle.spec_keys.proofs.Terms.{StreamStage, Idle, Establishing, Up, Refreshing, Stopping, Work, Reach}
-use Rattle.spec_keys.proofs.Terms.{StreamOperations}
+use Rattle.spec_keys.proofs.Terms.{Touch, Program, Go, Accept, Keys, key_in, on_in, refuses, StreamStage, Idle}
+use Rattle.spec_keys.proofs.Terms.{Establishing, Up, Refreshing, Stopping, Work, Reach, StreamOperations}
 use Rattle.spec_keys.proofs.Terms.{manager_after_operation, op_after_reach, work_of, reach_of, whole, History}
 use Rattle.spec_keys.proofs.Terms.{last_exchange_of, op_of, draws, on_it, work_touches, touches_if, touches_after, came}
 use Rattle.spec_keys.proofs.Terms.{place_keys, keeps_live, has_key, has_all, history_status, begins_keyed, KeyCauseLaw}
 use Rattle.spec_keys.proofs.Terms.{PortView, ports_at, refresh_on, operation_verdict, unless_open, finished_verdict}
 use Rattle.spec_keys.proofs.Terms.{is_hosted, is_line_reset, PortName, Host, Device, Pr, Operation, seal_touches}
-use Rattle.spec_keys.proofs.Terms.{is_same_side}
-use Rattle.spec_keys.proofs.Terms.{is_same_sub, Loaded, begun_if_pool_has, if_secure, is_live_sender, Npr, Cpl, Lost}
-use Rattle.spec_keys.proofs.Terms.{length, list_any, Clear, Side, key_place_at, is_local, is_between_devices}
+use Rattle.spec_keys.proofs.Terms.{is_same_side, is_same_sub, Loaded, begun_if_pool_has, if_secure, is_live_sender, Npr}
+use Rattle.spec_keys.proofs.Terms.{Cpl, Lost, length, list_any, Clear, Side, key_place_at, is_local, is_between_devices}
 use Rattle.ide_types.specs.declared.status.StreamStatus.TheVariants as status
 unfoldable use Rattle.spec_keys.proofs.Terms.{keys, manager, moments, key_due, failed_there}
 use Rattle.spec_keys.proofs.Shapes.{Shape, Bare, Waiting, Alone, Following, Both, keys_of, IsAt, marks, Marks}
@@ -45,8 +43,7 @@ unfolding keys
 program_other set j ts = by set (refuses false (keys false ts) set)
   where
     by : (set refused : Bool) → key_in (if refused then keys false ts else with_key (keys false ts) set (Loaded j))
-        (not set)
-        ≡ key_in (keys false ts) (not set)
+        (not set) ≡ key_in (keys false ts) (not set)
     by set true = refl
     by true false = refl
     by false false = refl
@@ -188,9 +185,8 @@ drawn_or plan next z = by (nat_lt next plan.pool)
     by true = inr refl
     by false = inl refl
 
-open_or : (a b c : Bool) (z y : Verdict) → NoneOr z y
-    → NoneOr z (if a then v.RefusedUnitOpen Pr else if b then v.RefusedUnitOpen Npr else if c then v.RefusedUnitOpen Cpl
-    else y)
+open_or : (a b c : Bool) (z y : Verdict) → NoneOr z y → NoneOr z
+    (if a then v.RefusedUnitOpen Pr else if b then v.RefusedUnitOpen Npr else if c then v.RefusedUnitOpen Cpl else y)
 open_or true b c z y is = inl refl
 open_or false true c z y is = inl refl
 open_or false false true z y is = inl refl
@@ -210,9 +206,8 @@ up_says plan host ports line stream next set z x is =
 
 -- it is refused, or the stream is up, and its exchanges say the verdict
 refresh_says : (has : Bool) (plan : KeyPlan) (q : StreamStage) (next : ℕ) (ports : PortView) (host : StreamStatus)
-    (line stream : ℕ) (loss : Option Loss) (x : Verdict)
-    → x ≡ (if has then refresh_on plan q next ports host line stream loss else v.Nothing)
-    → (reach_of op.Refresh x ≡ None)
+    (line stream : ℕ) (loss : Option Loss) (x : Verdict) → x
+    ≡ (if has then refresh_on plan q next ports host line stream loss else v.Nothing) → (reach_of op.Refresh x ≡ None)
     ⊎ ((is_up q ≡ true) × (x ≡ operation_verdict ports line stream loss (work_of op.Refresh q next)))
 refresh_says false plan q next ports host line stream loss x is = inl (ap (reach_of op.Refresh) is)
 refresh_says true plan Idle next ports host line stream loss x is = inl (ap (reach_of op.Refresh) is)
@@ -287,10 +282,9 @@ ends_or_stays line stream w refreshes draw us x r ports loss is says on =
 
 -- from a stream that is up
 refreshes_to : (line stream : ℕ) (p : KeyPlace) (q : StreamStage) (next draw : ℕ) (ts : List Touch) (x : Verdict)
-    (r : Reach)
-    (ports : PortView) (loss : Option Loss) → is_up q ≡ true → Follows draw ts q
-    → ((k : Bool) (j : ℕ) → q ≡ Up k j → on_in (key_in (keys false ts) k) ≡ Some j)
-    → x ≡ operation_verdict ports line stream loss (work_of op.Refresh q next) → reach_of op.Refresh x ≡ Some r
+    (r : Reach) (ports : PortView) (loss : Option Loss) → is_up q ≡ true → Follows draw ts q
+    → ((k : Bool) (j : ℕ) → q ≡ Up k j → on_in (key_in (keys false ts) k) ≡ Some j) → x
+    ≡ operation_verdict ports line stream loss (work_of op.Refresh q next) → reach_of op.Refresh x ≡ Some r
     → Follows (drawn_by x draw) (touches_after ts (work_touches (work_of op.Refresh q next) (Some r) p))
     (op_after_reach (is_hosted line) (work_of op.Refresh q next) r)
 refreshes_to line stream p Idle next draw ts x r ports loss up is on performs says = absurd (true≢false (sym up))
@@ -335,8 +329,7 @@ carry d e ts us q r draw touched state is =
     (subst (Follows d ts) (sym state) is))
 
 other_op : (m : StreamOperations) (o : Operation) (l s : ℕ) (reached : Option Reach) (p : KeyPlace) → is_on_stream p l s
-    ≡ false
-    → (manager_after_operation m o l s reached).ops p.line p.stream ≡ m.ops p.line p.stream
+    ≡ false → (manager_after_operation m o l s reached).ops p.line p.stream ≡ m.ops p.line p.stream
 other_op m o l s None p other = refl
 other_op m o l s (Some r) p other = rw other refl
 

@@ -145,8 +145,7 @@ head_stored xs place bar stream draw payload to x p head reads at (Some s) write
 }
 
 read_stored : (xs : List InterfaceStatus) (place bar : ℕ) (unit : UnitName) (payload : List ℕ) (to : Write)
-    (x : InterfaceStatus)
-    (p : Packet) → p.prefix.t ≡ true → slice_get xs place ≡ Some x
+    (x : InterfaceStatus) (p : Packet) → p.prefix.t ≡ true → slice_get xs place ≡ Some x
     → (r : Result HeadView TlpFault) → read_head_of p.head ≡ r → device_effect xs unit p r ≡ effect.Stored
     → claimed_write xs place bar (write_read payload r) ≡ Some to → StoredBy x unit.stream unit.draw p
 read_stored xs place bar unit payload to x p trusted at (Err f) reads stored is = absurd cc

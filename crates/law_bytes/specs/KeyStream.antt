@@ -35,9 +35,8 @@ pub record KeyStreamFresh (plan : Plan) (h : History) : Type 0 where
   -- each packet masks its payload by as many bytes of key stream, from its offset on
   pub range : (i : ℕ) (x : SealedPacket × Packet) → slice_get (sealed_packets plan h) i ≡ Some x → IsMasked plan h i x
   -- of two packets under one key with one IV the later one's range begins where the earlier one's ends, or behind it
-  pub apart : (i k : ℕ) (x y : SealedPacket × Packet) → i < k
-      → slice_get (sealed_packets plan h) i ≡ Some x → slice_get (sealed_packets plan h) k ≡ Some y
-      → key_used plan x.0 ≡ key_used plan y.0 → iv_used x.0 ≡ iv_used y.0
+  pub apart : (i k : ℕ) (x y : SealedPacket × Packet) → i < k → slice_get (sealed_packets plan h) i ≡ Some x
+      → slice_get (sealed_packets plan h) k ≡ Some y → key_used plan x.0 ≡ key_used plan y.0 → iv_used x.0 ≡ iv_used y.0
       → offset_at (sealed_packets plan h) i x.0 + length x.1.body ≤ offset_at (sealed_packets plan h) k y.0
   -- byte n of key stream is of the counter block n / 16 + 1 increments behind the first one, which masks the tag: it is
   -- none of those before it

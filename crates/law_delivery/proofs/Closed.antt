@@ -120,10 +120,8 @@ older_later plan facts h e w law s k x stays older i up less =
 
 -- only its own sub-stream gets packets at an accepted unit, under its own draw
 pub got_kept : (plan : Plan) (h : History) (e : Event) (port : PortName) (unit : UnitName) (effects : List Effect)
-    (s : SubStream) (k : ℕ)
-    → (is_same (received_in port unit) s ≡ true → k < unit.draw)
-    → accepted_packets plan ((e, Accepted port unit effects) ∷ h) s k
-    ≡ accepted_packets plan h s k
+    (s : SubStream) (k : ℕ) → (is_same (received_in port unit) s ≡ true → k < unit.draw)
+    → accepted_packets plan ((e, Accepted port unit effects) ∷ h) s k ≡ accepted_packets plan h s k
 unfolding accepted_packets
 got_kept plan h e port unit effects s k less = grind (arith, nat_tests, less)
 
@@ -193,9 +191,8 @@ module _
   -- ---- of every history
 
   accepted_older : (s : SubStream) → is_closed plan s.line s.stream ≡ true
-      → AllByRecursion (Older plan h s) (draws_got h s)
-      → AllByRecursion (Older plan ((e, Accepted port unit effects) ∷ h) s)
-      (draws_got ((e, Accepted port unit effects) ∷ h) s)
+      → AllByRecursion (Older plan h s) (draws_got h s) → AllByRecursion
+      (Older plan ((e, Accepted port unit effects) ∷ h) s) (draws_got ((e, Accepted port unit effects) ∷ h) s)
   unfolding draws_got
   accepted_older s closed before = elim (cases_Bool (is_same r s)) [
     | inl here ↦
@@ -219,8 +216,7 @@ module _
       Stays k = Older plan h s k → Older plan g s k
 
       later : (k : ℕ) → (is_same (received_in port unit) s ≡ true → k ≤ unit.draw) → IsSealedIn plan h s k
-          → Older plan h s k
-          → Older plan ((e, Accepted port unit effects) ∷ h) s k
+          → Older plan h s k → Older plan ((e, Accepted port unit effects) ∷ h) s k
       later k most x older =
           let kept = λ (i : ℕ) (less : i < k). got_kept plan h e port unit effects s i
           (λ is. omega (arith, less, most is)) in

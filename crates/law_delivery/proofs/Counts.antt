@@ -51,8 +51,7 @@ on_of : (a : Keyed) (j : ℕ) → on_in a ≡ Some j → a ≡ On j
 on_of a j is = grind arith
 
 got_below : (plan : Plan) (h : History) (e : Event) (port : PortName) (unit : UnitName) (effects : List Effect)
-    (from : ℕ)
-    → Accepted port unit effects ≡ due plan h e → MadeBelow h from → unit.draw < from
+    (from : ℕ) → Accepted port unit effects ≡ due plan h e → MadeBelow h from → unit.draw < from
 got_below plan h e port unit effects from is below =
     let on = accepted_on plan h e port unit effects is in
     let s = received_in port unit in

@@ -120,11 +120,9 @@ head_plain head bytes sub spells class =
 
 -- its packet has the header, and the payload in the ciphertext
 pub carries_tlp : (plan : Plan) (ahead bytes : List ℕ) (d : SealedPacket) (unfinished : List Packet) (t : Tlp)
-    → read_of bytes
-    ≡ Ok t → (d.sync ≡ false → class_of (header t) ≡ d.sub) → (d.sync ≡ true → IsSyncOf d)
+    → read_of bytes ≡ Ok t → (d.sync ≡ false → class_of (header t) ≡ d.sub) → (d.sync ≡ true → IsSyncOf d)
     → ((packet_of plan ahead bytes d unfinished).body ≡ masked_bytes (key_of plan d.draw (sub_stream_of d))
-    (iv_of d.sub d.unit)
-    (length (encrypted_bytes unfinished)) (carried_by d (body t)))
+    (iv_of d.sub d.unit) (length (encrypted_bytes unfinished)) (carried_by d (body t)))
     × (tlp_with (packet_of plan ahead bytes d unfinished) (carried_by d (body t)) ≡ (if d.sync then [] else bytes ∷ []))
 unfolding packet_of
 carries_tlp plan ahead bytes d unfinished t reads class is_sync = elim (cases_Bool d.sync) [

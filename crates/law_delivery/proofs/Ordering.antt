@@ -56,8 +56,7 @@ abbrev number : ℕ → SubStream → SealedList → ℕ
 number from s xs = sum_by (λ (x : SealedPacket × Packet). 1) (filter (of_since from s) xs)
 
 sum-snoc : (w : SealedPacket × Packet → ℕ) (p : SealedPacket × Packet → Bool) (xs : SealedList)
-    (x : SealedPacket × Packet)
-    → sum_by w (filter p (xs ++ x ∷ [])) ≡ sum_by w (filter p xs) + (if p x then w x else 0)
+    (x : SealedPacket × Packet) → sum_by w (filter p (xs ++ x ∷ [])) ≡ sum_by w (filter p xs) + (if p x then w x else 0)
 sum-snoc w p xs x = rw (filter-append, sum_by-append w) (grind (arith, sum_by-cons w x []))
 
 not_both : (d s : SubStream) → sub_bits s.sub ≢ 0 → is_same d s ≡ true → is_same d (posted_lane s) ≡ true → ⊥
@@ -117,10 +116,9 @@ taken_begins xs i s k = (
       (λ (ys : SealedList). sub_stream_packets ys s k) (take-append-drop i xs),
 )
 
-below_until : (xs : SealedList) (s : SubStream) (place d n m : ℕ) → Rises xs → IsPacketAtPlace xs s d m place → n
-    ≤ suc place
-    → AllByRecursion (λ (x : SealedPacket × Packet). is_same (sub_stream_of x.0) s ≡ true → x.0.draw < suc d)
-    (take n xs)
+below_until : (xs : SealedList) (s : SubStream) (place d n m : ℕ) → Rises xs → IsPacketAtPlace xs s d m place
+    → n ≤ suc place → AllByRecursion
+    (λ (x : SealedPacket × Packet). is_same (sub_stream_of x.0) s ≡ true → x.0.draw < suc d) (take n xs)
 below_until xs s place d n m rises at le =
     all_at (λ (x : SealedPacket × Packet). is_same (sub_stream_of x.0) s ≡ true → x.0.draw < suc d) (take n xs)
     (λ i y is here.
@@ -146,10 +144,9 @@ sized_below xs s j m place at = omega
 -- ---- the pair at which a unit is accepted
 
 since_joined : (plan : Plan) (h : History) (e : Event) (port : PortName) (unit : UnitName) (effects : List Effect)
-    (from : ℕ) → from ≤ unit.draw
-    → got_since plan ((e, Accepted port unit effects) ∷ h) (received_in port unit) from
-    ≡ got_since plan h (received_in port unit) from ++
-    (packets_in_hold plan h (received_in port unit) unit.draw unit.unit ++ arrived_packet plan h e ∷ [])
+    (from : ℕ) → from ≤ unit.draw → got_since plan ((e, Accepted port unit effects) ∷ h) (received_in port unit) from
+    ≡ got_since plan h (received_in port unit) from
+    ++ (packets_in_hold plan h (received_in port unit) unit.draw unit.unit ++ arrived_packet plan h e ∷ [])
 unfolding got_since
 since_joined plan h e port unit effects from le = rw (is_same-refl (received_in port unit), le-leb _ _ le) refl
 
@@ -266,10 +263,8 @@ module _
 
   -- under each draw no more was sealed up to one of the unit's packets than was got with the unit
   at_draw : (m place : ℕ) → IsPacketAtPlace xs s unit.draw m place → NoneMissing plan h s unit.draw
-      → m < length (accepted_packets plan g s unit.draw)
-      → (k : ℕ) → from ≤ k → k < suc unit.draw → sum_by posted (sub_stream_packets (take (suc place) xs) s k) ≤ sum_by
-      posted
-      (accepted_packets plan g s k)
+      → m < length (accepted_packets plan g s unit.draw) → (k : ℕ) → from ≤ k → k < suc unit.draw
+      → sum_by posted (sub_stream_packets (take (suc place) xs) s k) ≤ sum_by posted (accepted_packets plan g s k)
   at_draw m place at none within k up less = elim (cases_eq k unit.draw) [
     | inl same ↦
         let begins = rw (sealed_same plan h e (Accepted port unit effects) refl) at

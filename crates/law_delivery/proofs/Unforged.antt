@@ -26,9 +26,8 @@ ends_next ps m p is ends =
 in_order_was_sealed : (plan : Plan) (h : History) → CauseLaw plan h
     → (s : SubStream) (j m : ℕ) (port : PortName) (p : Packet) → slice_get (sent_packets plan h s j) m ≡ Some p
     → p.prefix.m ≡ true → AreGotSoFar plan h s j (take m (sent_packets plan h s j))
-    → received_in port (next_unit_name h s j) ≡ s
-    → ahead_sent plan h s j (units_got h s j + 1) ≡ ahead_due plan h s (units_got h s j + 1)
-    → WasSealed plan h port (unit_ending p (next_unit_name h s j))
+    → received_in port (next_unit_name h s j) ≡ s → ahead_sent plan h s j (units_got h s j + 1)
+    ≡ ahead_due plan h s (units_got h s j + 1) → WasSealed plan h port (unit_ending p (next_unit_name h s j))
 in_order_was_sealed plan h cause s j m port p is ends after there fronts = record {
   unit = pending_packets plan h s j ++ p ∷ [];
   place = units_got h s j;

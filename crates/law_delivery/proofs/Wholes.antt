@@ -5,10 +5,9 @@ use Rattle.law_sealing.proofs.Terms.{Option, Ok, Err, Result, take, refl, ap, sy
 use Rattle.law_sealing.proofs.Terms.{not, ◌||◌, is_some, nat_tests, flat_map-append, Plan, SubStream, has_stream}
 use Rattle.law_sealing.proofs.Terms.{key_of, aggregation_of, stream_plan, open_unit, History, sealed_packets}
 use Rattle.law_sealing.proofs.Terms.{sub_stream_packets, ahead_sent, ahead_due, ArrivedBytes, arrival_of_event}
-use Rattle.law_sealing.proofs.Terms.{sent_packets}
-use Rattle.law_sealing.proofs.Terms.{sub_stream_of, packet_of, pending_packets, units_got, on_draw, has_failed}
-use Rattle.law_sealing.proofs.Terms.{meets_counts, received_in, port_keys, Ending, due, arrival_due, ending_due}
-use Rattle.law_sealing.proofs.Terms.{before_tag, under_keys, is_mixed, is_overfull, receiving_sub_stream}
+use Rattle.law_sealing.proofs.Terms.{sent_packets, sub_stream_of, packet_of, pending_packets, units_got, on_draw}
+use Rattle.law_sealing.proofs.Terms.{has_failed, meets_counts, received_in, port_keys, Ending, due, arrival_due}
+use Rattle.law_sealing.proofs.Terms.{ending_due, before_tag, under_keys, is_mixed, is_overfull, receiving_sub_stream}
 use Rattle.law_sealing.proofs.Terms.{next_unit_name, is_verified, CauseLaw, WholeLaw, ArrivesInOrder, IsTaken}
 use Rattle.law_sealing.proofs.Terms.{DrawFacts, On, key_in, StreamsFit, PortName, Event, Pass, Alter, Cut, Arrive}
 use Rattle.law_sealing.proofs.Terms.{Verdict, Fail, Held, Accepted, SealedPacket, Prefix, Packet, packet_bytes, iv_of}
@@ -33,8 +32,7 @@ tag_is plan ahead bytes d unfinished m = rw (m, flat_map-append, flat_map-append
 -- ---- the verdict
 
 due_arrives : (plan : Plan) (h : History) (e : Event) (a : ArrivedBytes) → arrival_of_event plan h e ≡ Some a
-    → due plan h e
-    ≡ ending_due plan h a.port (before_tag plan h a)
+    → due plan h e ≡ ending_due plan h a.port (before_tag plan h a)
 unfolding due arrival_of_event
 due_arrives plan h (Pass n) a is = ap (arrival_due plan h) is
 due_arrives plan h (Alter n at mask) a is = ap (arrival_due plan h) is
@@ -123,8 +121,7 @@ module _
 
   -- its tag is that of the unit that it ends, with what comes ahead of that unit
   sent_tag : p.prefix.m ≡ true → p.tag ≡ tag_of (key_of plan j s) (iv_of s.sub n)
-      (ahead_due plan h s n ++ authenticated_bytes (unfinished ++ p ∷ []))
-      (encrypted_bytes (unfinished ++ p ∷ []))
+      (ahead_due plan h s n ++ authenticated_bytes (unfinished ++ p ∷ [])) (encrypted_bytes (unfinished ++ p ∷ []))
   sent_tag last =
       let d = place.description in
       let m_is = sym (ap (λ (f : Prefix). f.m) place.prefix) ∙ last in

@@ -140,13 +140,11 @@ sync_same p payload bytes sync is = by (is_sync_packet p) sync is
     by true false is = absurd cc
     by false true is = absurd cc
 
-flags_more : (plan : Plan) (xs : SealedList) (s : SubStream) (j : ℕ) (d : SealedPacket) (ahead bytes : List ℕ)
-    (t : Tlp) → read_of bytes ≡ Ok t → (d.sync ≡ false → class_of (header t) ≡ d.sub) → (d.sync ≡ true → IsSyncOf d)
-    → (before : List Bool) → flags (sub_stream_packets xs s j) ≡ before → flags (sub_stream_packets (xs ++ (
-      d,
-      packet_of plan ahead bytes d (open_unit (sub_stream_packets xs
-          (sub_stream_of d) d.draw)),
-    ) ∷ []) s j)
+flags_more : (plan : Plan) (xs : SealedList) (s : SubStream) (j : ℕ) (d : SealedPacket) (ahead bytes : List ℕ) (t : Tlp)
+    → read_of bytes ≡ Ok t → (d.sync ≡ false → class_of (header t) ≡ d.sub) → (d.sync ≡ true → IsSyncOf d)
+    → (before : List Bool) → flags (sub_stream_packets xs s j) ≡ before
+    → flags (sub_stream_packets
+    (xs ++ (d, packet_of plan ahead bytes d (open_unit (sub_stream_packets xs (sub_stream_of d) d.draw))) ∷ []) s j)
     ≡ before ++ map (λ (d : SealedPacket). d.t) (filter (is_tlp_under_draw s j) (d ∷ []))
 unfolding packet_of
 flags_more plan xs s j d ahead bytes t reads class is_sync before same =

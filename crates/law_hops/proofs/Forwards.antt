@@ -148,11 +148,9 @@ tlp_is : (x : HopTlp) (u : SubKind) (bytes : List ℕ) (t : Bool) → u ≡ x.su
 tlp_is x u bytes t sub_is bytes_is t_is = λ i. record { sub = sub_is i; bytes = bytes_is i; t = t_is i }
 
 -- it seals the first that waits
-pub forwards_first : (plan : Plan) → FitsPlan plan → (h : History) (link : ℕ) (d : Direction)
-    (ds : List SealedPacket) → CauseLaw plan h
-    → (f : Forwarded plan h link d ds)
-    → map (sealed_tlp (sent_bytes plan h (Forward link d))) (filter (is_tlp_of_sender (leaving_end link d)) ds)
-    ≡ f.first ∷ []
+pub forwards_first : (plan : Plan) → FitsPlan plan → (h : History) (link : ℕ) (d : Direction) (ds : List SealedPacket)
+    → CauseLaw plan h → (f : Forwarded plan h link d ds) → map (sealed_tlp (sent_bytes plan h (Forward link d)))
+    (filter (is_tlp_of_sender (leaving_end link d)) ds) ≡ f.first ∷ []
 unfolding bytes_by
 forwards_first plan fits h link d ds cause f =
     let end = leaving_end link d in
@@ -184,9 +182,8 @@ none_carried plan h port stream end (x ∷ xs) other all =
     let later = none_carried plan h port stream end xs other all.1 in
     grind (arith, there, later)
 
-sealed_nothing : (plan : Plan) (h : History) (e : Event) (end : PortName) (ds : List SealedPacket)
-    → v.Sealed ds ≡ due plan h e → is_same_port (sending_port plan e) end ≡ false
-    → filter (is_tlp_of_sender end) ds ≡ []
+sealed_nothing : (plan : Plan) (h : History) (e : Event) (end : PortName) (ds : List SealedPacket) → v.Sealed ds
+    ≡ due plan h e → is_same_port (sending_port plan e) end ≡ false → filter (is_tlp_of_sender end) ds ≡ []
 sealed_nothing plan h e end ds is other =
     let seals = sealing_is plan h e ds is in
     let there : is_same_port seals.sending.port end ≡ false = ap (λ (p : PortName). is_same_port p end) seals.at_port
@@ -257,8 +254,7 @@ other_way l link Upstream Downstream other = refl
 other_way l link Upstream Upstream other = grind (arith, nat_tests)
 
 elsewhere : (plan : Plan) → FitsPlan plan → (h : History) (e : Event) (ds : List SealedPacket) (link : ℕ)
-    (d : Direction)
-    → v.Sealed ds ≡ due plan h e → has_hop plan link ≡ true → is_forward_on link d e ≡ false
+    (d : Direction) → v.Sealed ds ≡ due plan h e → has_hop plan link ≡ true → is_forward_on link d e ≡ false
     → is_same_port (sending_port plan e) (leaving_end link d) ≡ false
 elsewhere plan fits h (Send port bytes more trusted) ds link d is known other =
     apart plan (sealing_end plan port bytes) (leaving_end link d)

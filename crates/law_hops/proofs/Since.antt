@@ -191,9 +191,8 @@ stop_since P m l s (Some r) since from line before =
 
 reset_since : (P : ℕ → Type 0) (h : History) (k : ℕ) (ends : List PortName) (l link line : ℕ)
     → BegunSince P (manager h).begun (draws_since h link line) (mark h link) line
-    → BegunSince P (manager ((Reset k ends, v.Reset l) ∷ h)).begun (draws_since
-    ((Reset k ends, v.Reset l) ∷ h) link line)
-    (mark ((Reset k ends, v.Reset l) ∷ h) link) line
+    → BegunSince P (manager ((Reset k ends, v.Reset l) ∷ h)).begun
+    (draws_since ((Reset k ends, v.Reset l) ∷ h) link line) (mark ((Reset k ends, v.Reset l) ∷ h) link) line
 unfolding mark manager draws_since
 reset_since P h k ends l link line before = by (clears_hop ends link)
   where

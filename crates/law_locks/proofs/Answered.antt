@@ -158,13 +158,12 @@ reset_at k r true rs is next = absurd cc
 reset_at k r false rs is next = next is
 
 accepted_at : (plan : Plan) (xs : SealedList) (h : History) (e : Event) (port : PortName) (unit : UnitName)
-    (effects : List Effect) (link k : ℕ) (r : WaitingRead)
-    → unit_accepted plan xs h e port unit ≡ unit_ended plan h e port unit
+    (effects : List Effect) (link k : ℕ) (r : WaitingRead) → unit_accepted plan xs h e port unit
+    ≡ unit_ended plan h e port unit
     → ((j : ℕ) → slice_get (queued_in plan xs h link) j ≡ Some r
     → QueuedAt plan ((e, Accepted port unit effects) ∷ h) link r) → (b : Bool) → ((port_of plan port).line == link) ≡ b
-    → slice_get (if b then queued_in plan xs h link
-    ++ reads_by unit.draw effects (unit_accepted plan xs h e port unit) else queued_in plan xs h link) k ≡ Some r
-    → QueuedAt plan ((e, Accepted port unit effects) ∷ h) link r
+    → slice_get (if b then queued_in plan xs h link ++ reads_by unit.draw effects (unit_accepted plan xs h e port unit)
+    else queued_in plan xs h link) k ≡ Some r → QueuedAt plan ((e, Accepted port unit effects) ∷ h) link r
 accepted_at plan xs h e port unit effects link k r unit_is next false off is = next k is
 accepted_at plan xs h e port unit effects link k r unit_is next true here is =
     elim (either (queued_in plan xs h link) (reads_by unit.draw effects (unit_accepted plan xs h e port unit)) k r is) [

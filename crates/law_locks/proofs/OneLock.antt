@@ -111,11 +111,9 @@ granted plan h n port unit p head reads is =
     is
   where
     by : (a c b bound : Bool) → is_on_bound unit.stream unit.draw (requester_bound (grant_at plan h) port head) ≡ bound
-        → (r : Result HeadView TlpFault) → r ≡ Ok head
-        → is_admitted_effect (if a then effect.Sync else if c then switch_effect
-        else if b then host_effect plan (grant_at plan h) n port unit p r
-        else device_effect ((policy_at plan h).statuses port.line) unit p r) ≡ true
-        → bound ≡ true
+        → (r : Result HeadView TlpFault) → r ≡ Ok head → is_admitted_effect
+        (if a then effect.Sync else if c then switch_effect else if b then host_effect plan (grant_at plan h) n port
+        unit p r else device_effect ((policy_at plan h).statuses port.line) unit p r) ≡ true → bound ≡ true
     by a c b true at r reads is = refl
     by true c b false at r reads is = absurd (true≢false (sym is))
     by false true b false at r reads is = absurd (true≢false (sym is))
@@ -203,8 +201,7 @@ runs_there plan h x a cause =
 
 -- an interface that is granted something is there
 site_there : (plan : Plan) (h : History) (link rid stream draw : ℕ) (o : Option Site) → site_of_requester plan link rid
-    ≡ o
-    → is_on_bound stream draw (granted_to h o) ≡ true → is_some (site_of_requester plan link rid) ≡ true
+    ≡ o → is_on_bound stream draw (granted_to h o) ≡ true → is_some (site_of_requester plan link rid) ≡ true
 site_there plan h link rid stream draw None at is = absurd cc
 site_there plan h link rid stream draw (Some x) at is = ap is_some at
 

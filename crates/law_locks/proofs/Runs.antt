@@ -165,15 +165,13 @@ start_stands m w stands =
     record { started = grind (arith, started); locked = λ is. locked (grind (arith, is)) }
 
 started_needs : (x : Site) (view : View) (reported : Bool) (s : StreamStatus) (draw needs : ℕ) (loss : Option Loss)
-    (answer : Result (Unit {0}) ℕ) (i d : ℕ)
-    → v.Interface (iv.Started i d) ≡ if_locked view
-    (if_reported reported (if_secure s (if_fresh draw needs (unless_lost loss 1 (started_as x draw answer)))))
-    → needs ≤ d
+    (answer : Result (Unit {0}) ℕ) (i d : ℕ) → v.Interface (iv.Started i d)
+    ≡ if_locked view (if_reported reported
+    (if_secure s (if_fresh draw needs (unless_lost loss 1 (started_as x draw answer))))) → needs ≤ d
 started_needs x view reported s draw needs loss answer i d is = grind (arith, nat_tests, is)
 
 start_past : (m : Managed) (j draw : ℕ) (x : Site) (s : StreamStatus) (loss : Option Loss)
-    (answer : Result (Unit {0}) ℕ) (w : Verdict)
-    → w ≡ if_locked m.view
+    (answer : Result (Unit {0}) ℕ) (w : Verdict) → w ≡ if_locked m.view
     (if_reported m.reported (if_secure s (if_fresh draw m.needs (unless_lost loss 1 (started_as x draw answer)))))
     → IsPast m j → IsPast (on_start m w) j
 start_past m j draw x s loss answer (v.Interface (iv.Started i d)) is past =

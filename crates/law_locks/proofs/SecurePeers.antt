@@ -101,9 +101,8 @@ still_live plan h e w stream (Some end) due_is is =
     (greatest_on (place_keys after (receiver_at end stream)))
     (interface_leaves_secure plan h e w end.side end.line stream due_is (end_secure h end stream is))
 
-secure_peer : (plan : Plan) (h : History) (link stream : ℕ) (o : Option PortName)
-    → peer_end plan.peers 0 link stream ≡ o → is_some (option_and_then (λ end. live_at h end stream) o) ≡ true
-    → IsSecurePeer plan h link stream
+secure_peer : (plan : Plan) (h : History) (link stream : ℕ) (o : Option PortName) → peer_end plan.peers 0 link stream
+    ≡ o → is_some (option_and_then (λ end. live_at h end stream) o) ≡ true → IsSecurePeer plan h link stream
 secure_peer plan h link stream None at is = absurd (true≢false (sym is))
 secure_peer plan h link stream (Some end) at is =
     record { end = end; at_device = at; secure = end_secure h end stream is }

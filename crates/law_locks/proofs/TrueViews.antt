@@ -7,9 +7,8 @@ use Rattle.std.specs.Prelude.{nat_le, nat_lt}
 use Rattle.std.specs.Str.{bytes_eq}
 use Rattle.spec_interfaces.specs.Terms.{Plan, StreamStatus, View, Unlocked, Locked, Running, Doubt, Broken, Event}
 use Rattle.spec_interfaces.specs.Terms.{InterfaceEvent, Loss, Verdict, History, Lock, DeviceTdi, TdiState}
-use Rattle.spec_interfaces.specs.Terms.{ConfigUnlocked}
-use Rattle.spec_interfaces.specs.Terms.{ConfigLocked, Run, Error, lock_answer, start_answer, op_of, draws}
-use Rattle.spec_interfaces.specs.Terms.{lost_at, if_secure, Call, StartInterface, StopInterface, WriteRegister}
+use Rattle.spec_interfaces.specs.Terms.{ConfigUnlocked, ConfigLocked, Run, Error, lock_answer, start_answer, op_of}
+use Rattle.spec_interfaces.specs.Terms.{draws, lost_at, if_secure, Call, StartInterface, StopInterface, WriteRegister}
 use Rattle.spec_interfaces.specs.Terms.{LevelReset, FirmwareUpdate, StreamLeft, BindStream, UnbindStream}
 use Rattle.spec_interfaces.specs.Terms.{interface_after_call, bind_answer, unbind_answer}
 use Rattle.spec_interfaces.specs.Sites.{Site, site_at}
@@ -20,8 +19,8 @@ unfoldable use Rattle.spec_interfaces.specs.Views.{managed_view}
 use Rattle.spec_interfaces.specs.Devices.{around_at, interface_if_called, lock_call, interface_asked, interface_at}
 use Rattle.spec_interfaces.specs.Devices.{is_stream_left, reset_call}
 unfoldable use Rattle.spec_interfaces.specs.Devices.{devices}
-use Rattle.spec_interfaces.specs.Due.{unless_lost, if_unlocked, if_locked}
-use Rattle.spec_interfaces.specs.Due.{if_reported, if_fresh, verdict_of_lock, started_as, host_status}
+use Rattle.spec_interfaces.specs.Due.{unless_lost, if_unlocked, if_locked, if_reported, if_fresh, verdict_of_lock}
+use Rattle.spec_interfaces.specs.Due.{started_as, host_status}
 use Rattle.spec_interfaces.specs.Cause.{InterfaceCause}
 use Rattle.spec_interfaces.proofs.Views.{managed_own, managed_other, due_own}
 use Rattle.interface_state.specs.declared.error_codes.ErrorCode.TheVariants.{InvalidNonce}
@@ -153,8 +152,7 @@ lock_view m t asked Unlocked w is next = next
 lock_view m t asked view w is next = is
 
 lock_true : (m : Managed) (t : DeviceTdi) (x : Site) (s : StreamStatus) (loss : Option Loss) (new : Lock)
-    (answer : Result (List ℕ) ℕ) → IsTrueOf m.view t.state
-    → After on_lock 3 m t (interface_after_lock t new answer)
+    (answer : Result (List ℕ) ℕ) → IsTrueOf m.view t.state → After on_lock 3 m t (interface_after_lock t new answer)
     (if_unlocked m.view (if_secure s (unless_lost loss 3 (verdict_of_lock x answer))))
 lock_true m t x s loss new answer is =
     let asked = interface_after_lock t new answer in
@@ -284,9 +282,8 @@ if_not : {A : Type 0} (b : Bool) (m n : A) → b ≡ false → (if b then m else
 if_not b m n is = rw is refl
 
 interface_own : (plan : Plan) (h : History) (e : InterfaceEvent) (w : Verdict) (x : Site)
-    → is_number (number_in e) x.number ≡ true
-    → interface_at plan ((event.Interface e, w) ∷ h) x ≡ interface_asked (around_at plan h x) x e w
-    (interface_at plan h x)
+    → is_number (number_in e) x.number ≡ true → interface_at plan ((event.Interface e, w) ∷ h) x
+    ≡ interface_asked (around_at plan h x) x e w (interface_at plan h x)
 unfolding devices
 interface_own plan h e w x own = if_is (is_number (number_in e) x.number) _ _ own
 
@@ -300,9 +297,8 @@ called : (b : Bool) (c : Call) (t : DeviceTdi) → interface_if_called b c t ≡
 called true c t = refl
 called false c t = refl
 
-own_turn : (plan : Plan) (h : History) (e : InterfaceEvent) (w : Verdict) (x : Site)
-    → site_at plan x.number ≡ Some x → is_number (number_in e) x.number ≡ true
-    → InterfaceCause plan ((event.Interface e, w) ∷ h) → Holds plan h x
+own_turn : (plan : Plan) (h : History) (e : InterfaceEvent) (w : Verdict) (x : Site) → site_at plan x.number ≡ Some x
+    → is_number (number_in e) x.number ≡ true → InterfaceCause plan ((event.Interface e, w) ∷ h) → Holds plan h x
     → IsTrueOf (on_operation (draws h) e w (managed_view h x)).view
     (interface_asked (around_at plan h x) x e w (interface_at plan h x)).state
 own_turn plan h (ie.Lock i loss) w x at own cause is =

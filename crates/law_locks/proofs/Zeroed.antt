@@ -3,11 +3,10 @@ use Rattle.std.proofs.Common.{◌≡◌, ℕ, ◌==◌, ◌&&◌, ◌||◌, ◌�
 use Rattle.std.proofs.Common.{if◌then◌else◌, refl, sym, ap, ◌∙◌, arith}
 use Rattle.std.proofs.lemmas.Bool.{true≢false}
 use Rattle.std.proofs.lemmas.Bool.Decides.{nat_tests}
-use Rattle.spec_interfaces.specs.Terms.{Plan, Event, Verdict, History, Lock, DeviceTdi, lock_answer}
-use Rattle.spec_interfaces.specs.Terms.{Call, LockInterface, StartInterface, StopInterface, WriteRegister, LevelReset}
+use Rattle.spec_interfaces.specs.Terms.{Plan, Event, Verdict, History, Lock, DeviceTdi, lock_answer, Call}
+use Rattle.spec_interfaces.specs.Terms.{LockInterface, StartInterface, StopInterface, WriteRegister, LevelReset}
 use Rattle.spec_interfaces.specs.Terms.{FirmwareUpdate, StreamLeft, LinkReset, BindStream, UnbindStream}
-use Rattle.spec_interfaces.specs.Terms.{interface_after_call}
-use Rattle.spec_interfaces.specs.Terms.{bind_answer, unbind_answer}
+use Rattle.spec_interfaces.specs.Terms.{interface_after_call, bind_answer, unbind_answer}
 use Rattle.spec_interfaces.specs.Sites.{Site}
 use Rattle.spec_interfaces.specs.Exchanges.{carries, changes_device}
 use Rattle.spec_interfaces.specs.Views.{is_number, number_in}

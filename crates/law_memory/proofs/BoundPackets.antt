@@ -41,9 +41,8 @@ low_link a b same low late = let links = ap (λ (q : PortName). q.line) same in 
 
 -- an ID that gives an end of a line from 24 on at a device's port gives it among the streams between devices
 among_peers : (low own hop : Bool) (o : Option PortName) (link : ℕ) (e : PortName) → link < 8 → nat_le 24 e.line ≡ true
-    → (if low then (if own then device_port link else if hop then hop_end Device link
-    else unwrap_or o (device_port link)) else device_port link) ≡ e
-    → o ≡ Some e
+    → (if low then (if own then device_port link else if hop then hop_end Device link else unwrap_or o
+    (device_port link)) else device_port link) ≡ e → o ≡ Some e
 among_peers false own hop o link e few late is = absurd (low_link _ e is (omega (arith, few)) late)
 among_peers true true hop o link e few late is = absurd (low_link _ e is (omega (arith, few)) late)
 among_peers true false true o link e few late is = absurd (low_link _ e is (omega (arith, few)) late)

@@ -57,9 +57,8 @@ abbrev Fits : Plan → History → PortName → List ℕ → Bool → Bool → V
 Fits plan h port bytes more trusted w = PairFits plan h (event.Send port bytes more trusted) w
 
 first_fits : (plan : Plan) (h : History) (port : PortName) (bytes : List ℕ) (more trusted : Bool)
-    (xs : List (Bool × Verdict)) (last : Verdict)
-    → AllByRecursion (λ (x : Bool × Verdict). Fits plan h port bytes more trusted x.1) xs
-    → Fits plan h port bytes more trusted last
+    (xs : List (Bool × Verdict)) (last : Verdict) → AllByRecursion
+    (λ (x : Bool × Verdict). Fits plan h port bytes more trusted x.1) xs → Fits plan h port bytes more trusted last
     → Fits plan h port bytes more trusted (unwrap_or (first_that_holds xs) last)
 first_fits plan h port bytes more trusted [] last all ends = ends
 first_fits plan h port bytes more trusted ((true, w) ∷ xs) last all ends = all.0
@@ -68,8 +67,7 @@ first_fits plan h port bytes more trusted ((false, w) ∷ xs) last all ends = fi
 
 -- a sync packet, and the TLP's
 sync_fits : (plan : Plan) (h : History) (bytes : List ℕ) (trusted : Bool) (x : Lanes) (s : Sending) (u : SubKind)
-    (number : ℕ) (m : Bool)
-    → SealFits plan h bytes trusted (described_seal x s u number m false true)
+    (number : ℕ) (m : Bool) → SealFits plan h bytes trusted (described_seal x s u number m false true)
 sync_fits plan h bytes trusted x s u number m = record { t_is = refl }
 
 tlp_fits : (plan : Plan) (h : History) (bytes : List ℕ) (trusted : Bool) (x : Lanes) (s : Sending) (u : SubKind)
@@ -79,9 +77,8 @@ tlp_fits : (plan : Plan) (h : History) (bytes : List ℕ) (trusted : Bool) (x : 
 tlp_fits plan h bytes trusted x s u number m t = record { t_is = t }
 
 listed_fits : (plan : Plan) (h : History) (bytes : List ℕ) (trusted : Bool) (x : Lanes) (s : Sending) (number : ℕ)
-    (n c : Bool)
-    → s.trusted ≡ t_at plan h s.port (owner_read plan (owners_link plan s.port) (read_of bytes)) s.stream trusted
-    → AllByRecursion (SealFits plan h bytes trusted) (listed_seals x s number n c)
+    (n c : Bool) → s.trusted ≡ t_at plan h s.port (owner_read plan (owners_link plan s.port) (read_of bytes)) s.stream
+    trusted → AllByRecursion (SealFits plan h bytes trusted) (listed_seals x s number n c)
 unfolding listed_seals
 listed_fits plan h bytes trusted x s number false false t =
     (tlp_fits plan h bytes trusted x s s.class _ (ends_unit x s) t, tt)

@@ -69,9 +69,8 @@ new_later plan bytes e d ds p new = record
     { index = suc new.index; listed = new.listed; ahead = new.ahead; unfinished = new.unfinished; packet = new.packet }
 
 with_at : (plan : Plan) (ahead : SealedPacket → List ℕ) (bytes : List ℕ) (ds : List SealedPacket) (xs : SealedList)
-    (k : ℕ) (x : SealedPacket × Packet)
-    → slice_get (with_sealed plan ahead bytes ds xs) k ≡ Some x → (slice_get xs k ≡ Some x)
-    ⊎ ((length xs ≤ k) × IsNew plan bytes ds x.0 x.1)
+    (k : ℕ) (x : SealedPacket × Packet) → slice_get (with_sealed plan ahead bytes ds xs) k ≡ Some x
+    → (slice_get xs k ≡ Some x) ⊎ ((length xs ≤ k) × IsNew plan bytes ds x.0 x.1)
 with_at plan ahead bytes [] xs k x is = inl is
 with_at plan ahead bytes (d ∷ ds) xs k x is =
     let unfinished = open_unit (sub_stream_packets xs (sub_stream_of d) d.draw) in

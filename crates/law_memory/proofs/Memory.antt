@@ -78,8 +78,7 @@ request_says regions t g n head payload =
     by false lead fields o t = as_read (read_with lead fields o) t
 
 head_says : (plan : Plan) (policy : Policy) (n : ℕ) (port : PortName) (unit : UnitName) (p : Packet) (payload : List ℕ)
-    (r : Result HeadView TlpFault)
-    → is_applied (host_effect plan policy.grants n port unit p r)
+    (r : Result HeadView TlpFault) → is_applied (host_effect plan policy.grants n port unit p r)
     ≡ is_some (payload_write plan policy.grants port unit p.prefix.t payload r)
 head_says plan policy n port unit p payload (Err f) = refl
 head_says plan policy n port unit p payload (Ok head) = request_says plan.memory p.prefix.t
@@ -107,16 +106,14 @@ device_says xs unit p (Ok head) = mmio_says xs p.prefix.t unit.stream unit.draw 
 
 -- a packet's effect is applied exactly if its write is admitted
 effect_says : (plan : Plan) (policy : Policy) (n : ℕ) (port : PortName) (unit : UnitName) (p : Packet)
-    (payload : List ℕ)
-    → is_applied (effect_by plan policy n port unit p)
+    (payload : List ℕ) → is_applied (effect_by plan policy n port unit p)
     ≡ is_some (write_if_admitted plan policy.grants port unit p payload)
 effect_says plan policy n port unit p payload = by (is_sync_packet p) (at_switch plan port)
     (sent_direction port.side == 0)
   where
     by : (s c b : Bool) → is_applied
         (if s then effect.Sync else if c then switch_effect else if b then host_effect plan policy.grants n port unit p
-        (read_head_of p.head)
-        else device_effect (policy.statuses port.line) unit p (read_head_of p.head))
+        (read_head_of p.head) else device_effect (policy.statuses port.line) unit p (read_head_of p.head))
         ≡ is_some (if not s && (not c && b) then payload_write plan policy.grants port unit p.prefix.t payload
         (read_head_of p.head) else None)
     by true c b = refl
@@ -125,8 +122,7 @@ effect_says plan policy n port unit p payload = by (is_sync_packet p) (at_switch
     by false false true = head_says plan policy n port unit p payload (read_head_of p.head)
 
 each_says : (plan : Plan) (policy : Policy) (n : ℕ) (port : PortName) (unit : UnitName) (plain : List ℕ)
-    (ps : List Packet)
-    → map is_applied (effects_each plan policy n port unit ps)
+    (ps : List Packet) → map is_applied (effects_each plan policy n port unit ps)
     ≡ map is_some (admitted_each plan policy.grants port unit plain ps)
 each_says plan policy n port unit plain [] = refl
 each_says plan policy n port unit plain (p ∷ ps) =

@@ -55,8 +55,7 @@ pub record Owned (plan : Plan) (h : History) (link : ℕ) (w : Verdict) (read : 
   pub site : Site
   pub owns : site_of_requester plan link read.read.requester ≡ Some site
   pub is : w ≡ completion_verdict plan h (sending_port plan (Access (ae.Answer link))) site.number read.draw
-      (granted_to h (Some site))
-      (outgoing_completion plan h link)
+      (granted_to h (Some site)) (outgoing_completion plan h link)
 
 pub owned_means : (plan : Plan) (h : History) (link : ℕ) (w : Verdict) (read : WaitingRead) (o : Option Site)
     → takes w ≡ true → site_of_requester plan link read.read.requester ≡ o
@@ -92,9 +91,8 @@ is_sent _ = true
 not_sent : (i : ℕ) (c : BlockCause) (w : Verdict) → is_sent w ≡ true → v.Access (av.Dropped i c) ≡ w → ⊥
 not_sent i c w sent is = true≢false (sym sent ∙ sym (ap is_sent is))
 
-first_sent : (xs : List (Bool × Verdict)) (last : Verdict)
-    → AllByRecursion (λ (x : Bool × Verdict). is_sent x.1 ≡ true) xs → is_sent last ≡ true
-    → is_sent (unwrap_or (first_that_holds xs) last) ≡ true
+first_sent : (xs : List (Bool × Verdict)) (last : Verdict) → AllByRecursion (λ (x : Bool × Verdict). is_sent x.1 ≡ true)
+    xs → is_sent last ≡ true → is_sent (unwrap_or (first_that_holds xs) last) ≡ true
 first_sent [] last all ends = ends
 first_sent ((true, w) ∷ xs) last all ends = all.0
 first_sent ((false, w) ∷ xs) last all ends = first_sent xs last all.1 ends
@@ -150,14 +148,12 @@ pub record Under (plan : Plan) (h : History) (link : ℕ) (ds : List SealedPacke
   pub key : is_before (live_key h (sending_port plan (Access (ae.Answer link)))
       (lane_out (sending_port plan (Access (ae.Answer link))) bound.stream Cpl)) bound.floor ≡ false
   pub sent : Sealed ds ≡ send_due plan h (sending_port plan (Access (ae.Answer link))) (outgoing_completion plan h link)
-      false
-      true
+      false true
 
 pub under_means : (plan : Plan) (h : History) (link : ℕ) (ds : List SealedPacket) (x : Site) (draw : ℕ)
-    (o : Option Binding) → granted_to h (Some x) ≡ o
-    → Sealed ds ≡ completion_verdict plan h (sending_port plan (Access (ae.Answer link))) x.number draw o
-    (outgoing_completion plan h link)
-    → Under plan h link ds x draw
+    (o : Option Binding) → granted_to h (Some x) ≡ o → Sealed ds
+    ≡ completion_verdict plan h (sending_port plan (Access (ae.Answer link))) x.number draw o
+    (outgoing_completion plan h link) → Under plan h link ds x draw
 under_means plan h link ds x draw None bound is = absurd cc
 under_means plan h link ds x draw (Some b) bound is =
     by (binding_cause b (stream_taken (outgoing_completion plan h link)) draw) refl is
@@ -174,10 +170,9 @@ under_means plan h link ds x draw (Some b) bound is =
     admitted a false k is = record
         { bound = b; is = bound; stream = a.stream; fresh = a.fresh; key = k; sent = is }
 
-    by : (c : Option BlockCause) → binding_cause b (stream_taken (outgoing_completion plan h link)) draw ≡ c
-        → Sealed ds ≡ answer_judged plan h (sending_port plan (Access (ae.Answer link)))
-        (outgoing_completion plan h link) (judged_by x.number b c)
-        → Under plan h link ds x draw
+    by : (c : Option BlockCause) → binding_cause b (stream_taken (outgoing_completion plan h link)) draw ≡ c → Sealed ds
+        ≡ answer_judged plan h (sending_port plan (Access (ae.Answer link))) (outgoing_completion plan h link)
+        (judged_by x.number b c) → Under plan h link ds x draw
     by (Some c) blocked is = absurd cc
     by None none is =
         admitted (binding_admits b (stream_taken (outgoing_completion plan h link)) draw none)

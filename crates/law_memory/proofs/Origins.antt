@@ -92,15 +92,13 @@ both true b e = (refl, e)
 both false b e = absurd cc
 
 pub admitted_means : (plan : Plan) (h : History) (port : PortName) (unit : UnitName) (p : Packet) (payload : List ℕ)
-    (w : Write) → write_if_admitted plan (grant_at plan h) port unit p payload ≡ Some w
-    → Admitted plan h port unit p
+    (w : Write) → write_if_admitted plan (grant_at plan h) port unit p payload ≡ Some w → Admitted plan h port unit p
 admitted_means plan h port unit p payload w is = by (not (is_sync_packet p)) (at_switch plan port)
     (sent_direction port.side == 0) refl (read_head_of p.head) refl is
   where
     by : (a c b : Bool) → (sent_direction port.side == 0) ≡ b → (r : Result HeadView TlpFault) → read_head_of p.head ≡ r
         → (if a && (not c && b) then payload_write plan (grant_at plan h) port unit p.prefix.t payload r else None)
-        ≡ Some w
-        → Admitted plan h port unit p
+        ≡ Some w → Admitted plan h port unit p
     by false c b host r reads is = absurd cc
     by true true b host r reads is = absurd cc
     by true false false host r reads is = absurd cc
@@ -140,8 +138,7 @@ granted_means h (Some x) b e =
 
 -- of the requester
 pub owner_means : (plan : Plan) (h : History) (link stream draw : ℕ) (head : HeadView) (o : Option ℕ) → owner_id head
-    ≡ o
-    → is_on_bound stream draw (option_and_then (grant_at plan h link) o) ≡ true → For plan h link stream draw head
+    ≡ o → is_on_bound stream draw (option_and_then (grant_at plan h link) o) ≡ true → For plan h link stream draw head
 owner_means plan h link stream draw head None named e = absurd cc
 owner_means plan h link stream draw head (Some rid) named e =
     let b = bound_means stream draw (grant_at plan h link rid) e in
@@ -267,11 +264,10 @@ sent_at plan fits facts h e port unit effects cause forged n p is =
 
 -- the packet that was sealed at a pair, as one of a sub-stream and draw, is the interface's
 pub trusted_there : (plan : Plan) (h : History) (port : PortName) (unit : UnitName) (p : Packet)
-    (adm : Admitted plan h port unit p) (for : For plan h port.line unit.stream unit.draw adm.head)
-    (d : SealedPacket) (q : Packet) (older : History) (bytes : List ℕ) (trusted : Bool)
-    (ds : List SealedPacket)
-    → q ≡ p → sub_stream_of d ≡ received_in port unit → IsNew plan bytes ds d q
-    → SealFits plan older bytes trusted d → IsTrusted plan for.site bytes d
+    (adm : Admitted plan h port unit p) (for : For plan h port.line unit.stream unit.draw adm.head) (d : SealedPacket)
+    (q : Packet) (older : History) (bytes : List ℕ) (trusted : Bool) (ds : List SealedPacket) → q ≡ p → sub_stream_of d
+    ≡ received_in port unit → IsNew plan bytes ds d q → SealFits plan older bytes trusted d
+    → IsTrusted plan for.site bytes d
 trusted_there plan h port unit p adm for d q older bytes trusted ds same stream new fit =
     let prefix = ap (λ (r : Packet). r.prefix) new.packet ∙ prefix_is plan new.ahead bytes d new.unfinished in
     let has_t : d.t ≡ true = sym (ap (λ (f : Prefix). f.t) prefix) ∙

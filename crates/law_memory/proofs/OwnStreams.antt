@@ -31,9 +31,8 @@ all_behind : {A : Type 0} (P : A → Type 0) (xs ys : List A) → AllByRecursion
 all_behind P [] ys one two = two
 all_behind P (x ∷ xs) ys one two = (one.0, all_behind P xs ys one.1 two)
 
-on_one : (links : List LinkPlan) (l : LinkPlan) (number link : ℕ) (ps : List InterfacePlan)
-    → slice_get links link ≡ Some l → All (FitsInterface l.streams) ps
-    → AllByRecursion (HasOwn links) (sites_of_plans number link ps)
+on_one : (links : List LinkPlan) (l : LinkPlan) (number link : ℕ) (ps : List InterfacePlan) → slice_get links link
+    ≡ Some l → All (FitsInterface l.streams) ps → AllByRecursion (HasOwn links) (sites_of_plans number link ps)
 on_one links l number link [] at each = tt
 on_one links l number link (p ∷ ps) at each = (
   ap (λ (o : Option LinkPlan). own_has_id o p.stream) at ∙ own_selective p.stream l.streams

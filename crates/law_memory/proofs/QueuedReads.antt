@@ -57,8 +57,7 @@ queued_means plan h k port unit p is =
   where
     by : (a c b : Bool) → (sent_direction port.side == 0) ≡ b → (r : Result HeadView TlpFault) → read_head_of p.head ≡ r
         → (if a then effect.Sync else if c then switch_effect else if b then host_effect plan (grant_at plan h) k port
-        unit p r
-        else device_effect ((policy_at plan h).statuses port.line) unit p r) ≡ effect.Queued
+        unit p r else device_effect ((policy_at plan h).statuses port.line) unit p r) ≡ effect.Queued
         → Admitted plan h port unit p
     by true c b host r reads is = absurd cc
     by false true b host r reads is = absurd cc

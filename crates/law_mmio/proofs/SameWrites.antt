@@ -136,8 +136,7 @@ none_zero e port unit effects x bar = refl
 
 -- at another port than the device's of the link
 elsewhere_none : (xs : ℕ → List InterfaceStatus) (plan : Plan) (port : PortName) (unit : UnitName) (ps : List Packet)
-    (link : ℕ)
-    → is_same_port (port_of plan port) (device_port link) ≡ false
+    (link : ℕ) → is_same_port (port_of plan port) (device_port link) ≡ false
     → (if (port_of plan port).line == link then unit_happenings (xs (port_of plan port).line) plan port unit ps else [])
     ≡ []
 elsewhere_none xs plan port unit ps link is =
@@ -166,9 +165,8 @@ unit_there : (plan : Plan) (h : History) (e : Event) (port : PortName) (unit : U
     (x : Site) (bar : ℕ) → site_at plan x.number ≡ Some x → Accepted port unit effects ≡ due plan h e
     → is_same_port (port_of plan port) (device_port x.link) ≡ true
     → writes_since (newest_happened (happens plan h e (Accepted port unit effects) x.link)
-    (link_happenings plan h x.link))
-    (place_of plan x) bar
-    ≡ newest_first (stores plan h e (Accepted port unit effects) x bar)
+    (link_happenings plan h x.link)) (place_of plan x) bar ≡ newest_first
+    (stores plan h e (Accepted port unit effects) x bar)
     (writes_since (link_happenings plan h x.link) (place_of plan x) bar)
 unit_there plan h e port unit effects x bar known is same =
     by (port_of plan port) (same_port (port_of plan port) (device_port x.link) same) effects
@@ -182,13 +180,12 @@ unit_there plan h e port unit effects x bar known is same =
 
     by : (q : PortName) → q ≡ device_port x.link → (es : List Effect) → es
         ≡ effects_under_policy plan (policy_at plan h) q unit ps
-        → writes_since (newest_happened (if q.line == x.link
-        then (if is_device_port plan q then stored_each (history_statuses plan h q.line) unit plain ps else []) else
-        [])
+        → writes_since (newest_happened
+        (if q.line == x.link then
+        (if is_device_port plan q then stored_each (history_statuses plan h q.line) unit plain ps else []) else [])
         (link_happenings plan h x.link)) (place_of plan x) bar
-        ≡ newest_first (if is_same_port q (device_port x.link)
-        then unit_stored_writes (history_statuses plan h x.link) (place_of plan x) bar plain es ps else [])
-        (writes_since (link_happenings plan h x.link) (place_of plan x) bar)
+        ≡ newest_first (if is_same_port q (device_port x.link) then unit_stored_writes (history_statuses plan h x.link)
+        (place_of plan x) bar plain es ps else []) (writes_since (link_happenings plan h x.link) (place_of plan x) bar)
     by q at es are =
         rw (at, eqb-refl x.link, no_switch plan x known) (subst (λ (fs : List Effect).
         writes_since (newest_happened (stored_each (history_statuses plan h x.link) unit plain ps)
@@ -202,9 +199,8 @@ unit_there plan h e port unit effects x bar known is same =
 unit_same : (plan : Plan) (h : History) (e : Event) (port : PortName) (unit : UnitName) (effects : List Effect)
     (x : Site) (bar : ℕ) → site_at plan x.number ≡ Some x → Accepted port unit effects ≡ due plan h e
     → writes_since (newest_happened (happens plan h e (Accepted port unit effects) x.link)
-    (link_happenings plan h x.link))
-    (place_of plan x) bar
-    ≡ newest_first (stores plan h e (Accepted port unit effects) x bar)
+    (link_happenings plan h x.link)) (place_of plan x) bar ≡ newest_first
+    (stores plan h e (Accepted port unit effects) x bar)
     (writes_since (link_happenings plan h x.link) (place_of plan x) bar)
 unit_same plan h e port unit effects x bar known is =
     elim (cases_Bool (is_same_port (port_of plan port) (device_port x.link))) [

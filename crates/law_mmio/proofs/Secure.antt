@@ -93,9 +93,8 @@ keys_same : (h : History) (e : Event) (w : Verdict) (p : KeyPlace) → touches (
 unfolding moments
 keys_same h e w p none = rw none refl
 
-stays_whole : (h : History) (e : Event) (w : Verdict) (side : Side) (line stream : ℕ)
-    → fails_there side line stream w ≡ false → failed_there h side line stream ≡ false
-    → failed_there ((e, w) ∷ h) side line stream ≡ false
+stays_whole : (h : History) (e : Event) (w : Verdict) (side : Side) (line stream : ℕ) → fails_there side line stream w
+    ≡ false → failed_there h side line stream ≡ false → failed_there ((e, w) ∷ h) side line stream ≡ false
 unfolding failed_there
 stays_whole h e w side line stream none whole = rw (none, whole) refl
 
@@ -133,8 +132,7 @@ interface_leaves_secure plan h e w side line stream is secure =
 before : (plan : Plan) (h : History) (e : Event) (w : Verdict) (x : Site)
     → (Held (interface_at plan h x).state → has_secure_stream h x ≡ true)
     → Held (next_interface (around_at plan h x) (is_stream_left plan h e w x (interface_at plan h x)) x e w
-    (interface_at plan h x)).state
-    → has_secure_stream h x ≡ true
+    (interface_at plan h x)).state → has_secure_stream h x ≡ true
 before plan h e w x earlier held =
     let a = around_at plan h x in
     let t = interface_at plan h x in
@@ -146,8 +144,7 @@ before plan h e w x earlier held =
     by l (inr made) = accepts_secure (around_at plan h x) x e w (interface_at plan h x) made.0
 
 not_left_by : (b c a : Bool) (t : DeviceTdi) → Held (interface_if_called ((b && not c) || a) StreamLeft t).state → b
-    ≡ true
-    → c ≡ true
+    ≡ true → c ≡ true
 not_left_by true true a t held is = refl
 not_left_by true false a t held is = absurd (not_failed t.state held)
 not_left_by false c a t held is = absurd (true≢false (sym is))
@@ -162,8 +159,7 @@ other_link false b c a t held is = not_left_by b c a t held is
 -- and after it
 after : (plan : Plan) (h : History) (e : Event) (w : Verdict) (x : Site) → w ≡ due plan h e
     → Held (next_interface (around_at plan h x) (is_stream_left plan h e w x (interface_at plan h x)) x e w
-    (interface_at plan h x)).state
-    → has_secure_stream h x ≡ true → has_secure_stream ((e, w) ∷ h) x ≡ true
+    (interface_at plan h x)).state → has_secure_stream h x ≡ true → has_secure_stream ((e, w) ∷ h) x ≡ true
 after plan h (event.Interface e) w x is held secure =
     interface_leaves_secure plan h e w Device x.link x.plan.stream is secure
 after plan h (event.Reset l ends) (v.Reset k) x is held secure =

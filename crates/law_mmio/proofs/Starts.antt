@@ -169,9 +169,8 @@ kept_on plan h e w x floor same now was = record {
   on = was.on ∙ ap Some same;
 }
 
-just_started : (plan : Plan) (h : History) (e : Event) (w : Verdict) (x : Site) → CauseLaw plan h
-    → runs_at plan h x ≡ false → runs_at plan ((e, w) ∷ h) x ≡ true
-    → IsStartedUnder plan ((e, w) ∷ h) x (device_floor plan ((e, w) ∷ h) x)
+just_started : (plan : Plan) (h : History) (e : Event) (w : Verdict) (x : Site) → CauseLaw plan h → runs_at plan h x
+    ≡ false → runs_at plan ((e, w) ∷ h) x ≡ true → IsStartedUnder plan ((e, w) ∷ h) x (device_floor plan ((e, w) ∷ h) x)
 unfolding devices
 just_started plan h e w x cause rests runs =
     let it = starts_it (around_at plan h x) (is_stream_left plan h e w x (interface_at plan h x)) e w x

@@ -51,8 +51,7 @@ by_span xs t stream draw place bar payload (Some s) older =
     by_claim (claim_of xs s) (record { span = s; payload = payload }) t stream draw place bar older
 
 by_head : (xs : List InterfaceStatus) (unit : UnitName) (p : Packet) (place bar : ℕ) (payload : List ℕ)
-    (r : Result HeadView TlpFault)
-    → StoresAs (tlp_happened xs unit p.prefix.t payload r) place bar
+    (r : Result HeadView TlpFault) → StoresAs (tlp_happened xs unit p.prefix.t payload r) place bar
     (if_stored (device_effect xs unit p r) (claimed_write xs place bar (write_read payload r)))
 by_head xs unit p place bar payload (Err f) older = refl
 by_head xs unit p place bar payload (Ok head) older =
@@ -66,12 +65,11 @@ one_packet : (plan : Plan) (policy : Policy) (n link : ℕ) (unit : UnitName) (p
 one_packet plan policy n link unit p place bar payload off older =
     by (is_sync_packet p) (at_switch plan (device_port link)) off
   where
-    by : (s c : Bool) → c ≡ false → writes_since (cons_option
-        (if s then None else tlp_happened (policy.statuses link) unit p.prefix.t payload (read_head_of p.head)) older)
-        place bar
-        ≡ cons_option (if_stored
-        (if s then effect.Sync else if c then switch_effect
-        else device_effect (policy.statuses link) unit p (read_head_of p.head))
+    by : (s c : Bool) → c ≡ false → writes_since
+        (cons_option (if s then None else tlp_happened (policy.statuses link) unit p.prefix.t payload
+        (read_head_of p.head)) older) place bar ≡ cons_option
+        (if_stored (if s then effect.Sync else if c then switch_effect else device_effect (policy.statuses link) unit p
+        (read_head_of p.head))
         (claimed_write (policy.statuses link) place bar (write_read payload (read_head_of p.head))))
         (writes_since older place bar)
     by true c is = refl

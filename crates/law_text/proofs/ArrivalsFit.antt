@@ -157,8 +157,7 @@ brought_fits plan fits h n x bytes a known small is =
 
 -- bytes of a packet that come or do not
 if_brought : (plan : Plan) → FitsPlan plan → (h : History) (n : ℕ) (x : SealedPacket × Packet) (bytes : List ℕ)
-    (a : ArrivedBytes)
-    → Known plan h n x → length bytes ≤ length (packet_bytes x.1) → (b : Bool)
+    (a : ArrivedBytes) → Known plan h n x → length bytes ≤ length (packet_bytes x.1) → (b : Bool)
     → (if b then Some (arrival_at_partner plan x bytes) else None) ≡ Some a → FitsArrival plan a
 if_brought plan fits h n x bytes a known small true is = brought_fits plan fits h n x bytes a known small is
 if_brought plan fits h n x bytes a known small false is = absurd cc

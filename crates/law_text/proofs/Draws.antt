@@ -11,9 +11,8 @@ use Rattle.event_verdicts.specs.declared.verdict.Verdict.{Verdict}
 use Rattle.event_verdicts.specs.declared.verdict.Verdict.TheVariants as v
 use Rattle.spec_keys.specs.Keys.{On, key_in}
 use Rattle.spec_keys.specs.Operations.{StreamStage, Idle, Establishing, Up, Refreshing, Stopping, Work, Reach}
-use Rattle.spec_keys.specs.Operations.{StreamOperations}
-use Rattle.spec_keys.specs.Operations.{Begun, work_of, reach_of, manager_after_operation, manager_after, makes_draw}
-use Rattle.spec_keys.specs.Operations.{begun_after_work}
+use Rattle.spec_keys.specs.Operations.{StreamOperations, Begun, work_of, reach_of, manager_after_operation}
+use Rattle.spec_keys.specs.Operations.{manager_after, makes_draw, begun_after_work}
 use Rattle.spec_keys.specs.History.{History, op_of, draws, manager}
 use Rattle.spec_keys.proofs.Owners.{begun_below, manager_owned, owner}
 use Rattle.spec_links.specs.Plan.{SubStream}

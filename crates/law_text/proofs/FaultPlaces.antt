@@ -67,10 +67,9 @@ late_within : (s : List ℕ) (place : ℕ) → 4 ≤ place → packet_place (lat
 late_within s place behind = by_tests (nat_lt place (4 + clear_size (prefix_read s).sub (slice_index s 4)))
     (begins_sync (prefix_read s).sub (slice_index s 4))
   where
-    by_tests : (clear sync : Bool) → packet_place (if clear then
-        (if sync then packets.Sync place else packets.Tlp
-        (fault_after_prefix (cause_at (place - 4) (slice_index s place)))) else
-        packets.Trailing place) ≤ place
+    by_tests : (clear sync : Bool) → packet_place
+        (if clear then (if sync then packets.Sync place else packets.Tlp
+        (fault_after_prefix (cause_at (place - 4) (slice_index s place)))) else packets.Trailing place) ≤ place
     by_tests true true = omega arith
     by_tests true false = omega (
       arith,

@@ -144,8 +144,7 @@ open_fits plan ports line stream set x fits =
     (fits_if plan (is_live_sender ports line stream set Cpl) (v.RefusedUnitOpen Cpl) x tt fits))
 
 refresh_fits : (plan : Plan) (kp : KeyPlan) (q : StreamStage) (next : ℕ) (host : StreamStatus) (ports : PortView)
-    (line stream : ℕ)
-    (set : Bool) (x : Verdict) → next < 2 ^ 64 → Fits plan x
+    (line stream : ℕ) (set : Bool) (x : Verdict) → next < 2 ^ 64 → Fits plan x
     → Fits plan (may_refresh kp line next q host (unless_open ports line stream set) x)
 refresh_fits plan kp Idle next host ports line stream set x few fits = tt
 refresh_fits plan kp (Establishing j n) next host ports line stream set x few fits = tt

@@ -24,9 +24,7 @@ use Rattle.script_events.specs.declared.event.AccessEvent.TheVariants as ae
 -- ---- the last that is sealed
 
 with_last : (plan : Plan) (ahead : SealedPacket → List ℕ) (bytes : List ℕ) (ds : List SealedPacket) (d : SealedPacket)
-    (before : SealedList)
-    → with_sealed plan ahead bytes (ds ++ d ∷ []) before
-    ≡ with_sealed plan ahead bytes ds before
+    (before : SealedList) → with_sealed plan ahead bytes (ds ++ d ∷ []) before ≡ with_sealed plan ahead bytes ds before
     ++ (
       d,
       packet_of plan (ahead d) bytes d

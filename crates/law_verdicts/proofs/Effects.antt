@@ -35,12 +35,11 @@ use Rattle.guarded_memory.specs.Statuses.{is_open_range, is_config_unlocked, is_
 use Rattle.interface_state.specs.Bindings.{floor_on}
 use Rattle.spec_links.specs.Ports.{at_switch, port_of}
 use Rattle.spec_links.specs.Admission.{switch_effect}
-use Rattle.spec_links.specs.Memory.{Policy, policy_at, unit_grant, host_effect, device_effect, effect_by}
-use Rattle.spec_links.specs.Memory.{effects_each, waiting_then, unit_ended}
+use Rattle.spec_links.specs.Memory.{Policy, policy_at, unit_grant, host_effect, device_effect, effect_by, effects_each}
+use Rattle.spec_links.specs.Memory.{waiting_then, unit_ended}
 use Rattle.law_verdicts.specs.Effects.{is_queued, is_full, asks_granted_read, packet_asks_read, asks_read, which_wait}
 use Rattle.law_verdicts.specs.Effects.{which_find_no_room, takes_as, takes_claimed, takes_claim, takes_span}
-use Rattle.law_verdicts.specs.Effects.{takes_write}
-use Rattle.law_verdicts.specs.Effects.{is_waiting_effect, waits_at, HasExactEffects}
+use Rattle.law_verdicts.specs.Effects.{takes_write, is_waiting_effect, waits_at, HasExactEffects}
 use Rattle.event_verdicts.specs.declared.verdict.BlockCause.{BlockCause}
 use Rattle.event_verdicts.specs.declared.verdict.BlockCause.TheVariants as blocks
 use Rattle.ide_types.specs.declared.interface.BarPlan.{BarPlan}
@@ -130,9 +129,8 @@ request_says plan t g n head = by (memory_read head) t
     by (Some r) true = read_says plan.memory r.span g n
 
 head_says : (plan : Plan) (policy : Policy) (n : ℕ) (port : PortName) (unit : UnitName) (p : Packet)
-    (r : Result HeadView TlpFault)
-    → Says (host_effect plan policy.grants n port unit p r) (packet_asks_read plan policy.grants port unit p.prefix.t r)
-    n
+    (r : Result HeadView TlpFault) → Says (host_effect plan policy.grants n port unit p r)
+    (packet_asks_read plan policy.grants port unit p.prefix.t r) n
 head_says plan policy n port unit p (Err f) = record { queued = refl; full = refl }
 head_says plan policy n port unit p (Ok head) =
     request_says plan p.prefix.t (unit_grant policy.grants port unit head) n head

@@ -6,10 +6,9 @@ use Rattle.spec_links.proofs.Terms.{stream_plan, History, Host, KeyPlan, Plan, E
 use Rattle.spec_links.proofs.Terms.{history_status, has_link, List, [], ◌∷◌, Some, None, Result, Ok, Err, length, not}
 use Rattle.spec_links.proofs.Terms.{unwrap_or, InterfaceEvent, AllByRecursion, PortName, Packet, SealedPacket, CauseLaw}
 use Rattle.spec_links.proofs.Terms.{ArrivedBytes, arrival_due, before_tag_of, Access, WaitingRead, waiting_reads}
-use Rattle.spec_links.proofs.Terms.{send_due}
-use Rattle.spec_links.proofs.Terms.{answer_first, site_answer, completion_verdict, outgoing_completion, is_before}
-use Rattle.spec_links.proofs.Terms.{judged_by, answer_judged, binding_cause, first_that_holds, refusals, lanes_at}
-use Rattle.spec_links.proofs.Terms.{live_key, lane_out, Cpl, dump_due, Site, granted_to, site_of_requester}
+use Rattle.spec_links.proofs.Terms.{send_due, answer_first, site_answer, completion_verdict, outgoing_completion}
+use Rattle.spec_links.proofs.Terms.{is_before, judged_by, answer_judged, binding_cause, first_that_holds, refusals}
+use Rattle.spec_links.proofs.Terms.{lanes_at, live_key, lane_out, Cpl, dump_due, Site, granted_to, site_of_requester}
 use Rattle.spec_links.proofs.Terms.{sending_port, sealed_packets, packet_by_number}
 unfoldable use Rattle.spec_links.proofs.Terms.{due, key_due, before_tag, arrival_of_event}
 use Rattle.spec_links.specs.Terms.{CutValue, IdePacket, PlainTlp, PacketFault, cut_of, in_one_region}
@@ -40,8 +39,8 @@ use Rattle.spec_interfaces.specs.Devices.{around_at, interface_at}
 use Rattle.spec_interfaces.specs.Peers.{has_peer}
 use Rattle.spec_interfaces.specs.Due.{unless_lost, host_status, if_unlocked, verdict_of_lock, lock_answer_at, lock_due}
 use Rattle.spec_interfaces.specs.Due.{asked_state, if_locked_or_running, portions, reported_as, if_locked, if_reported}
-use Rattle.spec_interfaces.specs.Due.{if_fresh, started_as, interface_due, on_site}
-use Rattle.spec_interfaces.specs.Due.{verdict_of_bind, unbound_as, op_status}
+use Rattle.spec_interfaces.specs.Due.{if_fresh, started_as, interface_due, on_site, verdict_of_bind, unbound_as}
+use Rattle.spec_interfaces.specs.Due.{op_status}
 unfoldable use Rattle.spec_interfaces.specs.Due.{interface_verdict_due}
 use Rattle.law_locks.proofs.{drop_first}
 use Rattle.law_locks.proofs.Answered.{reader_there}
@@ -129,8 +128,7 @@ start_some x view reported s draw needs loss answer =
     as_some : (answer : Result (Unit {0}) ℕ) → IsSome (started_as x draw answer)
     as_some answer = grind arith
 
-bind_some : (x : Site) (view : View) (s : StreamStatus) (draw needs line : ℕ) (loss : Option Loss)
-    (answer : Result ℕ ℕ)
+bind_some : (x : Site) (view : View) (s : StreamStatus) (draw needs line : ℕ) (loss : Option Loss) (answer : Result ℕ ℕ)
     → IsSome (if_locked_or_running view
     (if_secure s (if_fresh draw needs (unless_lost loss 1 (verdict_of_bind x line answer)))))
 bind_some x view s draw needs line loss answer =

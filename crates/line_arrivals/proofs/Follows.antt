@@ -72,9 +72,8 @@ interfaces_put Device e l = refl
 abbrev said_by : Side → ℕ → Option PairEnds → Option ℕ
 said_by s id o = option_and_then (λ (l : PairEnds). live_at_port (pair_port s l) id) o
 
-seen_said : (s : Side) (id : ℕ) (o : Option PairEnds)
-    → said_by s id o ≡ option_and_then (λ (e : PortEnd). live_at_port e id)
-    (option_map (λ (l : PairEnds). pair_port s l) o)
+seen_said : (s : Side) (id : ℕ) (o : Option PairEnds) → said_by s id o
+    ≡ option_and_then (λ (e : PortEnd). live_at_port e id) (option_map (λ (l : PairEnds). pair_port s l) o)
 seen_said s id None = refl
 seen_said s id (Some l) = refl
 

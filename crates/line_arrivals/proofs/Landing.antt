@@ -72,9 +72,8 @@ either_way true xs = refl
 either_way false xs = refl
 
 pub unread_turn : (plan : Plan) (o : Option PortName) (ps : List Packet) (statuses : ℕ → List InterfaceStatus)
-    (e : Event)
-    (xs : List LinkAccesses) → IsQuiet plan e → AccessesTurn (waiting_reads_after plan ps e (left_unread o)) same_floors
-    (λ link. happens_by plan statuses ps e (left_unread o) link)
+    (e : Event) (xs : List LinkAccesses) → IsQuiet plan e → AccessesTurn (waiting_reads_after plan ps e (left_unread o))
+    same_floors (λ link. happens_by plan statuses ps e (left_unread o) link)
     (carried_next (unit_tlps plan ps (left_unread o)) e (left_unread o)) xs xs
 unread_turn plan None ps statuses e xs quiet = rests_all _ _ _ _ xs (λ k. record {
   reads_rest = λ ws. refl;
@@ -97,9 +96,8 @@ unread_writes plan grants st a (Some port) = refl
 pub unread_lands : (plan : Plan) (m : InterfacesView) (end : PortName) (bytes : List ℕ) (o : Option PortName)
     (old : EndsView) (c : MemoryContents) (xs : List LinkAccesses)
     → ((k : KeeperView) (packets : List LinkPacket) → AreLinks plan old k → has_port plan end ≡ true → (b : BesidePorts)
-    → (left_unread o, state_of plan old k packets)
-    ≡ stepped_arrival plan b (state_of plan old k packets) (arrival_on plan end bytes))
-    → Lands plan m end bytes (left_unread o) old c xs old c xs
+    → (left_unread o, state_of plan old k packets) ≡ stepped_arrival plan b (state_of plan old k packets)
+    (arrival_on plan end bytes)) → Lands plan m end bytes (left_unread o) old c xs old c xs
 unread_lands plan m end bytes o old c xs same = record {
   bounded = λ packets steps bounded.
       bounded_then 0 old old packets packets steps (omega arith) bounded (stays_all old) bounded.sealed_here;
@@ -367,8 +365,7 @@ module _ (plan : Plan) (end : PortName) (link : ℕ) (d : Direction) (end_is : e
       none = rw switch refl
 
       by : (b : Bool) → newest_happened
-          (if b then unit_happenings (statuses (port_of plan end).line) plan end unit ended
-          else []) older ≡ older
+          (if b then unit_happenings (statuses (port_of plan end).line) plan end unit ended else []) older ≡ older
       by true = ap (λ (hs : List (Option Happened)). newest_happened hs older) none
       by false = refl
 

@@ -74,11 +74,10 @@ pub record IsDelivered (l0 : LinkEnds) (id : ℕ) (a : NextExchange) (e : Stream
   pub requester : device.requester ≡ l0.device.requester
 
 pub is_delivered : (m0 m : ManagerView) (l0 l : LinkEnds) (place id : ℕ) (host device : Found) (e : StreamEnds)
-    (a : NextExchange) (after : DeviceEnd) (reply : List ℕ)
-    → IsAtBothEnds m0 l0 place id host device → DiffersInStream m0 l0 place id e m l → IsAsked true (Some a)
-    → after ≡ asked_device l.device (object_spelling (request_asked true a e.keeper)) a.draw → reply
-    ≡ reply_given l.device (object_spelling (request_asked true a e.keeper)) a.draw
-    → IsDelivered l0 id a e after reply
+    (a : NextExchange) (after : DeviceEnd) (reply : List ℕ) → IsAtBothEnds m0 l0 place id host device
+    → DiffersInStream m0 l0 place id e m l → IsAsked true (Some a) → after
+    ≡ asked_device l.device (object_spelling (request_asked true a e.keeper)) a.draw → reply
+    ≡ reply_given l.device (object_spelling (request_asked true a e.keeper)) a.draw → IsDelivered l0 id a e after reply
 is_delivered m0 m l0 l place id host device e a after reply on st asked after_is reply_is =
     let request : List ℕ = object_spelling (request_asked true a e.keeper) in
     let went : DeviceGoes l0.device.port id e.device request a.draw l.device.port =

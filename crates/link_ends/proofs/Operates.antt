@@ -87,9 +87,8 @@ module _ (k : KeeperView) (m1 : ManagerView) (pool1 : Pool) (l : LinkEnds) (host
   begun_work = work_of (op_name op).operation n.stream.op k.pool.draws
 
   walk_by : (o : Option StreamRefusal) → begin_refusal (op_name op).operation (host_port_view l.host n.stream.id) k.pool
-      n ≡ o
-      → event_walk (op_name op).operation (host_of host.state) k.pool loss l.device.requester (ends_found n host device)
-      ≡ walked_ends_unless o (ends_found n host device)
+      n ≡ o → event_walk (op_name op).operation (host_of host.state) k.pool loss l.device.requester
+      (ends_found n host device) ≡ walked_ends_unless o (ends_found n host device)
       (walk_on 13 loss l.device.requester (begun_ends begun_work k.pool (ends_found n host device)))
   walk_by o refusal =
       ap (λ (q : Option StreamRefusal). walked_ends_unless q (ends_found n host device)

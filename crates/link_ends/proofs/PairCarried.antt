@@ -57,9 +57,8 @@ sends_turned Host Upstream = refl
 turned_at : (id : ℕ) (side : Side) (place : Place) → IsAt id place → IsAt id (at_end side place)
 turned_at id side place at = record { stream_is = at.stream_is; is_there = at.is_there }
 
-end_there : (e : LineEnd) (id : ℕ) (f : Found) → e.port.name.side ≡ e.side
-    → found_stream e.port.plans e.port.states id ≡ Some f → SameShown id (λ place. shown_end e place)
-    (shown_stream id f.state)
+end_there : (e : LineEnd) (id : ℕ) (f : Found) → e.port.name.side ≡ e.side → found_stream e.port.plans e.port.states id
+    ≡ Some f → SameShown id (λ place. shown_end e place) (shown_stream id f.state)
 end_there e id f named is place at =
     rw (at.is_there, at.stream_is, named, is, same-true id, sends_turned e.side place.direction) refl
 

@@ -64,9 +64,7 @@ module _ (k : KeeperView) (m1 : ManagerView) (pool1 : Pool) (l : PairEnds) (near
     begun_work = work_of (op_name op).operation n.stream.op k.pool.draws
 
     walk_by : (o : Option StreamRefusal) → begin_refusal (op_name op).operation (host_port_view l.near.port n.stream.id)
-        k.pool n
-        ≡ o
-        → pair_event (op_name op).operation (host_of near.state) k.pool loss 0 (pair_found n near far)
+        k.pool n ≡ o → pair_event (op_name op).operation (host_of near.state) k.pool loss 0 (pair_found n near far)
         ≡ pair_walked_unless o (pair_found n near far)
         (pair_walk 24 loss 0 (begun_pair begun_work k.pool (pair_found n near far)))
     walk_by o refusal =

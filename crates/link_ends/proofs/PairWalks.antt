@@ -57,9 +57,7 @@ idle_walks more loss m l idle m0 l0 place id near far e on st asking within =
 
 -- the walk if an exchange is asked
 walk_asked : (more : ℕ) (loss : Option Loss) (requester : ℕ) (e : PairStreams) (a : NextExchange)
-    → asked_of_unfinished e.keeper.op
-    ≡ Some a
-    → pair_walk (suc more) loss requester e
+    → asked_of_unfinished e.keeper.op ≡ Some a → pair_walk (suc more) loss requester e
     ≡ pair_goes_on (outcome_of false a (pair_exchanged loss requester a e).judged)
     (pair_after a (pair_exchanged loss requester a e) e)
     (pair_walk more loss requester (pair_after a (pair_exchanged loss requester a e) e))
@@ -79,12 +77,10 @@ module _ (more : ℕ) (loss : Option Loss) (m m1 : ManagerView) (l l1 : PairEnds
     within : IsAsked false (Some asked)
     exchange : IsPairExchanged m0 l0 place id loss asked e r m1 l1
     walk : pair_walk (suc more) loss 0 e ≡ pair_goes_on r (pair_after asked (pair_exchanged loss 0 asked e) e)
-        (pair_walk more loss 0
-        (pair_after asked (pair_exchanged loss 0 asked e) e))
+        (pair_walk more loss 0 (pair_after asked (pair_exchanged loss 0 asked e) e))
 
   one : (m0 : ManagerView) (l0 : PairEnds) (place id : ℕ) (near far : Found) (e : PairStreams)
-      → IsAtBoth m0 l0 place id near far
-      → DiffersInPair m0 l0 place id e m l → m.asking ≡ Some place
+      → IsAtBoth m0 l0 place id near far → DiffersInPair m0 l0 place id e m l → m.asking ≡ Some place
       → IsAsked false (asked_of_unfinished e.keeper.op) → One m0 l0 place id e
   one m0 l0 place id near far e on st asking within =
       let some = some_asked place e.keeper (asked_of_unfinished e.keeper.op)
@@ -107,8 +103,7 @@ module _ (more : ℕ) (loss : Option Loss) (m m1 : ManagerView) (l l1 : PairEnds
 
   -- it goes on
   pub walks_on : (m2 : ManagerView) (l2 : PairEnds) (r2 : StreamOutcome) → r ≡ outcome.Next
-      → PairWalks more loss m1 l1 r2 m2 l2
-      → PairWalks (suc more) loss m l r2 m2 l2
+      → PairWalks more loss m1 l1 r2 m2 l2 → PairWalks (suc more) loss m l r2 m2 l2
   walks_on m2 l2 r2 is rest m0 l0 place id near far e on st asking within =
       let o = one m0 l0 place id near far e on st asking within in
       let x : PairExchanged = pair_exchanged loss 0 o.asked e in

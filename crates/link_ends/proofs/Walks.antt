@@ -53,9 +53,7 @@ idle_walks more loss m l idle m0 l0 place id host device e on st asking within =
 
 -- the walk if an exchange is asked
 walk_asked : (more : ℕ) (loss : Option Loss) (requester : ℕ) (e : StreamEnds) (a : NextExchange)
-    → asked_of_unfinished e.keeper.op
-    ≡ Some a
-    → walk_on (suc more) loss requester e
+    → asked_of_unfinished e.keeper.op ≡ Some a → walk_on (suc more) loss requester e
     ≡ goes_on (outcome_of true a (exchange_outcome loss requester a e).judged)
     (ends_after_exchange a (exchange_outcome loss requester a e) e)
     (walk_on more loss requester (ends_after_exchange a (exchange_outcome loss requester a e) e))
@@ -80,8 +78,7 @@ module _ (more : ℕ) (loss : Option Loss) (m m1 : ManagerView) (l l1 : LinkEnds
         (ends_after_exchange asked (exchange_outcome loss l0.device.requester asked e) e))
 
   one : (m0 : ManagerView) (l0 : LinkEnds) (place id : ℕ) (host device : Found) (e : StreamEnds)
-      → IsAtBothEnds m0 l0 place id host device
-      → DiffersInStream m0 l0 place id e m l → m.asking ≡ Some place
+      → IsAtBothEnds m0 l0 place id host device → DiffersInStream m0 l0 place id e m l → m.asking ≡ Some place
       → IsAsked true (asked_of_unfinished e.keeper.op) → One m0 l0 place id e
   one m0 l0 place id host device e on st asking within =
       let some = some_asked place e.keeper (asked_of_unfinished e.keeper.op)
@@ -105,8 +102,7 @@ module _ (more : ℕ) (loss : Option Loss) (m m1 : ManagerView) (l l1 : LinkEnds
 
   -- it goes on
   pub walks_on : (m2 : ManagerView) (l2 : LinkEnds) (r2 : StreamOutcome) → r ≡ outcome.Next
-      → Walks more loss m1 l1 r2 m2 l2
-      → Walks (suc more) loss m l r2 m2 l2
+      → Walks more loss m1 l1 r2 m2 l2 → Walks (suc more) loss m l r2 m2 l2
   walks_on m2 l2 r2 is rest m0 l0 place id host device e on st asking within =
       let o = one m0 l0 place id host device e on st asking within in
       let x : Exchanged = exchange_outcome loss l0.device.requester o.asked e in

@@ -11,8 +11,7 @@ use Rattle.key_host.specs.Streams.{asked_of_unfinished, has_host, outcome_of}
 use Rattle.key_host.specs.Managers.{ManagerView, Named, named_stream, asking_after, pool_begun}
 use Rattle.key_host.specs.Walk.{IsAsked}
 use Rattle.ide_port.specs.{Found, found_stream, UnitsGrow}
-use Rattle.join_keys.specs.Paired.{PairStreams, pair_exchanged, pair_after, PairWalked, pair_walk}
-use Rattle.join_keys.specs.Paired.{pair_event}
+use Rattle.join_keys.specs.Paired.{PairStreams, pair_exchanged, pair_after, PairWalked, pair_walk, pair_event}
 use Rattle.join_keys.specs.Joined.{host_of}
 use Rattle.link_ends.specs.declared.pair.PairEnds.{PairEnds}
 use Rattle.link_ends.specs.Keepers.{HasStream, KeeperView}

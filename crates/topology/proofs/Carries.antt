@@ -32,8 +32,7 @@ next R S (Err z) b f g h k = record { given = λ x e. absurd cc }
 
 -- the same first step
 pub then : {A C D : Type 0} (S : C → D → Type 0) (a : Result A PlanFault) (f : A → Result C PlanFault)
-    (g : A → Result D PlanFault)
-    → ((x : A) → Carries S (f x) (g x)) → Carries S (a >>= f) (a >>= g)
+    (g : A → Result D PlanFault) → ((x : A) → Carries S (f x) (g x)) → Carries S (a >>= f) (a >>= g)
 then S (Ok x) f g k = k x
 then S (Err z) f g k = record { given = λ x e. absurd cc }
 

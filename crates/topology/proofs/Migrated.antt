@@ -53,9 +53,8 @@ own_value key d (member other e ms) same = own_at (slice_cmp nat_cmp key other) 
 -- ---- the keys
 
 known_at : (o : Ordering) (known : List Text) (key other : Text) (d e : Data) (ms : Members)
-    → slice_cmp nat_cmp key other ≡ o → is_known known key ≡ true
-    → unknown_in known (key_names (with_member key d ms)) ≡ unknown_in known (key_names ms)
-    → unknown_in known (key_names (with_member key d (member other e ms)))
+    → slice_cmp nat_cmp key other ≡ o → is_known known key ≡ true → unknown_in known (key_names (with_member key d ms))
+    ≡ unknown_in known (key_names ms) → unknown_in known (key_names (with_member key d (member other e ms)))
     ≡ unknown_in known (key_names (member other e ms))
 known_at Less known key other d e ms is there later = rw (is, there) refl
 known_at Equal known key other d e ms is there later = rw is refl

@@ -165,9 +165,8 @@ peer_ruled path links earlier p e =
     }
 
 -- each at its place
-pub peers_ruled : (links : List LinkDraft) (all : List PeerPlan) (i : ℕ) (ps : List PeerPlan)
-    → each_peer links all i ps ≡ Ok tt → (k m : ℕ) (p : PeerPlan) → m ≡ i + k → slice_get ps k ≡ Some p
-    → PeerRuled links (take m all) p
+pub peers_ruled : (links : List LinkDraft) (all : List PeerPlan) (i : ℕ) (ps : List PeerPlan) → each_peer links all i ps
+    ≡ Ok tt → (k m : ℕ) (p : PeerPlan) → m ≡ i + k → slice_get ps k ≡ Some p → PeerRuled links (take m all) p
 peers_ruled links all i [] e zero m p at is = absurd cc
 peers_ruled links all i [] e (suc k) m p at is = absurd cc
 peers_ruled links all i (q ∷ ps) e zero m p at is =

@@ -51,8 +51,7 @@ addresses_hold path d =
     }))
 
 selector_fits : (k : StreamKind) (ids : Option IdRange) (addresses : List AddressRange) (default : Bool)
-    (classes : List ℕ) → FitsIds ids
-    → (length addresses ≤ 8) × All FitsAddresses addresses → All (λ c. c ≤ 7) classes
+    (classes : List ℕ) → FitsIds ids → (length addresses ≤ 8) × All FitsAddresses addresses → All (λ c. c ≤ 7) classes
     → FitsSelector (selector_for k ids addresses default classes)
 selector_fits kind.Selective ids addresses default classes i a c = (i, a.0, a.1)
 selector_fits kind.Link ids addresses default classes i a c = c

@@ -50,10 +50,9 @@ takes_reads : (plan : Plan) (link : ℕ) (w : Verdict) (k : ℕ) (ws : List Wait
     → waiting_reads_after plan [] (Access (ae.Answer link)) w k ws ≡ (if link == k then drop 1 ws else ws)
 takes_reads plan link w k ws takes = grind arith
 
-pub answer_keeps : (plan : Plan) (xs : List LinkAccesses) (link : ℕ) (w : Verdict) → takes_read w ≡ false
-    → is_sending w ≡ true
-    → AccessesTurn (waiting_reads_after plan [] (Access (ae.Answer link)) w) same_floors nothing_happens same_carried xs
-    xs
+pub answer_keeps : (plan : Plan) (xs : List LinkAccesses) (link : ℕ) (w : Verdict) → takes_read w ≡ false → is_sending w
+    ≡ true → AccessesTurn (waiting_reads_after plan [] (Access (ae.Answer link)) w) same_floors nothing_happens
+    same_carried xs xs
 answer_keeps plan xs link w keeps sends =
     rests_all _ same_floors nothing_happens same_carried xs (λ k. record {
       reads_rest = λ ws. keeps_reads plan link w k ws keeps sends;

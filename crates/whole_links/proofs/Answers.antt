@@ -72,9 +72,8 @@ found_draw None = refl
 found_draw (Some f) = found_at f.state Cpl
 
 draw_same : (s : Links) (plan : Plan) (link : ℕ) (l : LinkEnds) (stream : ℕ) → AreLinks plan s.ends s.keeper.keys
-    → slice_get s.ends.links link ≡ Some l
-    → sealing_draw_at Cpl (find plan (links_state plan s) (port_at Host link) stream)
-    ≡ sealing_draw_in l.host stream Cpl
+    → slice_get s.ends.links link ≡ Some l → sealing_draw_at Cpl
+    (find plan (links_state plan s) (port_at Host link) stream) ≡ sealing_draw_in l.host stream Cpl
 draw_same s plan link l stream links is =
     let w = wired plan s.ends s.keeper.keys links in
     let on : port_on s.ends (port_at Host link) ≡ Some l.host = host_on s.ends link l w.few is in
@@ -170,11 +169,10 @@ sent_as_answer {verdict} plan old new link r l l_is below x = record {
 }
 
 pub answer_sent_or : (plan : Plan) (r : Result Verdict OutOfMemory) (old new : WholeLinks) (link : ℕ)
-    (reply : BoundCompletion) (l : LinkEnds)
-    → link_reply old link ≡ Ok reply → slice_get old.links.ends.links link ≡ Some l
-    → draw_below (sealing_draw_in l.host reply.bound.stream Cpl) reply.bound.floor ≡ None
-    → EndsSendingOr plan r old.links new.links (port_at Host link) reply.bytes false true
-    → new.accesses ≡ old.accesses → IsBoundedWhole old → WholeEndsOr plan r old new (Access (ae.Answer link))
+    (reply : BoundCompletion) (l : LinkEnds) → link_reply old link ≡ Ok reply → slice_get old.links.ends.links link
+    ≡ Some l → draw_below (sealing_draw_in l.host reply.bound.stream Cpl) reply.bound.floor ≡ None
+    → EndsSendingOr plan r old.links new.links (port_at Host link) reply.bytes false true → new.accesses ≡ old.accesses
+    → IsBoundedWhole old → WholeEndsOr plan r old new (Access (ae.Answer link))
 answer_sent_or plan (Ok verdict) old new link reply l due l_is below x same bounded =
     ends_if plan (sent_as_answer plan old new link reply l l_is below x) bounded.whole (ap length same)
     (λ answer by regions. due)

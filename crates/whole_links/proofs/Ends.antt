@@ -39,9 +39,8 @@ bounded_with old mid x whole = record { bounded = x.bounded; whole = whole ∙ s
 pub ends_if : {IsSo : BesidePorts → Type 0} {verdict : Verdict} {old new : WholeLinks} {event : Event} (plan : Plan)
     → EndsIf IsSo plan verdict old.links new.links event → HasAllAccesses old → length new.accesses
     ≡ length old.accesses
-    → ((answer : InterfaceEvent → Verdict) → IsSaid answer old event
-    → old.links.trusted.contents.regions ≡ plan.memory → IsSo (beside_whole plan old answer))
-    → WholeEnds plan verdict old new event
+    → ((answer : InterfaceEvent → Verdict) → IsSaid answer old event → old.links.trusted.contents.regions ≡ plan.memory
+    → IsSo (beside_whole plan old answer)) → WholeEnds plan verdict old new event
 ends_if {IsSo} {verdict} {old} {new} {event} plan x whole many so = record {
   counted = x.counted;
   bounded = record { bounded = x.bounded; whole = many ∙ whole ∙ sym x.many };

@@ -20,8 +20,7 @@ use Rattle.all_links.specs.{LinkEnds, EndsView, IsTakenAtHost}
 use Rattle.link_stores.specs.declared.link.LinkAccesses.{LinkAccesses}
 use Rattle.whole_links.specs.declared.whole.WholeLinks.{WholeLinks}
 use Rattle.whole_links.specs.declared.reply.Reply.{Reply}
-use Rattle.whole_links.specs.Besides.{IsReplyMade}
-use Rattle.whole_links.specs.Besides.{reply_at_ends, reply_oldest, reply_numbered, reader_of, link_reply}
+use Rattle.whole_links.specs.Besides.{IsReplyMade, reply_at_ends, reply_oldest, reply_numbered, reader_of, link_reply}
 
 module _ (s : WholeLinks) (link : ℕ) (l : LinkEnds) (a : LinkAccesses)
     (l_is : slice_get s.links.ends.links link ≡ Some l)

@@ -120,9 +120,8 @@ arrival_facts_are plan w h stands unnamed (Some a) =
     unless_failed (goes_through plan a.port a.bytes) _ _ _ (packet_is plan w h stands a.port (cut_of a.bytes))
 
 -- of an event that brings bytes, with what is said if it brings none
-pub arriving_is : (plan : Plan) (w : Whole) (h : History) → WholeStandsFor plan w h → (e : Event)
-    (mine due : List Fact) → mine ≡ due
-    → arrival_facts_in plan w mine (arrival_of plan w.links e)
+pub arriving_is : (plan : Plan) (w : Whole) (h : History) → WholeStandsFor plan w h → (e : Event) (mine due : List Fact)
+    → mine ≡ due → arrival_facts_in plan w mine (arrival_of plan w.links e)
     ≡ arrival_facts_due plan h due (arrival_of_event plan h e)
 arriving_is plan w h stands e mine due same =
     (λ i. arrival_facts_in plan w (same i) (arrival_is plan w.links h stands.links.ports_stand e i))

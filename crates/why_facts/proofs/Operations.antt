@@ -36,21 +36,17 @@ ports_are plan w h stands = ports_is plan w.links h stands.links.ports_stand
 pub establish_is : (plan : Plan) (w : Whole) (h : History) → WholeStandsFor plan w h → (line stream : ℕ)
     → if_found (find_op plan w.links line stream)
     (λ q. establish_facts plan (ports_of plan w.links) line stream q w.links.draws)
-    ≡ if_stream plan line stream
-    (establish_facts plan (ports_at h) line stream (op_of h line stream) (draws h))
+    ≡ if_stream plan line stream (establish_facts plan (ports_at h) line stream (op_of h line stream) (draws h))
 establish_is plan w h stands line stream = of_op plan w h stands line stream _ _
     (λ i. establish_facts plan (ports_are plan w h stands i) line stream (op_of h line stream)
     (stands.links.draws_is i))
 
 pub refresh_is : (plan : Plan) (w : Whole) (h : History) → WholeStandsFor plan w h → (line stream : ℕ)
-    → (if is_link_line line
-    then if_found (find_op plan w.links line stream)
+    → (if is_link_line line then if_found (find_op plan w.links line stream)
     (λ q. refresh_facts plan (ports_of plan w.links) line stream q w.links.draws
-    (machine_status plan w.links Host line stream))
-    else [])
-    ≡ (if is_link_line line
-    then if_stream plan line stream (refresh_facts plan (ports_at h) line stream (op_of h line stream) (draws h)
-    (history_status h Host line stream))
+    (machine_status plan w.links Host line stream)) else [])
+    ≡ (if is_link_line line then if_stream plan line stream
+    (refresh_facts plan (ports_at h) line stream (op_of h line stream) (draws h) (history_status h Host line stream))
     else [])
 refresh_is plan w h stands line stream = ap (λ (xs : List Fact). if is_link_line line then xs else [])
     (of_op plan w h stands line stream _ _

@@ -64,8 +64,7 @@ count_is false ps = refl
 
 sets_in : (plan : Plan) (h : History) (port : PortName) (s : SubStream)
     → facts_of_sets (set_state_of_slot (rx_slot plan h port s (port_keys h port s).first))
-    (set_state_of_slot (rx_slot plan h port s (port_keys h port s).second))
-    ≡ received_sets plan h port s
+    (set_state_of_slot (rx_slot plan h port s (port_keys h port s).second)) ≡ received_sets plan h port s
 sets_in plan h port s = λ i. facts_of_sets (received_is plan h port s (port_keys h port s).first i)
     (received_is plan h port s (port_keys h port s).second i)
 
@@ -89,12 +88,11 @@ receiver_is plan h port stream Cpl = λ i. sets_in plan h port (lane_in port str
 
 -- ---- what it sends
 
-sets_out : (plan : Plan) (h : History) (port : PortName) (s : SubStream) → facts_of_sets
-    (set_state_of_slot (tx_slot plan (sealed_packets plan h) s false (port_keys h port s).first
-    (port_keys h port s).second))
+sets_out : (plan : Plan) (h : History) (port : PortName) (s : SubStream)
+    → facts_of_sets (set_state_of_slot
+    (tx_slot plan (sealed_packets plan h) s false (port_keys h port s).first (port_keys h port s).second))
     (set_state_of_slot (tx_slot plan (sealed_packets plan h) s true (port_keys h port s).second
-    (port_keys h port s).first))
-    ≡ sent_sets plan h port s
+    (port_keys h port s).first)) ≡ sent_sets plan h port s
 sets_out plan h port s = λ i. facts_of_sets
     (sent_is plan h s false (port_keys h port s).first (port_keys h port s).second i)
     (sent_is plan h s true (port_keys h port s).second (port_keys h port s).first i)

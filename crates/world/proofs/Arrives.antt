@@ -39,9 +39,8 @@ each_led plan old new w both follows link l l' at at' =
     both.links_after follows link l l' at at')
 
 left_by : (plan : Plan) (old new : Links) (w : Whole) (h : History) (e : Event) (verdict : Verdict)
-    → AreBoth plan old new w → PortsStandFor plan (links_state plan old) h
-    → grants_in old.keeper.interfaces ≡ grant_of plan w.faces
-    → BesideArrival plan (arrival_in_state plan e) verdict old new
+    → AreBoth plan old new w → PortsStandFor plan (links_state plan old) h → grants_in old.keeper.interfaces
+    ≡ grant_of plan w.faces → BesideArrival plan (arrival_in_state plan e) verdict old new
     → IsLeftBy new.trusted.contents (written_after plan w e verdict)
 left_by plan old new w h e verdict both stands grants sides =
     let led = sides.contents h both.links stands both.whole.beside.regions w.written both.whole.beside.written in
@@ -56,9 +55,8 @@ left_by plan old new w h e verdict both stands grants sides =
 
 pub arrives_beside : (plan : Plan) (old new : Links) (w : Whole) (h : History) (e : Event) (verdict : Verdict)
     → is_of_packets e verdict ≡ true → AreBoth plan old new w → PortsStandFor plan (links_state plan old) h
-    → grants_in old.keeper.interfaces ≡ grant_of plan w.faces
-    → new.trusted.contents.regions ≡ old.trusted.contents.regions
-    → BesideArrival plan (arrival_in_state plan e) verdict old new
+    → grants_in old.keeper.interfaces ≡ grant_of plan w.faces → new.trusted.contents.regions
+    ≡ old.trusted.contents.regions → BesideArrival plan (arrival_in_state plan e) verdict old new
     → IsBeside plan new.ends.links new.keeper.interfaces new.trusted.contents
     (whole_after plan w e verdict (links_state plan new))
 arrives_beside plan old new w h e verdict is both stands grants regions sides =

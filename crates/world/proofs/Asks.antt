@@ -159,9 +159,8 @@ module _ (plan : Plan) (old new : Links) (w : Whole) (verdict : Verdict) (both :
   peers_fit = peer_fits plan old.ends old.keeper old.packets.packets old.trusted.contents w join both.links
       both.whole.beside both.whole.drawn both.whole.links
 
-  pub bind_beside : (i line stream : ℕ) (loss : Option Loss)
-      → BesideBinding i line stream (op.Bind (managed_peer_stream old.keeper line stream)) loss old new
-      → IsAsked (ie.Bind i line stream loss)
+  pub bind_beside : (i line stream : ℕ) (loss : Option Loss) → BesideBinding i line stream
+      (op.Bind (managed_peer_stream old.keeper line stream)) loss old new → IsAsked (ie.Bind i line stream loss)
   bind_beside i line stream loss =
       peer_beside i line stream loss (op.Bind (managed_peer_stream old.keeper line stream))
       (record {

@@ -203,8 +203,7 @@ pub record IsOne (plan : Plan) (ends : List LinkEnds) (m : InterfacesView) (w : 
       (accepts_lock (around_of plan (whole_streams plan w) w.faces.used x p.face) x (event.Interface e) verdict
       p.face.tdi))
   pub keeps : IsFace (w.draw x.link x.plan.stream) x interface tdi
-      (next_face plan (whole_streams plan w) (ends_in plan w.links) w.faces.used (event.Interface e) verdict x
-      p.face)
+      (next_face plan (whole_streams plan w) (ends_in plan w.links) w.faces.used (event.Interface e) verdict x p.face)
 
 module _ (plan : Plan) (ends : List LinkEnds) (m : InterfacesView) (memory : MemoryContents) (w : Whole)
     (before : IsBeside plan ends m memory w) (i : ℕ) (x : Site) (at : slice_get (sites plan) i ≡ Some x)
@@ -234,9 +233,8 @@ module _ (plan : Plan) (ends : List LinkEnds) (m : InterfacesView) (memory : Mem
       ap (λ (o : Option ℕ). is_number o y.number) number
       ∙ (ap (λ (n : ℕ). i == n) (site_numbered plan j y there) ∙ apart)
 
-  given_at : (link : ℕ)
-      → list_any is_true (with_each (gives_nonce plan streams_now w.faces.used (event.Interface e) verdict link)
-      (sites plan) w.faces.list)
+  given_at : (link : ℕ) → list_any is_true
+      (with_each (gives_nonce plan streams_now w.faces.used (event.Interface e) verdict link) (sites plan) w.faces.list)
       ≡ ((x.link == link) && gives)
   given_at link = only_one (gives_nonce plan streams_now w.faces.used (event.Interface e) verdict link) (sites plan)
       w.faces.list i x p.face at p.face_is
@@ -384,9 +382,8 @@ module _ (plan : Plan) (ends : List LinkEnds) (m : InterfacesView) (memory : Mem
 
 -- the verdict of an event on an interface that is there
 pub answer_there : (plan : Plan) (w : Whole) (e : InterfaceEvent) (i : ℕ) (x : Site) (f : Face) → number_in e ≡ Some i
-    → slice_get (sites plan) i ≡ Some x → slice_get w.faces.list i ≡ Some f
-    → (beside_of plan w).answer e ≡ asked_due plan x (asked_state_of_face plan (whole_streams plan w) w.faces.used x f)
-    e
+    → slice_get (sites plan) i ≡ Some x → slice_get w.faces.list i ≡ Some f → (beside_of plan w).answer e
+    ≡ asked_due plan x (asked_state_of_face plan (whole_streams plan w) w.faces.used x f) e
 answer_there plan w e i x f number at there =
     ap (λ (o : Option ℕ). answer_to plan (whole_streams plan w) w.faces e o (memory_shown plan w.written e)) number
     ∙ ap (asked_due_of plan (whole_streams plan w) w.faces.used e) (face_found plan w.faces.list i x f at there)
@@ -481,8 +478,7 @@ module _ (plan : Plan) (old new : Links) (w : Whole) (verdict : Verdict) (both :
   -- the interface of this number is called
   called_there : (number : ℕ) (test : DeviceTdi → Bool) (call : Call) (e : InterfaceEvent) (x : Site)
       → IsCall number test call e → BesideCall number test call old new → slice_get (sites plan) number ≡ Some x
-      → verdict ≡ (beside_of plan w).answer e
-      → (p : IsPlaced plan old.ends.links old.keeper.interfaces w number x)
+      → verdict ≡ (beside_of plan w).answer e → (p : IsPlaced plan old.ends.links old.keeper.interfaces w number x)
       → IsOne plan old.ends.links old.keeper.interfaces w number x p e verdict new.ends.links new.keeper.interfaces
   called_there number test call e x c sides at verdict_is p =
       let before = both.whole.beside in

@@ -110,9 +110,8 @@ module _ (plan : Plan) (old new : Links) (w : Whole) (verdict : Verdict) (both :
   found_nowhere none = ap (λ (st : LinkState). find_op plan st line stream) both.whole.links
       ∙ unnamed plan old.ends old.keeper.keys old.packets.packets line stream both.links (sym none)
 
-  told_here : (n : IsNamed old.keeper.keys.manager old.ends line stream)
-      → new.keeper.interfaces ≡ told_on_line o line stream n.it.stream.op w.links.draws (links_state plan new).draws
-      verdict
+  told_here : (n : IsNamed old.keeper.keys.manager old.ends line stream) → new.keeper.interfaces
+      ≡ told_on_line o line stream n.it.stream.op w.links.draws (links_state plan new).draws verdict
       old.keeper.interfaces
   told_here n = sides.told n.it n.here n.found
       ∙ ap (λ (st : LinkState). told_on_line o line stream n.it.stream.op st.draws (links_state plan new).draws verdict
@@ -152,14 +151,12 @@ module _ (plan : Plan) (old new : Links) (w : Whole) (verdict : Verdict) (both :
       })
 
   -- it tells the manager nothing
-  untold_beside : (e : Event) → is_of_ports e verdict ≡ true → arrival_of plan w.links e ≡ None
-      → new.keeper.interfaces ≡ old.keeper.interfaces
-      → ((x : Site) (g : Managed) → x.link < 8
-      → draw_after (whole_streams plan w).op w.links.draws e verdict w.draw x.link x.plan.stream
-      ≡ w.draw x.link x.plan.stream)
-      → ((x : Site) (g : Managed) → x.link < 8
-      → managed_after (whole_streams plan w).op w.links.draws x e verdict g ≡ g)
-      → IsBeside plan new.ends.links new.keeper.interfaces new.trusted.contents
+  untold_beside : (e : Event) → is_of_ports e verdict ≡ true → arrival_of plan w.links e ≡ None → new.keeper.interfaces
+      ≡ old.keeper.interfaces
+      → ((x : Site) (g : Managed) → x.link < 8 → draw_after (whole_streams plan w).op w.links.draws e verdict w.draw
+      x.link x.plan.stream ≡ w.draw x.link x.plan.stream)
+      → ((x : Site) (g : Managed) → x.link < 8 → managed_after (whole_streams plan w).op w.links.draws x e verdict g
+      ≡ g) → IsBeside plan new.ends.links new.keeper.interfaces new.trusted.contents
       (whole_after plan w e verdict (links_state plan new))
   untold_beside e ports none told draw kept =
       operated_beside e (λ h. h) ports none
@@ -266,8 +263,7 @@ module _ (plan : Plan) (old new : Links) (w : Whole) (verdict : Verdict) (both :
       (name_cases old.keeper.keys.manager old.ends line stream)
     where
       this_id : (o : StreamStage) (p : ℕ) (q : PeerPlan) → slice_get plan.peers p ≡ Some q → (line == peer_line p)
-          ≡ true
-          → find_op plan w.links line stream ≡ Some o → (stream == q.id) ≡ true
+          ≡ true → find_op plan w.links line stream ≡ Some o → (stream == q.id) ≡ true
       this_id o p q at here found = peer_stream_id plan w.links p stream q o at
           (ap (λ (n : ℕ). find_op plan w.links n stream) (sym (same_number line (peer_line p) here)) ∙ found)
 
@@ -307,9 +303,8 @@ module _ (plan : Plan) (old new : Links) (w : Whole) (verdict : Verdict) (both :
 
   -- a stream between devices that began has the draw
   pub establish_drawn : BesideOperation op.Establish line stream verdict old new
-      → Steps (event.Establish line stream loss)
-      → AreDrawn plan new.keeper.peer_draws (draw_after (whole_streams plan w).op w.links.draws
-      (event.Establish line stream loss) verdict w.draw)
+      → Steps (event.Establish line stream loss) → AreDrawn plan new.keeper.peer_draws
+      (draw_after (whole_streams plan w).op w.links.draws (event.Establish line stream loss) verdict w.draw)
   establish_drawn sides is =
       let e = establish_told sides is in
       let before = both.whole.drawn in
@@ -422,10 +417,9 @@ module _ (plan : Plan) (old new : Links) (w : Whole) (verdict : Verdict) (both :
 
   -- ---- stop
 
-  stop_of_link : (b : Bool) → BesideOperation op.Stop line stream verdict old new
-      → new.keeper.interfaces ≡ stopped_if b line stream old.keeper.interfaces
-      → stop_begins ((whole_streams plan w).op line stream) w.links.draws verdict ≡ b → nat_le 24 line ≡ false
-      → IsAfter (event.Stop line stream loss)
+  stop_of_link : (b : Bool) → BesideOperation op.Stop line stream verdict old new → new.keeper.interfaces
+      ≡ stopped_if b line stream old.keeper.interfaces → stop_begins ((whole_streams plan w).op line stream)
+      w.links.draws verdict ≡ b → nat_le 24 line ≡ false → IsAfter (event.Stop line stream loss)
   stop_of_link b sides told begins early =
       operated_beside plan old new w verdict both op.Stop line stream sides (event.Stop line stream loss)
       (λ h. if b then left_by_stop line stream h else h) refl refl
@@ -467,8 +461,7 @@ module _ (plan : Plan) (old new : Links) (w : Whole) (verdict : Verdict) (both :
   if_late b late = rw late refl
 
   if_early : (b : Bool) → b ≡ false
-      → (if b then told_by_peer op.Stop line old.keeper.interfaces else old.keeper.interfaces)
-      ≡ old.keeper.interfaces
+      → (if b then told_by_peer op.Stop line old.keeper.interfaces else old.keeper.interfaces) ≡ old.keeper.interfaces
   if_early b early = rw early refl
 
   -- of a stream that is not there

@@ -94,8 +94,7 @@ module _ (plan : Plan) (old new : Links) (w : Whole) (both : AreBoth plan old ne
 
   module _ (there : link < length old.ends.links) where
     device_is : (k : ℕ) (l l' : LinkEnds) → slice_get old.ends.links k ≡ Some l → slice_get new.ends.links k ≡ Some l'
-        → (b : Bool) → (k == link) ≡ b
-        → l'.device.interfaces
+        → (b : Bool) → (k == link) ≡ b → l'.device.interfaces
         ≡ settled_interfaces (secure_or_live l'.device.port (peer_live new.ends k)) (reset_if b l.device.interfaces)
     device_is k l l' at at' b own =
         sides.devices there k l l' at at'

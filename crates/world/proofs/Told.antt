@@ -154,8 +154,7 @@ module _ (ops : ℕ → ℕ → StreamStage) (drawn : ℕ) (x : Site) (line stre
       where
         by : (a b c : Bool) → a ≡ true → b ≡ false → c ≡ true
             → ((b && (stream == x.plan.stream) && stop_begins (ops line stream) drawn w)
-            || ((a && unwrap_or (slice_get g.asked (line - 24)) false) && c))
-            ≡ is_asked (peer_of line) g.asked
+            || ((a && unwrap_or (slice_get g.asked (line - 24)) false) && c)) ≡ is_asked (peer_of line) g.asked
         by a b c is_a is_b is_c = rw (is_a, is_b, is_c) (all (is_asked (peer_of line) g.asked))
           where
             all : (d : Bool) → (d && true) ≡ d
@@ -239,9 +238,8 @@ other_number : (line p : ℕ) → nat_le 24 line ≡ true → (line == peer_line
 other_number line p late is = grind (arith, nat_tests)
 
 -- an establish that began gives its stream the next draw
-pub one_drawn : (ns : List ℕ) (line stream drawn before p id : ℕ) (b : Bool) → p < length ns
-    → slice_index_or ns p 0 ≡ before
-    → (b ≡ true → nat_le 24 line ≡ true → (line == peer_line p) ≡ true → (stream == id) ≡ true)
+pub one_drawn : (ns : List ℕ) (line stream drawn before p id : ℕ) (b : Bool) → p < length ns → slice_index_or ns p 0
+    ≡ before → (b ≡ true → nat_le 24 line ≡ true → (line == peer_line p) ≡ true → (stream == id) ≡ true)
     → slice_index_or (if nat_le 24 line && b then slice_set ns (peer_of line) drawn else ns) p 0
     ≡ (if (line == peer_line p) && (stream == id) && b then drawn else before)
 one_drawn ns line stream drawn before p id false there is same =
@@ -272,8 +270,7 @@ one_drawn ns line stream drawn before p id true there is same = ⊎_elim
     set_if_late a m is_a = rw is_a refl
 
     kept_early : (a : Bool) → a ≡ false → slice_index_or (if a && true then slice_set ns (peer_of line) drawn else ns) p
-        0
-        ≡ slice_index_or ns p 0
+        0 ≡ slice_index_or ns p 0
     kept_early a is_a = rw is_a refl
 
     both_meet : (a b : Bool) → a ≡ true → b ≡ true → (if a && b && true then drawn else before) ≡ drawn

@@ -122,8 +122,7 @@ module _ (plan : Plan) (old new : Links) (w : Whole) (verdict : Verdict) (join :
   same_drawn both same = subst (λ (ns : List ℕ). AreDrawn plan ns w.draw) (sym same) both.whole.drawn
 
   peer_same : (i line stream : ℕ) (o : InterfaceOperation) (loss : Option Loss)
-      → BesideBinding i line stream o loss old new
-      → new.keeper.peer_draws ≡ old.keeper.peer_draws
+      → BesideBinding i line stream o loss old new → new.keeper.peer_draws ≡ old.keeper.peer_draws
   peer_same i line stream o loss sides = ⊎_elim
       (λ few.
       ⊎_elim (λ has. (sides.asked few has).peer_draws) (λ none. (sides.absent none).peer_draws)

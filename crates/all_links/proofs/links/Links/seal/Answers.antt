@@ -1,5 +1,4 @@
-use Rattle.all_links.proofs.Terms.{ap, sym, subst, Links, SendsAt, EndsView}
-use Rattle.all_links.proofs.Terms.{lengths_sent, Sent}
+use Rattle.all_links.proofs.Terms.{ap, sym, subst, Links, SendsAt, EndsView, lengths_sent, Sent}
 use Rattle.all_links.proofs.Finds.{few_units}
 use Rattle.all_links.proofs.Sends.{seals, sealed_length, sent_keeps}
 use Rattle.all_links.proofs.links.Links.seal.Goals as goal

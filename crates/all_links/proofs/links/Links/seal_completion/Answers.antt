@@ -1,5 +1,4 @@
-use Rattle.all_links.proofs.Terms.{ap, sym, subst, Links, SendsAt, EndsView}
-use Rattle.all_links.proofs.Terms.{lengths_sent, Sent}
+use Rattle.all_links.proofs.Terms.{ap, sym, subst, Links, SendsAt, EndsView, lengths_sent, Sent}
 use Rattle.std.specs.Prelude.{true, false}
 use Rattle.ide_types.specs.Ports.{host_port}
 use Rattle.line_arrivals.proofs.{host_there}

@@ -24,12 +24,10 @@ returns-in-None-clause-ends c plan =
 -- whether it has the register
 module _ (ends : List LinkEnds) (at : ℕ × ℕ) (register : Register) (answer : Bool) where
   has_it : (l : LinkEnds) (tdi : DeviceTdi) → slice_get ends at.0 ≡ Some l
-      → slice_get l.device.interfaces.interfaces at.1
-      ≡ Some tdi
+      → slice_get l.device.interfaces.interfaces at.1 ≡ Some tdi
       → IfSome (slice_get ends at.0)
       (λ (y : LinkEnds). IfSome (slice_get y.device.interfaces.interfaces at.1)
-      (λ (t : DeviceTdi). answer ≡ has_register t.plan register))
-      → answer ≡ has_register tdi.plan register
+      (λ (t : DeviceTdi). answer ≡ has_register t.plan register)) → answer ≡ has_register tdi.plan register
   has_it l tdi link_there tdi_there says =
       if_some (λ (t : DeviceTdi). answer ≡ has_register t.plan register) (slice_get l.device.interfaces.interfaces at.1)
       tdi
@@ -39,8 +37,7 @@ module _ (ends : List LinkEnds) (at : ℕ × ℕ) (register : Register) (answer 
 
 -- the verdict, if it has it or not
 written_is : (n : ℕ) (register : Register) (value : ℕ) (tdi : DeviceTdi) (o : Option DeviceTdi) (b : Bool) → o
-    ≡ Some tdi
-    → has_register tdi.plan register ≡ b
+    ≡ Some tdi → has_register tdi.plan register ≡ b
     → (if b then v.Interface (iv.Written n (code_behind tdi (WriteRegister register value))) else v.Nothing)
     ≡ written_as n register value o
 written_is n register value tdi o b is has =
