@@ -71,9 +71,8 @@ unfolding once_of first_part second_part code
 once_test = refl
 
 pub once-sbox : (x : ℕ) → x < 256 → once_of (code x) ≡ code (bit_xor (sbox x) 0x63)
-once-sbox x lt =
-    eqb-true (once_of (code x)) (code (bit_xor (slice_index SBOX x) 0x63)) (all_below_at once_is 256 x once_test lt)
-    ∙ ap (λ (s : ℕ). code (bit_xor s 0x63)) (SBOX-sbox x lt)
+once-sbox x lt = eqb-true (once_of (code x)) (code (bit_xor (slice_index SBOX x) 0x63))
+    (all_below_at once_is 256 x once_test lt) ∙ ap (λ (s : ℕ). code (bit_xor s 0x63)) (SBOX-sbox x lt)
 
 abbrev twice_is : ℕ → Bool
 twice_is x = twice_of (code x) == code (bit_xor (times 2 (slice_index SBOX x)) 0xc6)
@@ -143,8 +142,7 @@ lane a b c d k ha hb hc hd hk =
 
 -- a byte of the last round
 pub last-lane : (a k : ℕ) → a < 256 → k < 256 → bit_xor (last_of (code a)) (last_key k) ≡ bit_xor (sbox a) k
-last-lane a k ha hk =
-    ap (bit_xor (last_of (code a))) (xor_comm k 0x63) ∙ sym (xor_assoc (last_of (code a)) 0x63 k)
+last-lane a k ha hk = ap (bit_xor (last_of (code a))) (xor_comm k 0x63) ∙ sym (xor_assoc (last_of (code a)) 0x63 k)
     ∙ ap (λ (x : ℕ). bit_xor x k) (sbox_of_code a ha)
 
 pub bytes-lt : (w r : ℕ) → r < 4 → word_byte w r < 256

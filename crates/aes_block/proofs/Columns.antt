@@ -27,8 +27,7 @@ items xs i (suc n) rest = slice_index xs i ∷ items xs (suc i) n rest
 
 pub items-drop : (xs : List ℕ) (n i : ℕ) (rest : List ℕ) → i + n ≡ length xs → items xs i n rest ≡ drop i xs ++ rest
 items-drop xs zero i rest e = rw (drop_all i xs (omega arith)) refl
-items-drop xs (suc n) i rest e =
-    rw (items-drop xs n (suc i) rest (omega arith), drop-cons xs i 0 (omega arith)) refl
+items-drop xs (suc n) i rest e = rw (items-drop xs n (suc i) rest (omega arith), drop-cons xs i 0 (omega arith)) refl
 
 -- the bytes of the word of four bytes
 pub word_of-bytes : (a b c d v : ℕ) → IsByte a → IsByte b → IsByte c → IsByte d → v ≡ word_of a b c d

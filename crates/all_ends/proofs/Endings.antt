@@ -136,8 +136,7 @@ ends_fit port (p ∷ ps) start n is =
 pub all_end_there : (start : ℕ) (ports : List PortName) (ends : List ℕ) (port : PortName) (ps : List MeasuredPacket)
     (m n : ℕ) → EndThere start ports ends m → m + sum_by (λ (p : MeasuredPacket). p.length) ps ≡ n
     → EndThere start (ports ++ ports_of port ps) (ends ++ packet_ends_from m (lengths_of ps)) n
-all_end_there start [] [] port ps m n is sum =
-    rw is (ends_fit port ps m n sum)
+all_end_there start [] [] port ps m n is sum = rw is (ends_fit port ps m n sum)
 all_end_there start [] (e ∷ es) port ps m n is sum = absurd is
 all_end_there start (q ∷ qs) [] port ps m n is sum = absurd is
 all_end_there start (q ∷ qs) (e ∷ es) port ps m n is sum = (is.0, all_end_there e qs es port ps m n is.1 sum)

@@ -42,9 +42,8 @@ pair_states_at : (ls : List PairEnds) (s : Side) (i : ℕ) (l : PairEnds) → sl
 pair_states_at [] s i l is = absurd (none-some l is)
 pair_states_at (x ∷ ls) Host zero l is = ap (λ (y : PairEnds). y.near.port.states) (same_Some x l is)
 pair_states_at (x ∷ ls) Device zero l is = ap (λ (y : PairEnds). y.far.port.states) (same_Some x l is)
-pair_states_at (x ∷ ls) s (suc i) l is =
-    ap (λ (n : ℕ). slice_index_or (pair_ports (x ∷ ls)) n []) (twice i (sent_direction s))
-    ∙ pair_states_at ls s i l is
+pair_states_at (x ∷ ls) s (suc i) l is = ap (λ (n : ℕ). slice_index_or (pair_ports (x ∷ ls)) n [])
+    (twice i (sent_direction s)) ∙ pair_states_at ls s i l is
 
 states_set : (ls : List LinkEnds) (s : Side) (i : ℕ) (l : LinkEnds) (e : PortEnd) → slice_get ls i ≡ Some l
     → ports_in (changed_at ls i (with_port s e)) ≡ slice_set (ports_in ls) (2 * i + sent_direction s) e.states
@@ -112,8 +111,7 @@ module _ (v : EndsView) (w : IsWired v) where
 
   -- where rows are found
   pub first_at : (n : ℕ) → n < 16 → slice_index_or (rows_of v) n [] ≡ slice_index_or first_rows n []
-  first_at n lt =
-      get_or_append_left (first_rows ++ near_rows) pair_rows [] n (omega (arith, both_rows, lt))
+  first_at n lt = get_or_append_left (first_rows ++ near_rows) pair_rows [] n (omega (arith, both_rows, lt))
       ∙ get_or_append_left first_rows near_rows [] n (omega (arith, sixteen, lt))
 
   near_at : (n : ℕ) → n < 16 → slice_index_or (rows_of v) (16 + n) [] ≡ slice_index_or near_rows n []
@@ -319,6 +317,5 @@ aggregation_at plan end e id f is at = ap
 
 pub closed_at : (plan : Plan) (end : PortName) (e : PortEnd) (id : ℕ) (f : Found) → IsPort plan end e
     → found_stream e.plans e.states id ≡ Some f → is_closed plan end.line id ≡ f.plan.closed
-closed_at plan end e id f is at =
-    ap (λ (o : Option StreamPlan). option_map_or (λ (s : StreamPlan). s.closed) o false)
+closed_at plan end e id f is at = ap (λ (o : Option StreamPlan). option_map_or (λ (s : StreamPlan). s.closed) o false)
     (plan_at plan end e id f is at)

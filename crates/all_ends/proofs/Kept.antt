@@ -204,8 +204,7 @@ ports_seen (l ∷ ls) (suc i) f host device =
     ap (λ (rows : List (List StreamState)). l.host.states ∷ l.device.port.states ∷ rows) (ports_seen ls i f host device)
 
 pub settled_rows : (v : EndsView) (i : ℕ) → rows_of (settled_link v i) ≡ rows_of v
-settled_rows v i =
-    ap (λ (rows : List (List StreamState)). in_sixteen rows ++ ports_in v.near ++ pair_ports v.pairs)
+settled_rows v i = ap (λ (rows : List (List StreamState)). in_sixteen rows ++ ports_in v.near ++ pair_ports v.pairs)
     (ports_seen v.links i (settled_ends (peer_live v i)) (λ l. refl) (λ l. refl))
 
 pub below_rows : (n : ℕ) (v : EndsView) → rows_of (settled_first_links n v) ≡ rows_of v

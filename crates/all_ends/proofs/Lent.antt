@@ -8,8 +8,8 @@ use Rattle.all_ends.proofs.Terms.{peer_live, KeeperView, NoMoreUnits, Operates}
 use Rattle.all_ends.specs.Ends.{trust_at_place, link_trust, asked_trust, pair_trust, settled_place}
 use Rattle.tlp_layout.specs.declared.choice.ChosenStream.{ChosenStream}
 use Rattle.ide_port.specs.Sends.{IsStreamTaken}
-use Rattle.all_ends.specs.AllEnds.{IsTakenAtHost, TakesAt, SendsAt, OperatesByPlace, OperatesAt, Settles, Calls}
-use Rattle.all_ends.specs.AllEnds.{CallsAt, Asks, AsksAt, IsEnded}
+use Rattle.all_ends.specs.AllEnds.{IsTakenAtHost, TakesAt, SendsAtEnd, OperatesByPlace, OperatesAt, Settles, Calls}
+use Rattle.all_ends.specs.AllEnds.{CallsAtLink, Asks, AsksAtLink, IsEnded}
 use Rattle.all_ends.specs.Places.{code_behind}
 use Rattle.all_ends.specs.States.{EndsUnitsAtMost}
 use Rattle.link_ends.specs.declared.host.HostKeeper.{HostKeeper}
@@ -272,7 +272,7 @@ module _ (v : EndsView) (end : PortName) (tlp : List ℕ) (more trusted : Bool) 
   pub send_link : (x y : LinkEnds) → Link i ≡ line_place end.line → x ≡ slice_index_or v.links i x
       → Goes (port_in end.side x) (trusting_at end.side x trusted) (port_in end.side y)
       → y ≡ with_port end.side (port_in end.side y) x
-      → SendsAt v end tlp more trusted answer (record v { links = slice_set v.links i y }) sealed
+      → SendsAtEnd v end tlp more trusted answer (record v { links = slice_set v.links i y }) sealed
   send_link x y at read goes made e is =
       let there = seen v end (Link i) at e is in
       let e' : PortEnd = port_in end.side y in
@@ -290,7 +290,7 @@ module _ (v : EndsView) (end : PortName) (tlp : List ℕ) (more trusted : Bool) 
   pub send_near : (x y : LinkEnds) → Near i ≡ line_place end.line → x ≡ slice_index_or v.near i x
       → Goes (port_in end.side x) (asked_trust trusted) (port_in end.side y)
       → y ≡ with_port end.side (port_in end.side y) x
-      → SendsAt v end tlp more trusted answer (record v { near = slice_set v.near i y }) sealed
+      → SendsAtEnd v end tlp more trusted answer (record v { near = slice_set v.near i y }) sealed
   send_near x y at read goes made e is =
       let there = seen v end (Near i) at e is in
       let e' : PortEnd = port_in end.side y in
@@ -305,7 +305,7 @@ module _ (v : EndsView) (end : PortName) (tlp : List ℕ) (more trusted : Bool) 
   pub send_pair : (x y : PairEnds) (t : Trusting) → Pair i ≡ line_place end.line → x ≡ slice_index_or v.pairs i x
       → Goes (pair_port end.side x) t (pair_port end.side y) → t ≡ pair_trust v end.side i trusted
       → y ≡ with_pair_port end.side (pair_port end.side y) x
-      → SendsAt v end tlp more trusted answer (record v { pairs = slice_set v.pairs i y }) sealed
+      → SendsAtEnd v end tlp more trusted answer (record v { pairs = slice_set v.pairs i y }) sealed
   send_pair x y t at read goes trusts made e is =
       let there = seen v end (Pair i) at e is in
       let e' : PortEnd = pair_port end.side y in
@@ -366,7 +366,7 @@ pub call_there : (v : EndsView) (link place : ℕ) (call : Call) (code : ℕ) (x
     → x ≡ slice_index_or v.links link x → IfSome (slice_get x.device.interfaces.interfaces place)
     (λ tdi. d ≡ record x.device { interfaces = called_at x.device.interfaces place tdi call })
     → IfSome (slice_get d.interfaces.interfaces place) (λ tdi. code ≡ state_code tdi.state)
-    → CallsAt v link place call code
+    → CallsAtLink v link place call code
     (record v { links = slice_set v.links link (record x { device = d }) })
 call_there v link place call code x d read called coded l is =
     let same : x ≡ l = read_there v.links link x l read is in
@@ -400,7 +400,7 @@ pub asks_there : (v : EndsView) (link : ℕ) (k k' : HostKeeper) (interface : �
     (λ i. e ≡ operated_on interface o loss k.keys (peer_live v link) k.interfaces x i))
     → k'.keys ≡ k.keys → k'.peer_draws ≡ k.peer_draws
     → y ≡ record x { device = record x.device { interfaces = y.device.interfaces } }
-    → AsksAt v link k interface o loss outcome (record v { links = slice_set v.links link y }) k'
+    → AsksAtLink v link k interface o loss outcome (record v { links = slice_set v.links link y }) k'
 asks_there v link k k' interface o loss outcome x y read operated keys draws ends l is =
     let same : x ≡ l = read_there v.links link x l read is in
     let e : Ended = record { outcome = outcome; manager = k'.interfaces; device = y.device.interfaces } in

@@ -5,7 +5,7 @@ use Rattle.all_ends.proofs.Terms.{All-nil, All-tail, FitsLink, FitsStream, LinkP
 use Rattle.std.specs.Prelude.{true}
 use Rattle.ide_types.specs.declared.plan.HopPlan.{HopPlan}
 use Rattle.ide_types.specs.declared.plan.PeerPlan.{PeerPlan}
-use Rattle.ide_types.specs.Fits.{FitsPlan, FitsAddresses, FitsHopIf, FitsPeer, is_aggregation}
+use Rattle.ide_types.specs.Fits.{FitsPlan, FitsAddresses, FitsHopIfAny, FitsPeer, is_aggregation}
 use Rattle.arrival_verdicts.specs.{hop_streams, lone_stream, in_eight}
 use Rattle.all_ends.specs.Ends.{hop_row, peer_row}
 
@@ -28,7 +28,7 @@ lone_fits : (id aggregation : ℕ) → id ≤ 255 → is_aggregation aggregation
 lone_fits id aggregation most is = All-cons FitsStream (lone_stream id aggregation) []
     (record { id = most; aggregation = is; selector = (tt, omega arith, All-nil FitsAddresses) }) (All-nil FitsStream)
 
-hop_fits : (streams : List StreamPlan) (o : Option HopPlan) → FitsHopIf streams o → All FitsStream (hop_streams o)
+hop_fits : (streams : List StreamPlan) (o : Option HopPlan) → FitsHopIfAny streams o → All FitsStream (hop_streams o)
 hop_fits streams None fits = All-nil FitsStream
 hop_fits streams (Some o) fits = lone_fits o.id 1 fits.id refl
 

@@ -59,7 +59,7 @@ pub use Rattle.all_ends.specs.States.{AreLinks, IsBounded, IsLink, IsPair, IsPor
 pub use Rattle.all_ends.specs.States.{name_of, names_from_line, names_of, ops_by_line, line_ops, pair_ports, ports_in}
 pub use Rattle.all_ends.specs.States.{rows_of, state_of, views_after}
 pub use Rattle.link_ends.specs.declared.pair.PairEnds.{PairEnds}
-pub use Rattle.link_ends.specs.LineEnds.{end_in, with_end, reset_pair}
+pub use Rattle.link_ends.specs.LineEnds.{line_end_in, with_end, reset_pair}
 pub use Rattle.link_ends.specs.Ends.{port_in, with_port}
 pub use Rattle.link_ends.specs.Keepers.{KeeperView, NoMoreUnits, Operates}
 pub use Rattle.link_ends.specs.declared.ends.LinkEnds.{LinkEnds}

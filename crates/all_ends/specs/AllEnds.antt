@@ -65,8 +65,8 @@ abbrev pub SendsByPlace : EndsView → Side → LinePlace → List ℕ → Bool 
 SendsByPlace old side place tlp more trusted answer new sealed =
     (e : PortEnd) → port_at_place old side place ≡ Some e → Sends old side place tlp more trusted answer new sealed e
 
-abbrev pub SendsAt : EndsView → PortName → List ℕ → Bool → Bool → Sent → EndsView → List ℕ → Type 0
-SendsAt old end tlp more trusted answer new sealed =
+abbrev pub SendsAtEnd : EndsView → PortName → List ℕ → Bool → Bool → Sent → EndsView → List ℕ → Type 0
+SendsAtEnd old end tlp more trusted answer new sealed =
     SendsByPlace old end.side (line_place end.line) tlp more trusted answer new sealed
 
 -- the stream that bytes take at the host's port of a link, if they take one
@@ -112,9 +112,9 @@ pub record Comes (regions : List Region) (grants : Grants) (end port : PortName)
   pub sizes_stay : a'.guarded.sizes ≡ a.guarded.sizes
   pub carried_stay : a'.carried ≡ a.carried
 
-abbrev pub ComesAt : EndsView → List Region → Grants → PortName → PortName → Arrival → Verdict → MemoryContents
+abbrev pub ComesAtEnd : EndsView → List Region → Grants → PortName → PortName → Arrival → Verdict → MemoryContents
     → MemoryContents → LinkAccesses → LinkAccesses → Type 0
-ComesAt v regions grants end port answer verdict m n a a' =
+ComesAtEnd v regions grants end port answer verdict m n a a' =
     (e : PortEnd) (l : LinkEnds) → port_on v end ≡ Some e → slice_get v.links port.line ≡ Some l
     → Comes regions grants end port answer verdict m n a a' e l
 
@@ -128,9 +128,9 @@ pub record Arrives (old : EndsView) (xs : List LinkAccesses) (regions : List Reg
   pub came : let step = take_step e (cut_of bytes) in
       Comes regions grants end port step.answer verdict m n a access step.port l
 
-abbrev pub ArrivesAt : EndsView → List LinkAccesses → List Region → Grants → PortName → PortName → List ℕ → Verdict
+abbrev pub ArrivesAtEnd : EndsView → List LinkAccesses → List Region → Grants → PortName → PortName → List ℕ → Verdict
     → MemoryContents → MemoryContents → EndsView → List LinkAccesses → Type 0
-ArrivesAt old xs regions grants end port bytes verdict m n new ys =
+ArrivesAtEnd old xs regions grants end port bytes verdict m n new ys =
     (e : PortEnd) (l : LinkEnds) (a : LinkAccesses) → port_on old end ≡ Some e
     → slice_get old.links port.line ≡ Some l → slice_get xs port.line ≡ Some a
     → Arrives old xs regions grants end port bytes verdict m n new ys e l a
@@ -152,8 +152,8 @@ pub record Waits (old : EndsView) (end : PortName) (bytes : List ℕ) (direction
   pub queues_are : let step = take_step e (cut_of bytes) in
       q' ≡ all_offered direction (of_unit step.answer (unit_waits step.port.delivered)) q
 
-abbrev pub WaitsAt : EndsView → PortName → List ℕ → Direction → Verdict → HopQueues → EndsView → HopQueues → Type 0
-WaitsAt old end bytes direction verdict q new q' =
+abbrev pub WaitsAtEnd : EndsView → PortName → List ℕ → Direction → Verdict → HopQueues → EndsView → HopQueues → Type 0
+WaitsAtEnd old end bytes direction verdict q new q' =
     (e : PortEnd) → port_on old end ≡ Some e → Waits old end bytes direction verdict q new q' e
 
 -- ---- operations on streams
@@ -241,9 +241,9 @@ pub record IsEnded (outcome : InterfaceOutcome) (m : InterfacesView) (d : Device
   pub manager_is : m ≡ e.manager
   pub device_is : d ≡ e.device
 
-abbrev pub AsksAt : EndsView → ℕ → HostKeeper → ℕ → InterfaceOperation → Option Loss → InterfaceOutcome → EndsView
+abbrev pub AsksAtLink : EndsView → ℕ → HostKeeper → ℕ → InterfaceOperation → Option Loss → InterfaceOutcome → EndsView
     → HostKeeper → Type 0
-AsksAt old link k interface o loss outcome new k' =
+AsksAtLink old link k interface o loss outcome new k' =
     Changes old link new
     (λ l l'. Asks k interface o loss (peer_live old link) (IsEnded outcome k'.interfaces l'.device.interfaces) k' l l')
 
@@ -259,8 +259,8 @@ pub record Calls (place : ℕ) (call : Call) (code : ℕ) (l l' : LinkEnds) : Ty
   pub code_is : (tdi : DeviceTdi) → slice_get l.device.interfaces.interfaces place ≡ Some tdi → code
       ≡ code_behind tdi call
 
-abbrev pub CallsAt : EndsView → ℕ → ℕ → Call → ℕ → EndsView → Type 0
-CallsAt old link place call code new = Changes old link new (λ l l'. Calls place call code l l')
+abbrev pub CallsAtLink : EndsView → ℕ → ℕ → Call → ℕ → EndsView → Type 0
+CallsAtLink old link place call code new = Changes old link new (λ l l'. Calls place call code l l')
 
 -- ---- resets
 

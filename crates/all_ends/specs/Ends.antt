@@ -21,7 +21,7 @@ use Rattle.ide_port.specs.{PortEnd, Trusting, port_stream_status, receiving_draw
 use Rattle.link_ends.specs.DeviceEnds.{says_secure, settled_device, peer_trusting}
 use Rattle.interface_ends.specs.Replies.{DeviceTdis, reset_device_interfaces}
 use Rattle.link_ends.specs.declared.pair.PairEnds.{PairEnds}
-use Rattle.link_ends.specs.LineEnds.{new_pair, end_in, with_end, reset_pair}
+use Rattle.link_ends.specs.LineEnds.{new_pair, line_end_in, with_end, reset_pair}
 use Rattle.link_ends.specs.declared.ends.LinkEnds.{LinkEnds}
 use Rattle.link_ends.specs.Ends.{new_ends, port_in, with_port, trusting_at}
 use Rattle.all_ends.specs.Requester.{requester_of}
@@ -77,7 +77,7 @@ abbrev pub line_place : ℕ → LinePlace
 line_place line = if nat_lt line 8 then Link line else if nat_lt line 16 then Near (line - 8) else Pair (line - 16)
 
 abbrev pub pair_port : Side → PairEnds → PortEnd
-pair_port side l = (end_in side l).port
+pair_port side l = (line_end_in side l).port
 
 abbrev pub port_at_place : EndsView → Side → LinePlace → Option PortEnd
 port_at_place v side (Link i) = option_map (λ l. port_in side l) (slice_get v.links i)
@@ -95,7 +95,7 @@ changed_at (x ∷ xs) zero f = f x ∷ xs
 changed_at (x ∷ xs) (suc i) f = x ∷ changed_at xs i f
 
 abbrev pub with_pair_port : Side → PortEnd → PairEnds → PairEnds
-with_pair_port side e l = with_end side (record (end_in side l) { port = e }) l
+with_pair_port side e l = with_end side (record (line_end_in side l) { port = e }) l
 
 abbrev pub with_port_at_place : EndsView → Side → LinePlace → PortEnd → EndsView
 with_port_at_place v side (Link i) e = record v { links = changed_at v.links i (with_port side e) }

@@ -9,7 +9,7 @@ pub mod Packets
 pub use Rattle.link_ends.specs.{IsJoined, KeysKept, OperationsJoin, host_of, pool_by, verdict_due, StreamEnds}
 pub use Rattle.link_ends.specs.{WalkedEnds, begun_ends, event_walk, walk_on, draws_by, touched_by}
 pub use Rattle.link_ends.specs.Ends.{port_in, with_port, new_ends}
-pub use Rattle.link_ends.specs.Hosts.{InterfacesView, operated_on, keyed_if, live_for, status_for}
+pub use Rattle.link_ends.specs.Hosts.{InterfacesView, operated_on, keyed_if, live_for_operation, status_for_operation}
 pub use Rattle.link_ends.specs.Hosts.{stopped_if, manager_told}
 pub use Rattle.link_ends.specs.Keepers.{IsAtBothEnds, IsOperated, IsWalked, KeeperView, Operates, ends_found, HasStream}
 pub use Rattle.link_ends.specs.declared.ends.LinkEnds.{LinkEnds}

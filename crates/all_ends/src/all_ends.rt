@@ -20,7 +20,7 @@ ghost use Rattle.interface_state.specs.Machine.{WriteRegister, LevelReset, Firmw
 use crate::making::{add_peer_rows, hop_rows, link_ends, near_ends, pair_ends};
 use crate::peers::{DevicePeers, has_peer};
 use crate::places::{LinePlace, line_place};
-use crate::sending::{bound_on, send_between, send_far, send_near};
+use crate::sending::{bound_on, send_far, send_near, send_peer};
 use arrival_verdicts::{ReceivingPort, switch_verdict, taken_verdict};
 use event_verdicts::Verdict;
 use hop_queues::HopQueues;
@@ -70,9 +70,10 @@ impl Model for AllEnds {
 impl AllEnds {
     ghost use Rattle.all_ends.specs.Ends.{new_all_ends, port_on, settled_link, settled_first_links, cleared_on};
     ghost use Rattle.all_ends.specs.Ends.{all_cleared, unlocked_link, settled_place};
-    ghost use Rattle.all_ends.specs.AllEnds.{IsTakenAtHost, SendsAt, TakesAt, ComesAt, ArrivesAt, Leaves, WaitsAt};
+    ghost use Rattle.all_ends.specs.AllEnds.{IsTakenAtHost, SendsAtEnd, TakesAt, ComesAtEnd, ArrivesAtEnd, Leaves};
+    ghost use Rattle.all_ends.specs.AllEnds.{WaitsAtEnd};
     ghost use Rattle.all_ends.specs.AllEnds.{OperatesAt};
-    ghost use Rattle.all_ends.specs.AllEnds.{told_by_line, drawn_on_line, AsksAt, CallsAt, IsThere, ResetsAt};
+    ghost use Rattle.all_ends.specs.AllEnds.{told_by_line, drawn_on_line, AsksAtLink, CallsAtLink, IsThere, ResetsAt};
     ghost use Rattle.all_ends.specs.AllEnds.{settled_by_side, statuses_of};
     ghost use Rattle.all_ends.specs.States.{EndsUnitsAtMost};
 
@@ -164,13 +165,13 @@ impl AllEnds {
         requires place { Pair i ≡ line_place end.line }
         requires here { IsSome (port_on self.old end) }
         requires few { EndsUnitsAtMost (2 ^ 40) self.old }
-        ensures { SendsAt self.old end tlp.now more trusted result self.new out.new }
+        ensures { SendsAtEnd self.old end tlp.now more trusted result self.new out.new }
     {
         if i < HOPS {
             send_far(&mut self.pairs[i], end.side, tlp, more, trusted, out)
         } else {
             let interfaces = bound_on(&self.links, &self.peers, end.side, i - HOPS);
-            send_between(&mut self.pairs[i], end.side, tlp, more, interfaces, out)
+            send_peer(&mut self.pairs[i], end.side, tlp, more, interfaces, out)
         }
     }
 
@@ -188,7 +189,7 @@ impl AllEnds {
     ) -> Sent
         requires here { IsSome (port_on self.old end) }
         requires few { EndsUnitsAtMost (2 ^ 40) self.old }
-        ensures { SendsAt self.old end tlp.now more trusted result self.new out.new }
+        ensures { SendsAtEnd self.old end tlp.now more trusted result self.new out.new }
     {
         match line_place(end.line) {
             LinePlace::Link(i) => self.links[i].send(end.side, tlp, more, trusted, out),
@@ -212,7 +213,7 @@ impl AllEnds {
         requires links { length self.old.links ≤ 8 }
         requires few { EndsUnitsAtMost (2 ^ 40) self.old }
         requires taken { IsTakenAtHost self.old link tlp.now stream }
-        ensures { SendsAt self.old (host_port link) tlp.now false true result self.new out.new }
+        ensures { SendsAtEnd self.old (host_port link) tlp.now false true result self.new out.new }
     {
         let host = &mut self.links[link as usize].host;
         host.send_chosen(stream, tlp, false, &FixedTrust(true), out)
@@ -244,7 +245,7 @@ impl AllEnds {
     }
 
     // So at a device's port.
-    fn settle_at(&mut self, port: PortName)
+    fn settle_port(&mut self, port: PortName)
         ensures { self.new ≡ settled_by_side port self.old }
     {
         match port.side {
@@ -268,11 +269,11 @@ impl AllEnds {
     }
 
     // So at the devices of so many links.
-    fn settle_below(&mut self, count: usize)
+    fn settle_first(&mut self, count: usize)
         ensures { self.new ≡ settled_first_links count self.old }
     {
         if count > 0 {
-            self.settle_below(count - 1);
+            self.settle_first(count - 1);
             self.settle_link(count - 1);
         }
     }
@@ -292,7 +293,7 @@ impl AllEnds {
         requires link { port.line < length self.now.links }
         requires spare { 8 ≤ memory.old.spare }
         requires pages { 16 ≤ access.old.guarded.spare }
-        ensures comes { ComesAt self.now memory.old.contents.regions (grants_in keeper.now) end port arrival result
+        ensures comes { ComesAtEnd self.now memory.old.contents.regions (grants_in keeper.now) end port arrival result
             memory.old.contents memory.new.contents access.old access.new }
         ensures regions { memory.new.contents.regions ≡ memory.old.contents.regions }
     {
@@ -324,7 +325,7 @@ impl AllEnds {
         requires spare { 8 ≤ memory.old.spare }
         requires access { port.line < length accesses.old }
         requires pages { IfSome (slice_get accesses.old port.line) (λ a. 16 ≤ a.guarded.spare) }
-        ensures arrives { ArrivesAt self.old accesses.old memory.old.contents.regions (grants_in keeper.now) end port
+        ensures arrives { ArrivesAtEnd self.old accesses.old memory.old.contents.regions (grants_in keeper.now) end port
             bytes.now result memory.old.contents memory.new.contents self.new accesses.new }
         ensures absent { is_some (port_on self.old end) ≡ false → Leaves result self.old memory.old.contents
             accesses.old self.new memory.new.contents accesses.new }
@@ -336,7 +337,7 @@ impl AllEnds {
         let access = accesses.at_mut(port.line);
         let arrival = self.take(end, bytes);
         let verdict = self.arrived(end, port, arrival, keeper, memory, access);
-        self.settle_at(port);
+        self.settle_port(port);
         verdict
     }
 
@@ -351,7 +352,7 @@ impl AllEnds {
     ) -> Verdict
         requires here { IsSome (port_on self.old end) }
         requires few { EndsUnitsAtMost (2 ^ 40) self.old }
-        ensures { WaitsAt self.old end bytes.now direction result queues.old self.new queues.new }
+        ensures { WaitsAtEnd self.old end bytes.now direction result queues.old self.new queues.new }
     {
         let arrival = self.take(end, bytes);
         let packets = self.port(end).unwrap().delivered();
@@ -458,7 +459,7 @@ impl AllEnds {
 
     /// Begins an operation of the manager on an interface of this link, and carries its exchanges until it is over, or
     /// `loss` loses one.
-    pub fn operate_on(
+    pub fn operate_interface(
         &mut self,
         link: u8,
         keeper: &mut HostKeeper,
@@ -468,7 +469,7 @@ impl AllEnds {
     ) -> interface_host::InterfaceOutcome
         requires here { link < length self.old.links }
         requires interface { interface < length keeper.old.interfaces.interfaces }
-        ensures { AsksAt self.old link keeper.old interface op loss result self.new keeper.new }
+        ensures { AsksAtLink self.old link keeper.old interface op loss result self.new keeper.new }
     {
         let peers = DevicePeers {
             pairs: &self.pairs,
@@ -476,7 +477,7 @@ impl AllEnds {
             link: link as usize,
         };
         let ends = &mut self.links[link as usize];
-        keeper.operate_on(ends, &peers, interface, op, loss)
+        keeper.operate_interface(ends, &peers, interface, op, loss)
     }
 
     /// Writes a register that the interface at this place on the link has, and answers the interface's state after the
@@ -486,7 +487,7 @@ impl AllEnds {
             (slice_get l.device.interfaces.interfaces place) (λ tdi. has_register tdi.plan register ≡ true)) }
         requires here { IsThere self.old link place }
         requires width { value < 2 ^ width_of register }
-        ensures { CallsAt self.old link place (WriteRegister register value) result self.new }
+        ensures { CallsAtLink self.old link place (WriteRegister register value) result self.new }
     {
         let ends = &mut self.links[link as usize];
         ends.device.write_register(place, register, value);
@@ -507,7 +508,7 @@ impl AllEnds {
     /// Makes a function level reset of the interface at this place on the link, and answers its state after the reset.
     pub fn flr(&mut self, link: u8, place: usize) -> u8
         requires here { IsThere self.old link place }
-        ensures { CallsAt self.old link place LevelReset result self.new }
+        ensures { CallsAtLink self.old link place LevelReset result self.new }
     {
         let ends = &mut self.links[link as usize];
         ends.device.flr(place);
@@ -517,7 +518,7 @@ impl AllEnds {
     /// Makes a firmware update at the interface at this place on the link, and answers its state after the update.
     pub fn firmware(&mut self, link: u8, place: usize) -> u8
         requires here { IsThere self.old link place }
-        ensures { CallsAt self.old link place FirmwareUpdate result self.new }
+        ensures { CallsAtLink self.old link place FirmwareUpdate result self.new }
     {
         let ends = &mut self.links[link as usize];
         ends.device.firmware(place);
@@ -563,7 +564,7 @@ impl AllEnds {
         self.clear_all(ends);
         self.unlock(link);
         let count = self.count();
-        self.settle_below(count);
+        self.settle_first(count);
     }
 }
 

@@ -75,7 +75,7 @@ pub fn send_far(
 }
 
 /// Sends them at the end of a side of a stream between devices, where T is set by these interfaces.
-pub fn send_between(
+pub fn send_peer(
     ends: &mut PairEnds,
     side: Side,
     tlp: &OutgoingTlp,

@@ -5,11 +5,11 @@ use Rattle.all_links.proofs.Terms.{length-set, ◌≡◌, ℕ, suc, zero, ◌+�
 use Rattle.all_links.proofs.Terms.{subst, arith, nat_tests, Option, Some, None, IsSome, slice_get, slice_set, ◌-◌}
 use Rattle.all_links.proofs.Terms.{option_and_then, none-some, same_Some, slice_get_within, Verdict, StreamState}
 use Rattle.all_links.proofs.Terms.{LinkEnds, Links, InterfacesView, KeeperView, ports_in, IsBounded, links_state}
-use Rattle.all_links.proofs.Terms.{EndsWith, Stepped, Interface, answer_of_links, EndsView, peer_live, Plan, AreLinks}
-use Rattle.all_links.proofs.Terms.{Side, Host, Device, port_in, state_of, nat_lt, true, ◌++◌, if◌then◌else◌, ◌==◌, Bool}
-use Rattle.all_links.proofs.Terms.{false, true-lt, nat_le}
-use Rattle.line_arrivals.specs.{changed_at, in_sixteen, pair_ports, operated_on, HostKeeper, IsThere, CallsAt, AsksAt}
-use Rattle.line_arrivals.specs.{place_on_links, code_behind, outcome_verdict, report_of}
+use Rattle.all_links.proofs.Terms.{EndsIfAnswered, Stepped, Interface, answer_of_links, EndsView, peer_live, Plan}
+use Rattle.all_links.proofs.Terms.{AreLinks, Side, Host, Device, port_in, state_of, nat_lt, true, ◌++◌, if◌then◌else◌}
+use Rattle.all_links.proofs.Terms.{◌==◌, Bool, false, true-lt, nat_le}
+use Rattle.line_arrivals.specs.{changed_at, in_sixteen, pair_ports, operated_on, HostKeeper, IsThere, CallsAtLink}
+use Rattle.line_arrivals.specs.{AsksAtLink, place_on_links, code_behind, outcome_verdict, report_of}
 use Rattle.all_links.specs.BesideAfter.{with_device}
 use Rattle.interface_host.specs.declared.operation.PeerStream.{PeerStream}
 use Rattle.std.specs.Prelude.{IfSome}
@@ -159,10 +159,11 @@ pub interfaces_change : (plan : Plan) (old new : Links) (link : ℕ) (l : LinkEn
     → Some verdict ≡ answer_of_links old e → slice_get old.ends.links link ≡ Some l
     → ends ≡ with_device old.ends link l d → k.keys ≡ old.keeper.keys
     → new ≡ record old { ends = ends; keeper = k; steps = old.steps + 1 }
-    → IsBounded old.ends old.packets.packets old.steps → EndsWith plan verdict old new (Interface e)
+    → IsBounded old.ends old.packets.packets old.steps → EndsIfAnswered plan verdict old new (Interface e)
 interfaces_change plan old new link l d ends k verdict e due is ends_is keys new_is bounded =
-    subst (λ (q : Links). EndsWith plan verdict old q (Interface e)) (sym new_is)
-    (subst (λ (v : EndsView). EndsWith plan verdict old (record old { ends = v; keeper = k; steps = old.steps + 1 })
+    subst (λ (q : Links). EndsIfAnswered plan verdict old q (Interface e)) (sym new_is)
+    (subst (λ (v : EndsView). EndsIfAnswered plan verdict old
+    (record old { ends = v; keeper = k; steps = old.steps + 1 })
     (Interface e)) (sym ends_is)
     (record {
       counted = refl;
@@ -198,11 +199,11 @@ interfaces_change plan old new link l d ends k verdict e due is ends_is keys new
 -- a call of the interface
 pub called : (plan : Plan) (old : Links) (n : ℕ) (at : ℕ × ℕ) (call : Call) (code : ℕ) (ends : EndsView) (new : Links)
     (verdict : Verdict) (e : InterfaceEvent) (w : ℕ → Verdict)
-    → Some at ≡ interface_named old.keeper.interfaces old.ends.links n → CallsAt old.ends at.0 at.1 call code ends
+    → Some at ≡ interface_named old.keeper.interfaces old.ends.links n → CallsAtLink old.ends at.0 at.1 call code ends
     → ((tdi : DeviceTdi) → named_device_interface old.keeper.interfaces old.ends.links n ≡ Some tdi
     → Some (w (code_behind tdi call)) ≡ answer_of_links old e)
     → verdict ≡ w code → new ≡ record old { ends = ends; steps = old.steps + 1 }
-    → IsBounded old.ends old.packets.packets old.steps → EndsWith plan verdict old new (Interface e)
+    → IsBounded old.ends old.packets.packets old.steps → EndsIfAnswered plan verdict old new (Interface e)
 called plan old n at call code ends new verdict e w named calls due says new_is bounded =
     let x = is_found old.keeper.interfaces old.ends n at named in
     let a = calls x.ends_at x.link_there in
@@ -220,7 +221,7 @@ pub asked_nowhere : {verdict : Verdict} {old new : Links} (plan : Plan) (n : ℕ
     (e : InterfaceEvent) → answer_of_links old e ≡ op_verdict old n o loss
     → None ≡ interface_named old.keeper.interfaces old.ends.links n
     → verdict ≡ v.Nothing → new ≡ record old { steps = old.steps + 1 }
-    → IsBounded old.ends old.packets.packets old.steps → EndsWith plan verdict old new (Interface e)
+    → IsBounded old.ends old.packets.packets old.steps → EndsIfAnswered plan verdict old new (Interface e)
 asked_nowhere {verdict} {old} {new} plan n o loss e same nowhere says is bounded =
     only_says plan e
     (ap (λ (p : Option (ℕ × ℕ)). verdict_in n o loss (ended_if_there old.keeper old.ends n o loss p)) nowhere ∙ sym
@@ -252,7 +253,7 @@ pub no_peer : {verdict : Verdict} {old new : Links} (plan : Plan) (n line stream
     → peer_verdict_in old.keeper old.ends n line stream o loss ≡ answer_of_links old e
     → (nat_lt stream 256 && has_peer_in old.keeper old.ends n line stream) ≡ false → verdict ≡ v.Nothing
     → new ≡ record old { steps = old.steps + 1 } → IsBounded old.ends old.packets.packets old.steps
-    → EndsWith plan verdict old new (Interface e)
+    → EndsIfAnswered plan verdict old new (Interface e)
 no_peer {verdict} {old} {new} plan n line stream o loss e same none says is bounded =
     nothing_changes plan (Interface e) says is bounded
     (λ b by h links stands. answers old
@@ -270,7 +271,7 @@ record CameTo (old : Links) (n : ℕ) (o : InterfaceOperation) (loss : Option Lo
 
 came_to : (old : Links) (n : ℕ) (at : ℕ × ℕ) (o : InterfaceOperation) (loss : Option Loss) (outcome : InterfaceOutcome)
     (ends : EndsView) (k : HostKeeper) → Some at ≡ interface_named old.keeper.interfaces old.ends.links n
-    → AsksAt old.ends at.0 old.keeper n o loss outcome ends k → CameTo old n o loss outcome k
+    → AsksAtLink old.ends at.0 old.keeper n o loss outcome ends k → CameTo old n o loss outcome k
 came_to old n at o loss outcome ends k named asks =
     let x = is_found old.keeper.interfaces old.ends n at named in
     let e : Ended = operated_on n o loss old.keeper.keys (peer_live old.ends at.0) old.keeper.interfaces x.ends_at
@@ -296,7 +297,8 @@ any_report n loss report other (Refused r) some = some
 
 pub answered : (old : Links) (n : ℕ) (at : ℕ × ℕ) (o : InterfaceOperation) (loss : Option Loss)
     (outcome : InterfaceOutcome) (ends : EndsView) (k : HostKeeper) → Some at
-    ≡ interface_named old.keeper.interfaces old.ends.links n → AsksAt old.ends at.0 old.keeper n o loss outcome ends k
+    ≡ interface_named old.keeper.interfaces old.ends.links n → AsksAtLink old.ends at.0 old.keeper n o loss outcome ends
+    k
     → IsSome (op_verdict old n o loss) → (report : List ℕ) → IsSome (outcome_verdict n loss report outcome)
 answered old n at o loss outcome ends k named asks some report =
     let x = came_to old n at o loss outcome ends k named asks in
@@ -307,10 +309,11 @@ pub operated_as : (plan : Plan) (old : Links) (n : ℕ) (at : ℕ × ℕ) (o : I
     (outcome : InterfaceOutcome) (ends : EndsView) (k : HostKeeper) (new : Links) (verdict : Verdict) (report : List ℕ)
     (event : InterfaceEvent) → answer_of_links old event ≡ op_verdict old n o loss
     → Some at ≡ interface_named old.keeper.interfaces old.ends.links n
-    → AsksAt old.ends at.0 old.keeper n o loss outcome ends k → outcome_verdict n loss report outcome ≡ Some verdict →
+    → AsksAtLink old.ends at.0 old.keeper n o loss outcome ends k → outcome_verdict n loss report outcome ≡ Some verdict
+    →
     ((e : Ended) → k.interfaces ≡ e.manager → report ≡ report_of o e)
     → new ≡ record old { ends = ends; keeper = k; steps = old.steps + 1 }
-    → IsBounded old.ends old.packets.packets old.steps → EndsWith plan verdict old new (Interface event)
+    → IsBounded old.ends old.packets.packets old.steps → EndsIfAnswered plan verdict old new (Interface event)
 operated_as plan old n at o loss outcome ends k new verdict report event same named asks says reads new_is bounded =
     let x = is_found old.keeper.interfaces old.ends n at named in
     let a = asks x.ends_at x.link_there in

@@ -21,8 +21,8 @@ use Rattle.interface_host.specs.declared.operation.InterfaceOperation.{Interface
 use Rattle.interface_host.specs.declared.operation.InterfaceOutcome.{InterfaceOutcome}
 use Rattle.interface_host.specs.Managers.{reset_interface_manager}
 use Rattle.interface_ends.specs.Keepers.{Ended}
-use Rattle.line_arrivals.specs.{operated_on, HostKeeper, AsksAt, CallsAt, told_by_place, drawn_at_place, line_place}
-use Rattle.line_arrivals.specs.{LinePlace, Link, Near, Pair, secure_or_live, manager_told}
+use Rattle.line_arrivals.specs.{operated_on, HostKeeper, AsksAtLink, CallsAtLink, told_by_place, drawn_at_place}
+use Rattle.line_arrivals.specs.{line_place, LinePlace, Link, Near, Pair, secure_or_live, manager_told}
 use Rattle.all_links.specs.Interfaces.{interface_named, has_peer_in}
 use Rattle.all_links.specs.BesideAfter.{BesideStays, told_on_line, peers_drawn, BesideOperation, BesideReset}
 use Rattle.all_links.specs.BesideAfter.{BesideAsking, BesideBinding, called_if, BesideCall, told_by_link, told_by_peer}
@@ -47,8 +47,7 @@ keeps_with old new ends keeper contents = record {
 }
 
 pub keeps_all : {old new : Links} → new ≡ record old { steps = old.steps + 1 } → BesideStays old new
-keeps_all {old} {new} is =
-    keeps_with old new (ap (λ (s : Links). s.ends.links) is) (ap (λ (s : Links). s.keeper) is)
+keeps_all {old} {new} is = keeps_with old new (ap (λ (s : Links). s.ends.links) is) (ap (λ (s : Links). s.keeper) is)
     (ap (λ (s : Links). s.trusted.contents) is)
 
 -- ---- resets
@@ -97,7 +96,7 @@ nothing_asked {old} {new} n o loss nowhere is = record {
 pub asked_beside : (old new : Links) (n : ℕ) (at : ℕ × ℕ) (o : InterfaceOperation) (loss : Option Loss)
     (outcome : InterfaceOutcome)
     (ends : EndsView) (k : HostKeeper) → Some at ≡ interface_named old.keeper.interfaces old.ends.links n
-    → AsksAt old.ends at.0 old.keeper n o loss outcome ends k
+    → AsksAtLink old.ends at.0 old.keeper n o loss outcome ends k
     → new ≡ record old { ends = ends; keeper = k; steps = old.steps + 1 } → BesideAsking n o loss old new
 asked_beside old new n at o loss outcome ends k here asks is = record {
   contents = ap (λ (s : Links). s.trusted.contents) is;
@@ -106,7 +105,8 @@ asked_beside old new n at o loss outcome ends k here asks is = record {
   unnamed = λ none. absurd (none-some at (sym none ∙ sym here));
   asked = λ place l x named_is link_there kept_there.
       let same : at ≡ place = same_Some at place (here ∙ named_is) in
-      let a = subst (λ (p : ℕ × ℕ). AsksAt old.ends p.0 old.keeper n o loss outcome ends k) same asks l link_there in
+      let a = subst (λ (p : ℕ × ℕ). AsksAtLink old.ends p.0 old.keeper n o loss outcome ends k) same asks l link_there
+      in
       let e : Ended = operated_on n o loss old.keeper.keys (peer_live old.ends place.0) old.keeper.interfaces l x in
       let came = a.2.ended x kept_there in (
         ap (λ (s : Links). s.keeper.interfaces) is ∙ came.manager_is,
@@ -160,7 +160,7 @@ Tests v at test b = (l : LinkEnds) (tdi : DeviceTdi) → slice_get v.links at.0 
 
 pub called_beside : (old new : Links) (n : ℕ) (at : ℕ × ℕ) (test : DeviceTdi → Bool) (call : Call) (code : ℕ)
     (ends : EndsView) → Some at ≡ interface_named old.keeper.interfaces old.ends.links n → Tests old.ends at test true
-    → CallsAt old.ends at.0 at.1 call code ends → new ≡ record old { ends = ends; steps = old.steps + 1 }
+    → CallsAtLink old.ends at.0 at.1 call code ends → new ≡ record old { ends = ends; steps = old.steps + 1 }
     → BesideCall n test call old new
 called_beside old new n at test call code ends here tests calls is = record {
   keeper = ap (λ (s : Links). s.keeper.interfaces) is;
@@ -169,7 +169,7 @@ called_beside old new n at test call code ends here tests calls is = record {
   unnamed = λ none. absurd (none-some at (sym none ∙ sym here));
   called = λ place l tdi named_is link_there tdi_there.
       let same : at ≡ place = same_Some at place (here ∙ named_is) in
-      let a = subst (λ (p : ℕ × ℕ). CallsAt old.ends p.0 p.1 call code ends) same calls l link_there in
+      let a = subst (λ (p : ℕ × ℕ). CallsAtLink old.ends p.0 p.1 call code ends) same calls l link_there in
       let meets = subst (λ (p : ℕ × ℕ). Tests old.ends p test true) same tests l tdi link_there tdi_there in
       let after : LinkEnds = called_if (λ t. true) l place.1 tdi call in
       ap (λ (s : Links). s.ends) is ∙ a.1

@@ -2,9 +2,10 @@
 -- on interfaces.
 use Rattle.all_links.proofs.Terms.{◌≡◌, ◌+◌, List, refl, ap, sym, ◌∙◌, subst, arith, Plan, LinkState, LinkPacket, Some}
 use Rattle.all_links.proofs.Terms.{Stepped, Verdict, History, PortsStandFor, Links, state_of, IsBounded, AreLinks}
-use Rattle.all_links.proofs.Terms.{links_state, StepEndsBy, EndsIf, EndsWith, beside_in, Ends, BesidePorts, Interface}
-use Rattle.all_links.proofs.Terms.{true, false, Option, None, IfSome, IsSome, is_some, EndsAs, HasNoVerdict, same_Some}
-use Rattle.all_links.proofs.Terms.{step_of, IsAnsweredBy, answer_of_links, ℕ, ◌<◌, EndsView, port_on}
+use Rattle.all_links.proofs.Terms.{links_state, StepEndsBy, EndsIfSo, EndsIfAnswered, beside_in, Ends, BesidePorts}
+use Rattle.all_links.proofs.Terms.{Interface, true, false, Option, None, IfSome, IsSome, is_some, EndsOrHasNone}
+use Rattle.all_links.proofs.Terms.{HasNoVerdict, same_Some, step_of, HasAnswerOfLinks, answer_of_links, ℕ, ◌<◌}
+use Rattle.all_links.proofs.Terms.{EndsView, port_on}
 use Rattle.std.proofs.Common.{◌^◌}
 use Rattle.ide_types.specs.declared.port.PortName.{PortName}
 use Rattle.ide_port.specs.{PortEnd, PortUnitsAtMost}
@@ -51,14 +52,14 @@ pub nothing_changes : {IsSo : BesidePorts → Type 0} {verdict w : Verdict} {old
     → ((b : BesidePorts) → IsSo b → (h : History) → AreLinks plan old.ends old.keeper.keys
     → PortsStandFor plan (links_state plan old) h
     → step_of plan (beside_in old b) (links_state plan old) e ≡ (w, links_state plan old))
-    → EndsIf IsSo plan verdict old new e
+    → EndsIfSo IsSo plan verdict old new e
 nothing_changes {IsSo} {verdict} {w} {old} {new} plan e says is bounded same =
     nothing_steps {IsSo = IsSo} {step = λ b st. step_of plan b st e} plan says is bounded same
 
 -- ---- a verdict, or none
 
 pub ends_as : (plan : Plan) (o : Option Verdict) (old new : Links) (e : Event) → ((verdict : Verdict) → o ≡ Some verdict
-    → EndsWith plan verdict old new e) → (o ≡ None → HasNoVerdict plan old e) → EndsAs plan o old new e
+    → EndsIfAnswered plan verdict old new e) → (o ≡ None → HasNoVerdict plan old e) → EndsOrHasNone plan o old new e
 ends_as plan (Some verdict) old new e ends none = ends verdict refl
 ends_as plan None old new e ends none = none refl
 
@@ -99,7 +100,7 @@ reserved {IsSo} {step} {verdict} {new} plan old mid is same x =
 
 -- the step of an event that has a verdict
 pub answers : {verdict : Verdict} {e : InterfaceEvent} (old : Links) → Some verdict ≡ answer_of_links old e
-    → (b : BesidePorts) (plan : Plan) → IsAnsweredBy old (Interface e) b → (st : LinkState)
+    → (b : BesidePorts) (plan : Plan) → HasAnswerOfLinks old (Interface e) b → (st : LinkState)
     → step_of plan (beside_in old b) st (Interface e) ≡ (verdict, st)
 unfolding step_of
 answers {verdict} {e} old says b plan by st =
@@ -108,6 +109,6 @@ answers {verdict} {e} old says b plan by st =
 -- a verdict that changes nothing
 pub only_says : {verdict w : Verdict} {old new : Links} (plan : Plan) (e : InterfaceEvent)
     → Some w ≡ answer_of_links old e → verdict ≡ w → new ≡ record old { steps = old.steps + 1 }
-    → IsBounded old.ends old.packets.packets old.steps → EndsWith plan verdict old new (Interface e)
+    → IsBounded old.ends old.packets.packets old.steps → EndsIfAnswered plan verdict old new (Interface e)
 only_says {verdict} {w} {old} {new} plan e due says is bounded =
     nothing_changes plan (Interface e) says is bounded (λ b by h links stands. answers old due b plan by _)

@@ -2,7 +2,7 @@
 use Rattle.line_arrivals.proofs.{WorksOn, Operated, operated, operates_grow, name_is, some_named, step_not}
 use Rattle.line_arrivals.proofs.{bounded_then}
 use Rattle.all_links.proofs.Terms.{◌≡◌, ◌∙◌, ℕ, ◌+◌, true, refl, sym, subst, arith, IsSome, Option, Some, Plan}
-use Rattle.all_links.proofs.Terms.{EndsView, port_on, Links, links_state, EndsWith, StandsForSome, beside_in}
+use Rattle.all_links.proofs.Terms.{EndsView, port_on, Links, links_state, EndsIfAnswered, StandsForSome, beside_in}
 use Rattle.all_links.proofs.Terms.{OperatesAt, stream_named, IsBounded, KeeperView, ManagerView, Verdict}
 use Rattle.all_links.proofs.Terms.{OperationsJoin, named_stream, Named, operation_event, PortsStandFor, AreLinks}
 use Rattle.all_links.proofs.Terms.{History, BesidePorts, LinkState, step_of, false}
@@ -53,9 +53,8 @@ module _ (plan : Plan) (old : Links) (h : History) (ends : EndsView) (k' : Keepe
     (operates : OperatesAt old.ends line old.keeper.keys call loss result ends k') where
   pub comes_to : OperationsJoin → PairOperationsJoin → Operated plan old.ends old.keeper.keys old.packets.packets h k'
       call operation line id loss result n links stands named_is name ends
-  comes_to joins pairs =
-      operated plan old.ends old.keeper.keys old.packets.packets h k' call operation line id loss result n links stands
-      named_is name (works operation line works_is) ends joins pairs here operates
+  comes_to joins pairs = operated plan old.ends old.keeper.keys old.packets.packets h k' call operation line id loss
+      result n links stands named_is name (works operation line works_is) ends joins pairs here operates
 
 -- if the links stand for a history, the outcome has a verdict
 pub operates_due : OperationsJoin → PairOperationsJoin → (plan : Plan) (old : Links) (ends : EndsView)
@@ -80,7 +79,7 @@ pub operates_on : OperationsJoin → PairOperationsJoin → (plan : Plan) (old :
     → op_name call ≡ record { operation = operation; line = line; stream = id }
     → OperatesAt old.ends line old.keeper.keys call loss result ends k.keys
     → verdict_of operation line id loss result ≡ Some verdict
-    → EndsWith plan verdict old (record old { ends = ends; keeper = k; steps = old.steps + 1 })
+    → EndsIfAnswered plan verdict old (record old { ends = ends; keeper = k; steps = old.steps + 1 })
     (operation_event operation line id loss)
 operates_on joins pairs plan old ends k call operation line id loss result verdict bounded works_is here there_is name
     operates says =

@@ -22,7 +22,7 @@ use Rattle.interface_ends.specs.Operations.{interfaces_after_request}
 use Rattle.interface_ends.specs.Keepers.{Ended, current_lost, interface_exchanged, ended_if_over, by_current}
 use Rattle.interface_ends.specs.Keepers.{interface_operated, unless_refused}
 unfoldable use Rattle.interface_ends.specs.Keepers.{manager_walk}
-use Rattle.line_arrivals.specs.{operated_on, HostKeeper, AsksAt, place_on_links}
+use Rattle.line_arrivals.specs.{operated_on, HostKeeper, AsksAtLink, place_on_links}
 use Rattle.all_links.specs.Interfaces.{interface_named}
 use Rattle.all_links.proofs.Asked.{is_found, place_kept}
 
@@ -114,7 +114,8 @@ operated_many place o status draws said loss m d i =
 
 pub asked_place : (old : Links) (n : ℕ) (at : ℕ × ℕ) (o : InterfaceOperation) (loss : Option Loss)
     (outcome : InterfaceOutcome) (ends : EndsView) (k : HostKeeper) → Some at
-    ≡ interface_named old.keeper.interfaces old.ends.links n → AsksAt old.ends at.0 old.keeper n o loss outcome ends k
+    ≡ interface_named old.keeper.interfaces old.ends.links n → AsksAtLink old.ends at.0 old.keeper n o loss outcome ends
+    k
     → interface_named k.interfaces ends.links n ≡ interface_named old.keeper.interfaces old.ends.links n
 asked_place old n at o loss outcome ends k named asks =
     let x = is_found old.keeper.interfaces old.ends n at named in

@@ -4,7 +4,7 @@ use Rattle.all_links.proofs.Terms.{Some, None, is_some, nat_lt, if◌then◌else
 use Rattle.all_links.proofs.Terms.{StreamStatus, Plan, Reset, Status, Stepped, machine_status, status_found, step_of}
 use Rattle.all_links.proofs.Terms.{reset_state, PortsStandFor, named_stream, EndsView, port_on, Links, stream_named}
 use Rattle.all_links.proofs.Terms.{KeeperView, ResetsAt, statuses_of, both_of, IsBounded, AreLinks, links_state}
-use Rattle.all_links.proofs.Terms.{EndsWith, BesidePorts, beside_in, option_and_then, PortEnd, PortName, LinkEnds}
+use Rattle.all_links.proofs.Terms.{EndsIfAnswered, BesidePorts, beside_in, option_and_then, PortEnd, PortName, LinkEnds}
 use Rattle.all_links.proofs.Terms.{none-some, option_map, port_in, slice_get}
 use Rattle.event_verdicts.specs.declared.verdict.Verdict.TheVariants as v
 use Rattle.ide_types.specs.Ports.{host_port, device_port}
@@ -99,10 +99,11 @@ reset_step b old plan link es here links is =
 pub resets : (plan : Plan) (old : Links) (link : ℕ) (es : List PortName) (ends : EndsView) (k : HostKeeper)
     → IsBounded old.ends old.packets.packets old.steps → nat_lt link (length old.ends.links) ≡ true
     → ResetsAt old.ends link es ends → k.keys ≡ keeper_reset es old.keeper.keys
-    → EndsWith plan (v.Reset link) old (record old { ends = ends; keeper = k; steps = old.steps + 1 }) (Reset link es)
+    → EndsIfAnswered plan (v.Reset link) old (record old { ends = ends; keeper = k; steps = old.steps + 1 })
+    (Reset link es)
 resets plan old link es ends k bounded here ends_are keys =
     let grows = reset_grows link es old.ends in
-    subst (λ (w : EndsView). EndsWith plan (v.Reset link) old
+    subst (λ (w : EndsView). EndsIfAnswered plan (v.Reset link) old
     (record old { ends = w; keeper = k; steps = old.steps + 1 }) (Reset link es)) (sym ends_are) (record {
       counted = refl;
       many = grows.many;

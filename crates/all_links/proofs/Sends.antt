@@ -4,16 +4,16 @@ use Rattle.all_links.proofs.Terms.{◌≡◌, ℕ, ◌+◌, Bool, true, false, L
 use Rattle.all_links.proofs.Terms.{arith, Option, Some, None, IsSome, slice_get, map, sum_by, if◌then◌else◌, is_some}
 use Rattle.all_links.proofs.Terms.{PortName, Plan, Verdict, MeasuredPacket, LinkPacket, Stepped, kept_packet, step_of}
 use Rattle.all_links.proofs.Terms.{Sent, PortEnd, SendStep, send_step, sent_verdict, lengths_sent, IsSentAtPort}
-use Rattle.all_links.proofs.Terms.{LinkEnds, Links, SendsAt, state_of, IsBounded, AreLinks, links_state, EndsWith}
-use Rattle.all_links.proofs.Terms.{EndsSending, Send, EndsView, port_on, trusting_on, with_port_on, beside_in}
-use Rattle.all_links.proofs.Terms.{BesidePorts, LinkState, has_port, stepped_bytes, KeeperView}
+use Rattle.all_links.proofs.Terms.{LinkEnds, Links, SendsAtEnd, state_of, IsBounded, AreLinks, links_state}
+use Rattle.all_links.proofs.Terms.{EndsIfAnswered, EndsSending, Send, EndsView, port_on, trusting_on, with_port_on}
+use Rattle.all_links.proofs.Terms.{beside_in, BesidePorts, LinkState, has_port, stepped_bytes, KeeperView}
 use Rattle.line_arrivals.specs.{cut_packets, end_sent_verdict, line_place}
 use Rattle.std.proofs.lemmas.Bool.{and_parts}
 use Rattle.tlp_layout.specs.Outgoing.{Outgoing, outgoing_of}
 use Rattle.spec_links.specs.Ports.{at_switch, may_send, port_of, sealing_end}
 use Rattle.event_verdicts.specs.declared.verdict.Verdict.TheVariants as v
 use Rattle.ide_port.specs.declared.answer.Sent.TheVariants.{Sealed}
-use Rattle.all_links.specs.Links.{Ends, EndsOr, EndsSendingOr}
+use Rattle.all_links.specs.Links.{Ends, EndsOrStays, EndsSendingOrStays}
 use Rattle.ide_types.specs.declared.memory.OutOfMemory.{OutOfMemory}
 use Rattle.all_links.specs.BesideAfter.{BesideStays}
 use Rattle.ide_port.specs.{Trusting}
@@ -41,7 +41,7 @@ pub record IsPut (old new : EndsView) (end : PortName) (bytes : List ℕ) (more 
       × IsSentAtPort port bytes more (trusting_on old end trusted) n answer t.port sealed
 
 pub is_put : (old new : EndsView) (end : PortName) (bytes : List ℕ) (more trusted : Bool) (answer : Sent)
-    (sealed : List ℕ) → IsSome (port_on old end) → SendsAt old end bytes more trusted answer new sealed
+    (sealed : List ℕ) → IsSome (port_on old end) → SendsAtEnd old end bytes more trusted answer new sealed
     → IsPut old new end bytes more trusted answer sealed
 is_put old new end bytes more trusted answer sealed here sends =
     let found = some_end (port_on old end) here in
@@ -59,7 +59,7 @@ is_put old new end bytes more trusted answer sealed here sends =
 
 pub seals : (plan : Plan) (old new : Links) (end : PortName) (bytes : List ℕ) (more trusted : Bool) (answer : Sent)
     (sealed : List ℕ) (verdict : Verdict) → IsBounded old.ends old.packets.packets old.steps
-    → IsSome (port_on old.ends end) → SendsAt old.ends end bytes more trusted answer new.ends sealed
+    → IsSome (port_on old.ends end) → SendsAtEnd old.ends end bytes more trusted answer new.ends sealed
     → verdict ≡ end_sent_verdict end (port_of plan end) (length old.packets.packets + 1) answer
     → new.keeper.keys ≡ old.keeper.keys → new.steps ≡ old.steps + 1
     → new.packets.packets ≡ old.packets.packets ++ cut_packets end (lengths_sent answer) sealed
@@ -113,7 +113,8 @@ seals plan old new end bytes more trusted answer sealed verdict bounded here sen
     }
 
 pub sent_keeps : (old new : Links) (end : PortName) (bytes : List ℕ) (more trusted : Bool) (answer : Sent)
-    (sealed : List ℕ) → IsSome (port_on old.ends end) → SendsAt old.ends end bytes more trusted answer new.ends sealed
+    (sealed : List ℕ) → IsSome (port_on old.ends end) → SendsAtEnd old.ends end bytes more trusted answer new.ends
+    sealed
     → new.keeper ≡ old.keeper → new.trusted ≡ old.trusted → BesideStays old new
 sent_keeps old new end bytes more trusted answer sealed here sends keeper memory =
     let put = is_put old.ends new.ends end bytes more trusted answer sealed here sends in
@@ -136,7 +137,7 @@ not_sealed answer none = grind (arith, none)
 -- the lengths of the packets add up to that of what was sealed
 pub sealed_length : (old new : EndsView) (end : PortName) (bytes : List ℕ) (more trusted : Bool) (answer : Sent)
     (sealed : List ℕ) (ps : List MeasuredPacket) → IsSome (port_on old end)
-    → SendsAt old end bytes more trusted answer new sealed → map (λ (p : MeasuredPacket). p.length) ps
+    → SendsAtEnd old end bytes more trusted answer new sealed → map (λ (p : MeasuredPacket). p.length) ps
     ≡ lengths_sent answer → sum_by (λ (p : MeasuredPacket). p.length) ps ≡ length sealed
 sealed_length old new end bytes more trusted answer sealed ps here sends said =
     let put = is_put old new end bytes more trusted answer sealed here sends in
@@ -168,7 +169,7 @@ bytes_sent plan b st port bytes more trusted is =
 -- at the end of the line that association gives
 pub sends_there : (plan : Plan) (verdict : Verdict) (old new : Links) (port : PortName) (bytes : List ℕ)
     (more trusted : Bool) → may_send plan port ≡ true → EndsSending plan verdict old new (sealing_end plan port bytes)
-    bytes more trusted → EndsWith plan verdict old new (Send port bytes more trusted)
+    bytes more trusted → EndsIfAnswered plan verdict old new (Send port bytes more trusted)
 sends_there plan verdict old new port bytes more trusted may x = record {
   counted = x.counted;
   bounded = x.bounded;
@@ -194,8 +195,9 @@ nowhere_sent plan old end none links has =
     never false is some = absurd cc
 
 pub sends_or : (plan : Plan) (result : Result Verdict OutOfMemory) (old new : Links) (port : PortName) (bytes : List ℕ)
-    (more trusted : Bool) → may_send plan port ≡ true → EndsSendingOr plan result old new (sealing_end plan port bytes)
-    bytes more trusted → EndsOr plan result old new (Send port bytes more trusted)
+    (more trusted : Bool) → may_send plan port ≡ true → EndsSendingOrStays plan result old new
+    (sealing_end plan port bytes)
+    bytes more trusted → EndsOrStays plan result old new (Send port bytes more trusted)
 sends_or plan (Ok verdict) old new port bytes more trusted may x =
     sends_there plan verdict old new port bytes more trusted may x
 sends_or plan (Err e) old new port bytes more trusted may stays = stays

@@ -9,14 +9,14 @@ pub use Rattle.ide_types.specs.declared.status.StreamStatus.{StreamStatus}
 pub use Rattle.spec_keys.proofs.Tests.{true-lt}
 pub use Rattle.spec_keys.specs.History.{History}
 pub use Rattle.spec_keys.specs.Operations.{StreamStage, work_of}
-pub use Rattle.line_arrivals.specs.{OperatesAt, ResetsAt, SendsAt, both_of, statuses_of, told_by_line, drawn_on_line}
+pub use Rattle.line_arrivals.specs.{OperatesAt, ResetsAt, SendsAtEnd, both_of, statuses_of, told_by_line, drawn_on_line}
 pub use Rattle.line_arrivals.specs.{EndsView, peer_live, port_on, trusting_on, with_port_on, stream_named, AreLinks}
 pub use Rattle.line_arrivals.specs.{IsBounded, ports_in, state_of, port_in, KeeperView, LinkEnds, InterfacesView}
 pub use Rattle.all_links.specs.Events.{operation_event}
 pub use Rattle.all_links.specs.States.{links_state}
-pub use Rattle.all_links.specs.Links.{Ends, StepEndsBy, EndsIf, EndsAs, EndsSending, EndsWith, HasNoVerdict}
-pub use Rattle.all_links.specs.Links.{StandsForSome}
-pub use Rattle.all_links.specs.Besides.{IsAnsweredBy, answer_of_links, beside_in}
+pub use Rattle.all_links.specs.Links.{Ends, StepEndsBy, EndsIfSo, EndsOrHasNone, EndsSending, EndsIfAnswered}
+pub use Rattle.all_links.specs.Links.{HasNoVerdict, StandsForSome}
+pub use Rattle.all_links.specs.Besides.{HasAnswerOfLinks, answer_of_links, beside_in}
 pub use Rattle.all_links.specs.declared.links.Links.{Links}
 pub use Rattle.script_events.specs.declared.event.Event.TheVariants.{Interface, Dump, Reset, Send, Status}
 pub use Rattle.trusted_memory.specs.{MemoryContents}

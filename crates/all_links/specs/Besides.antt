@@ -31,5 +31,5 @@ abbrev pub IsAnswered : Links → Event → Type 0
 IsAnswered s event = (e : InterfaceEvent) → event ≡ Interface e → IsSome (answer_of_links s e)
 
 -- If the event is one on an interface, it has a verdict, and this answer is that verdict.
-abbrev pub IsAnsweredBy : Links → Event → BesidePorts → Type 0
-IsAnsweredBy s event b = (e : InterfaceEvent) → event ≡ Interface e → answer_of_links s e ≡ Some (b.answer e)
+abbrev pub HasAnswerOfLinks : Links → Event → BesidePorts → Type 0
+HasAnswerOfLinks s event b = (e : InterfaceEvent) → event ≡ Interface e → answer_of_links s e ≡ Some (b.answer e)

@@ -15,7 +15,7 @@ use Rattle.interface_host.specs.Managers.{new_interface_manager as new_interface
 use Rattle.trusted_memory.specs.{new_memory}
 use Rattle.line_arrivals.specs.{new_all_ends, AreLinks, IsBounded}
 use Rattle.all_links.specs.declared.links.Links.{Links}
-use Rattle.all_links.specs.Besides.{IsAnswered, IsAnsweredBy, beside_in}
+use Rattle.all_links.specs.Besides.{IsAnswered, HasAnswerOfLinks, beside_in}
 use Rattle.all_links.specs.States.{links_state}
 
 -- The links before the first event: the ends of all lines without keys, the managers with no operation under way and no
@@ -55,12 +55,12 @@ pub record StepEndsBy (IsSo : BesidePorts → Type 0) (step : BesidePorts → Li
       → Ends plan new verdict (step (beside_in old b) (links_state plan old))
 
 -- that of the event
-abbrev pub EndsIf : (BesidePorts → Type 0) → Plan → Verdict → Links → Links → Event → Type 0
-EndsIf IsSo plan verdict old new event = StepEndsBy IsSo (λ b st. step_of plan b st event) plan verdict old new
+abbrev pub EndsIfSo : (BesidePorts → Type 0) → Plan → Verdict → Links → Links → Event → Type 0
+EndsIfSo IsSo plan verdict old new event = StepEndsBy IsSo (λ b st. step_of plan b st event) plan verdict old new
 
 -- If the event is one on an interface, it has this verdict.
-abbrev pub EndsWith : Plan → Verdict → Links → Links → Event → Type 0
-EndsWith plan verdict old new event = EndsIf (IsAnsweredBy old event) plan verdict old new event
+abbrev pub EndsIfAnswered : Plan → Verdict → Links → Links → Event → Type 0
+EndsIfAnswered plan verdict old new event = EndsIfSo (HasAnswerOfLinks old event) plan verdict old new event
 
 -- Bytes are sent at an end that the topology has.
 abbrev pub EndsSending : Plan → Verdict → Links → Links → PortName → List ℕ → Bool → Bool → Type 0
@@ -76,23 +76,25 @@ pub record Stays (old new : Links) : Type 0 where
   pub packets : new.packets.packets ≡ old.packets.packets
   pub steps : new.steps ≡ old.steps
 
-abbrev pub EndsOr : Plan → Result Verdict OutOfMemory → Links → Links → Event → Type 0
-EndsOr plan (Ok verdict) old new event = EndsWith plan verdict old new event
-EndsOr plan (Err e) old new event = Stays old new
+abbrev pub EndsOrStays : Plan → Result Verdict OutOfMemory → Links → Links → Event → Type 0
+EndsOrStays plan (Ok verdict) old new event = EndsIfAnswered plan verdict old new event
+EndsOrStays plan (Err e) old new event = Stays old new
 
-abbrev pub EndsSendingOr : Plan → Result Verdict OutOfMemory → Links → Links → PortName → List ℕ → Bool → Bool → Type 0
-EndsSendingOr plan (Ok verdict) old new end bytes more trusted = EndsSending plan verdict old new end bytes more trusted
-EndsSendingOr plan (Err e) old new end bytes more trusted = Stays old new
+abbrev pub EndsSendingOrStays : Plan → Result Verdict OutOfMemory → Links → Links → PortName → List ℕ → Bool → Bool
+    → Type 0
+EndsSendingOrStays plan (Ok verdict) old new end bytes more trusted = EndsSending plan verdict old new end bytes more
+    trusted
+EndsSendingOrStays plan (Err e) old new end bytes more trusted = Stays old new
 
 -- The event has no verdict. That does not come while the links stand for some history and the event is answered.
 abbrev pub HasNoVerdict : Plan → Links → Event → Type 0
 HasNoVerdict plan old event = StandsForSome plan old → IsAnswered old event → ⊥
 
 -- an event with a verdict, or one that has none
-abbrev pub EndsAs : Plan → Option Verdict → Links → Links → Event → Type 0
-EndsAs plan (Some verdict) old new event = EndsWith plan verdict old new event
-EndsAs plan None old new event = HasNoVerdict plan old event
+abbrev pub EndsOrHasNone : Plan → Option Verdict → Links → Links → Event → Type 0
+EndsOrHasNone plan (Some verdict) old new event = EndsIfAnswered plan verdict old new event
+EndsOrHasNone plan None old new event = HasNoVerdict plan old event
 
-abbrev pub EndsAsOr : Plan → Result (Option Verdict) OutOfMemory → Links → Links → Event → Type 0
-EndsAsOr plan (Ok verdict) old new event = EndsAs plan verdict old new event
-EndsAsOr plan (Err e) old new event = Stays old new
+abbrev pub EndsOrHasNoneOrStays : Plan → Result (Option Verdict) OutOfMemory → Links → Links → Event → Type 0
+EndsOrHasNoneOrStays plan (Ok verdict) old new event = EndsOrHasNone plan verdict old new event
+EndsOrHasNoneOrStays plan (Err e) old new event = Stays old new

@@ -18,8 +18,9 @@ const MOST_REPORT: usize = 1_140;
 
 impl Links {
     ghost use Rattle.ide_types.specs.declared.plan.Plan.{Plan as PlanView};
-    ghost use Rattle.line_arrivals.specs.{IsBounded, IsThere, AsksAt, report_of, outcome_verdict, NoBadInterfaceReply};
-    ghost use Rattle.all_links.specs.Links.{EndsWith, EndsOr, EndsAs, EndsAsOr};
+    ghost use Rattle.line_arrivals.specs.{IsBounded, IsThere, AsksAtLink, report_of, outcome_verdict};
+    ghost use Rattle.line_arrivals.specs.{NoBadInterfaceReply};
+    ghost use Rattle.all_links.specs.Links.{EndsIfAnswered, EndsOrStays, EndsOrHasNone, EndsOrHasNoneOrStays};
     ghost use Rattle.all_links.specs.Accesses.{place_runs, device_draw};
     ghost use Rattle.all_links.specs.BesideAfter.{BesideStays, BesideAsking, BesideInterface};
     ghost use Rattle.all_links.specs.Besides.{answer_of_links, op_verdict};
@@ -84,14 +85,15 @@ impl Links {
     ) -> interface_host::InterfaceOutcome
         requires here { Some at ≡ interface_named self.old.keeper.interfaces self.old.ends.links number }
         ensures links { self.new ≡ record self.old { ends = self.new.ends; keeper = self.new.keeper } }
-        ensures asks { AsksAt self.old.ends at.0 self.old.keeper number op loss result self.new.ends self.new.keeper }
+        ensures asks { AsksAtLink self.old.ends at.0 self.old.keeper number op loss result self.new.ends
+            self.new.keeper }
         ensures answered { IsSome (op_verdict self.old number op loss)
             → (report : List ℕ) → IsSome (outcome_verdict number loss report result) }
         ensures no_bad_reply { IsSome (op_verdict self.old number op loss) → NoBadInterfaceReply loss result }
     {
         let interface = number as usize;
         self.ends
-            .operate_on(at.0, &mut self.keeper, interface, op, loss)
+            .operate_interface(at.0, &mut self.keeper, interface, op, loss)
     }
 
     /// An operation on an interface, which is found at this place, and stays there, that reads no report, of any event
@@ -110,7 +112,7 @@ impl Links {
         requires short { report_of op ≡ (λ e. []) }
         ensures ends { (plan : PlanView) (event : InterfaceEvent)
             → answer_of_links self.old event ≡ op_verdict self.old number op loss
-            → EndsAs plan result self.old self.new (Event.Interface event) }
+            → EndsOrHasNone plan result self.old self.new (Event.Interface event) }
         ensures sides { IfSome result (λ v. BesideAsking number op loss self.old self.new) }
         ensures place { interface_named self.new.keeper.interfaces self.new.ends.links number ≡ at }
     {
@@ -130,7 +132,7 @@ impl Links {
     pub fn lock(&mut self, alloc: Global, number: u64, loss: Option<Loss>) -> Option<Verdict>
         requires steps { self.old.steps < 2 ^ 28 }
         requires bounded { IsBounded self.old.ends self.old.packets.packets self.old.steps }
-        ensures ends { (plan : PlanView) → EndsAs plan result self.old self.new
+        ensures ends { (plan : PlanView) → EndsOrHasNone plan result self.old self.new
             (Event.Interface (InterfaceEvent.Lock number loss)) }
         ensures sides { IfSome result (λ v. BesideInterface (InterfaceEvent.Lock number loss) self.old self.new) }
     {
@@ -143,7 +145,7 @@ impl Links {
     pub fn state(&mut self, alloc: Global, number: u64, loss: Option<Loss>) -> Option<Verdict>
         requires steps { self.old.steps < 2 ^ 28 }
         requires bounded { IsBounded self.old.ends self.old.packets.packets self.old.steps }
-        ensures ends { (plan : PlanView) → EndsAs plan result self.old self.new
+        ensures ends { (plan : PlanView) → EndsOrHasNone plan result self.old self.new
             (Event.Interface (InterfaceEvent.State number loss)) }
         ensures sides { IfSome result (λ v. BesideInterface (InterfaceEvent.State number loss) self.old self.new) }
     {
@@ -190,7 +192,7 @@ impl Links {
         requires steps { self.old.steps < 2 ^ 28 }
         requires bounded { IsBounded self.old.ends self.old.packets.packets self.old.steps }
         requires peer { is_peer_line line ≡ true }
-        ensures ends { (plan : PlanView) → EndsAs plan result self.old self.new
+        ensures ends { (plan : PlanView) → EndsOrHasNone plan result self.old self.new
             (Event.Interface (InterfaceEvent.Bind number line stream loss)) }
         ensures sides { IfSome result (λ v. BesideInterface (InterfaceEvent.Bind number line stream loss) self.old
             self.new) }
@@ -221,7 +223,7 @@ impl Links {
         requires steps { self.old.steps < 2 ^ 28 }
         requires bounded { IsBounded self.old.ends self.old.packets.packets self.old.steps }
         requires peer { is_peer_line line ≡ true }
-        ensures ends { (plan : PlanView) → EndsAs plan result self.old self.new
+        ensures ends { (plan : PlanView) → EndsOrHasNone plan result self.old self.new
             (Event.Interface (InterfaceEvent.Unbind number line stream loss)) }
         ensures sides { IfSome result (λ v. BesideInterface (InterfaceEvent.Unbind number line stream loss) self.old
             self.new) }
@@ -250,7 +252,7 @@ impl Links {
     ) -> Result<Option<Verdict>, OutOfMemory>
         requires steps { self.old.steps < 2 ^ 28 }
         requires bounded { IsBounded self.old.ends self.old.packets.packets self.old.steps }
-        ensures ends { (plan : PlanView) → EndsAsOr plan result self.old self.new
+        ensures ends { (plan : PlanView) → EndsOrHasNoneOrStays plan result self.old self.new
             (Event.Interface (InterfaceEvent.Report number loss)) }
         ensures sides { IfOk result (λ o. IfSome o (λ v.
             BesideAsking number InterfaceOperation.Report loss self.old self.new)) }
@@ -274,7 +276,7 @@ impl Links {
     pub fn view(&mut self, number: u64) -> Verdict
         requires steps { self.old.steps < 2 ^ 28 }
         requires bounded { IsBounded self.old.ends self.old.packets.packets self.old.steps }
-        ensures ends { (plan : PlanView) → EndsWith plan result self.old self.new
+        ensures ends { (plan : PlanView) → EndsIfAnswered plan result self.old self.new
             (Event.Interface (InterfaceEvent.View number)) }
         ensures sides { BesideStays self.old self.new }
     {
@@ -293,7 +295,7 @@ impl Links {
         requires steps { self.old.steps < 2 ^ 28 }
         requires bounded { IsBounded self.old.ends self.old.packets.packets self.old.steps }
         requires width { value < 2 ^ width_of register }
-        ensures ends { (plan : PlanView) → EndsWith plan result self.old self.new
+        ensures ends { (plan : PlanView) → EndsIfAnswered plan result self.old self.new
             (Event.Interface (InterfaceEvent.Write number register value)) }
         ensures sides { BesideInterface (InterfaceEvent.Write number register value) self.old self.new }
     {
@@ -316,7 +318,7 @@ impl Links {
         requires steps { self.old.steps < 2 ^ 28 }
         requires bounded { IsBounded self.old.ends self.old.packets.packets self.old.steps }
         requires here { at ≡ interface_named self.old.keeper.interfaces self.old.ends.links number }
-        ensures ends { (plan : PlanView) → EndsWith plan result self.old self.new
+        ensures ends { (plan : PlanView) → EndsIfAnswered plan result self.old self.new
             (Event.Interface (InterfaceEvent.Flr number)) }
         ensures sides { BesideInterface (InterfaceEvent.Flr number) self.old self.new }
         ensures place { interface_named self.new.keeper.interfaces self.new.ends.links number ≡ at }
@@ -335,7 +337,7 @@ impl Links {
     pub fn firmware(&mut self, number: u64) -> Verdict
         requires steps { self.old.steps < 2 ^ 28 }
         requires bounded { IsBounded self.old.ends self.old.packets.packets self.old.steps }
-        ensures ends { (plan : PlanView) → EndsWith plan result self.old self.new
+        ensures ends { (plan : PlanView) → EndsIfAnswered plan result self.old self.new
             (Event.Interface (InterfaceEvent.Firmware number)) }
         ensures sides { BesideInterface (InterfaceEvent.Firmware number) self.old self.new }
     {
@@ -359,7 +361,7 @@ impl Links {
     ) -> Result<Verdict, OutOfMemory>
         requires steps { self.old.steps < 2 ^ 28 }
         requires bounded { IsBounded self.old.ends self.old.packets.packets self.old.steps }
-        ensures ends { (plan : PlanView) → EndsOr plan result self.old self.new
+        ensures ends { (plan : PlanView) → EndsOrStays plan result self.old self.new
             (Event.Interface (InterfaceEvent.Memory address length)) }
         ensures sides { IfOk result (λ v. BesideStays self.old self.new) }
     {

@@ -26,7 +26,7 @@ pub struct Links {
 impl Links {
     ghost use Rattle.ide_types.specs.declared.plan.Plan.{Plan as PlanView};
     ghost use Rattle.line_arrivals.specs.{IsBounded};
-    ghost use Rattle.all_links.specs.Links.{IsFirst, EndsWith};
+    ghost use Rattle.all_links.specs.Links.{IsFirst, EndsIfAnswered};
     ghost use Rattle.all_links.specs.BesideAfter.{BesideReset};
 
     /// The lines of the plan before the first event: no stream has keys, no interface is locked, and memory is 0.
@@ -70,7 +70,7 @@ impl Links {
     pub fn reset(&mut self, link: u64, ends: &[PortName]) -> Verdict
         requires steps { self.old.steps < 2 ^ 28 }
         requires bounded { IsBounded self.old.ends self.old.packets.packets self.old.steps }
-        ensures ends { (plan : PlanView) → EndsWith plan result self.old self.new (Event.Reset link ends.now) }
+        ensures ends { (plan : PlanView) → EndsIfAnswered plan result self.old self.new (Event.Reset link ends.now) }
         ensures verdict { result ≡ (if nat_lt link (length self.old.ends.links) then Verdict.Reset link
             else Verdict.Nothing) }
         ensures sides { BesideReset link self.old self.new }

@@ -22,7 +22,7 @@ use tlp_layout::{ChosenStream, OutgoingTlp};
 impl Links {
     ghost use Rattle.ide_types.specs.declared.plan.Plan.{Plan as PlanView};
     ghost use Rattle.line_arrivals.specs.{IsBounded};
-    ghost use Rattle.all_links.specs.Links.{EndsOr, EndsSending, EndsSendingOr};
+    ghost use Rattle.all_links.specs.Links.{EndsOrStays, EndsSending, EndsSendingOrStays};
     ghost use Rattle.all_links.specs.Accesses.{is_sending};
     ghost use Rattle.all_links.specs.BesideAfter.{BesideStays};
 
@@ -48,7 +48,7 @@ impl Links {
     ) -> Result<Verdict, OutOfMemory>
         requires steps { self.old.steps < 2 ^ 28 }
         requires bounded { IsBounded self.old.ends self.old.packets.packets self.old.steps }
-        ensures ends { EndsOr plan.now result self.old self.new (Event.Send port bytes.now more trusted) }
+        ensures ends { EndsOrStays plan.now result self.old self.new (Event.Send port bytes.now more trusted) }
         ensures sides { IfOk result (λ v. BesideStays self.old self.new) }
         ensures sending { IfOk result (λ v. is_sending v ≡ true) }
     {
@@ -57,11 +57,11 @@ impl Links {
         }
         let tlp = OutgoingTlp::of(bytes);
         let end = sealing_end(plan, port, &tlp);
-        self.send_at(plan, end, &tlp, more, trusted)
+        self.send_at_end(plan, end, &tlp, more, trusted)
     }
 
     /// Sends a TLP's bytes at an end of a line of the topology, on that line. For want of memory nothing changes.
-    pub fn send_at(
+    pub fn send_at_end(
         &mut self,
         plan: &ValidPlan,
         end: PortName,
@@ -71,7 +71,7 @@ impl Links {
     ) -> Result<Verdict, OutOfMemory>
         requires steps { self.old.steps < 2 ^ 28 }
         requires bounded { IsBounded self.old.ends self.old.packets.packets self.old.steps }
-        ensures ends { EndsSendingOr plan.now result self.old self.new end tlp.now more trusted }
+        ensures ends { EndsSendingOrStays plan.now result self.old self.new end tlp.now more trusted }
         ensures sides { IfOk result (λ v. BesideStays self.old self.new) }
         ensures sending { IfOk result (λ v. is_sending v ≡ true) }
     {
@@ -95,7 +95,7 @@ impl Links {
         requires bounded { IsBounded self.old.ends self.old.packets.packets self.old.steps }
         requires here { link < length self.old.ends.links }
         requires taken { IsTakenAtHost self.old.ends link tlp.now stream }
-        ensures ends { EndsSendingOr plan.now result self.old self.new (host_port link) tlp.now false true }
+        ensures ends { EndsSendingOrStays plan.now result self.old self.new (host_port link) tlp.now false true }
         ensures sides { IfOk result (λ v. BesideStays self.old self.new) }
         ensures sending { IfOk result (λ v. is_sending v ≡ true) }
     {
@@ -175,7 +175,7 @@ impl Links {
     pub fn dump(&mut self, alloc: Global, packet: u64) -> Result<Verdict, OutOfMemory>
         requires steps { self.old.steps < 2 ^ 28 }
         requires bounded { IsBounded self.old.ends self.old.packets.packets self.old.steps }
-        ensures ends { (plan : PlanView) → EndsOr plan result self.old self.new (Event.Dump packet) }
+        ensures ends { (plan : PlanView) → EndsOrStays plan result self.old self.new (Event.Dump packet) }
         ensures sides { IfOk result (λ v. BesideStays self.old self.new) }
     {
         match self.packets.get(packet) {

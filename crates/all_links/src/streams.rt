@@ -30,7 +30,7 @@ fn works_on(operation: Operation, line: u8) -> bool
 impl Links {
     ghost use Rattle.ide_types.specs.declared.plan.Plan.{Plan as PlanView};
     ghost use Rattle.line_arrivals.specs.{IsBounded, OperatesAt, told_by_line, drawn_on_line};
-    ghost use Rattle.all_links.specs.Links.{StandsForSome, EndsWith, EndsAs};
+    ghost use Rattle.all_links.specs.Links.{StandsForSome, EndsIfAnswered, EndsOrHasNone};
     ghost use Rattle.all_links.specs.BesideAfter.{BesideStays, BesideOperation};
 
     // The line and the stream by their numbers, if there is such a stream.
@@ -62,7 +62,7 @@ impl Links {
     ) -> Option<Verdict>
         requires steps { self.old.steps < 2 ^ 28 }
         requires bounded { IsBounded self.old.ends self.old.packets.packets self.old.steps }
-        ensures ends { (plan : PlanView) → EndsAs plan result self.old self.new
+        ensures ends { (plan : PlanView) → EndsOrHasNone plan result self.old self.new
             (operation_event operation line stream loss) }
         ensures sides { IfSome result (λ v. BesideOperation operation line stream v self.old self.new) }
     {
@@ -114,7 +114,7 @@ impl Links {
     pub fn status(&mut self, line: u64, stream: u64) -> Verdict
         requires steps { self.old.steps < 2 ^ 28 }
         requires bounded { IsBounded self.old.ends self.old.packets.packets self.old.steps }
-        ensures ends { (plan : PlanView) → EndsWith plan result self.old self.new (Event.Status line stream) }
+        ensures ends { (plan : PlanView) → EndsIfAnswered plan result self.old self.new (Event.Status line stream) }
         ensures sides { BesideStays self.old self.new }
     {
         match self.named(line, stream) {

@@ -54,8 +54,7 @@ module _ (draw : ℕ) where
 
   read_waits : (n : ℕ) (head : HeadView) (read : MemReadView) (c : Option BlockCause) → memory_read head ≡ Some read
       → Waits n (read_effect c) (Ok head)
-  read_waits n head read None is =
-      ap (λ (o : Option MemReadView). n + length (drawn_read draw o)) (sym is)
+  read_waits n head read None is = ap (λ (o : Option MemReadView). n + length (drawn_read draw o)) (sym is)
   read_waits n head read (Some c) is = omega arith
 
   by_read : (regions : List Region) (t : Bool) (grant : Grant) (n : ℕ) (head : HeadView) (o : Option MemReadView)
@@ -147,8 +146,7 @@ module _ (regions : List Region) (grants : Grants) (xs : List InterfaceStatus) (
 
   packet_waits : (n : ℕ) (p : Packet)
       → Waits unit.draw n (packet_effect regions grants xs n port unit p) (read_head_of p.head)
-  packet_waits n p =
-      either_waits n (is_sync_packet p) (sent_direction port.side == 0) _ _ (read_head_of p.head)
+  packet_waits n p = either_waits n (is_sync_packet p) (sent_direction port.side == 0) _ _ (read_head_of p.head)
       (head_waits n p.prefix.t (read_head_of p.head)) (claimed_waits n p.prefix.t (read_head_of p.head))
 
   -- a unit of no packets
@@ -196,6 +194,5 @@ carried_fits p o head has is =
     ((read_head_spells head p.head).1 read.1).fits
 
 pub packet_there : (ps : List Packet) (i : ℕ) (p : Packet) → slice_get ps i ≡ Some p → drop i ps ≡ p ∷ drop (i + 1) ps
-packet_there ps i p at =
-    drop_more ps i p (slice_get_within ps i p at)
+packet_there ps i p at = drop_more ps i p (slice_get_within ps i p at)
     ∙ ap (λ (x : Packet). x ∷ drop (i + 1) ps) (get_or_from_slice_get ps i p p at)

@@ -51,5 +51,4 @@ each_waits key iv n (p ∷ ps) =
 pub waits_open : (plan : Plan) (end : PortName)
     → OpensAs plan end (λ unit ps. tlps_with (plain_of plan end unit ps) ps) (λ unit ps. own_tlps ps)
 unfolding open_of
-waits_open plan end unit ps =
-    each_waits (key_of plan unit.draw (received_in end unit)) (iv_of unit.sub unit.unit) 0 ps
+waits_open plan end unit ps = each_waits (key_of plan unit.draw (received_in end unit)) (iv_of unit.sub unit.unit) 0 ps

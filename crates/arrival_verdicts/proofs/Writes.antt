@@ -106,8 +106,7 @@ module _ (plan : Plan) (h : History) (port : PortName) where
       → live_in (slot_in_set (at_sub (stream_state_due plan h port stream).rx u).slots k) ≡ Some y
       → y.key ≡ key_of plan y.draw (lane_in port stream u)
   unfolding stream_state_due
-  standing_key stream Pr k y is =
-      slots_key (lane_in port stream Pr) (port_keys h port (lane_in port stream Pr)) k y is
+  standing_key stream Pr k y is = slots_key (lane_in port stream Pr) (port_keys h port (lane_in port stream Pr)) k y is
   standing_key stream Npr k y is =
       slots_key (lane_in port stream Npr) (port_keys h port (lane_in port stream Npr)) k y is
   standing_key stream Cpl k y is =

@@ -22,8 +22,7 @@ switched_each ps = map switched_as ps
 
 -- that of a packet whose body is plain, in a sub-stream
 abbrev pub packet_tlps : SubKind → Packet → List HopTlp
-packet_tlps sub p =
-    if is_sync_packet p then [] else record { sub = sub; bytes = p.head ++ p.body; t = p.prefix.t } ∷ []
+packet_tlps sub p = if is_sync_packet p then [] else record { sub = sub; bytes = p.head ++ p.body; t = p.prefix.t } ∷ []
 
 -- those of packets whose bodies are plain
 abbrev pub tlps_in : SubKind → List Packet → List HopTlp

@@ -34,8 +34,7 @@ table_rounds ws s (suc n) =
 rounds_are : (ws : List Word) (s : Block) (n : ℕ) → rounds ws s n ≡ table_rounds ws s n
 unfolding rounds
 rounds_are ws s zero = refl
-rounds_are ws s (suc n) =
-    ap (λ (t : Block). add_round_key (round_key ws (suc n)) (mix_columns (shift_rows t)))
+rounds_are ws s (suc n) = ap (λ (t : Block). add_round_key (round_key ws (suc n)) (mix_columns (shift_rows t)))
     (bytes_are (rounds ws s n) (table_rounds ws s n) (rounds_are ws s n))
 
 abbrev table_cipher : List Word → Block → Block
@@ -43,8 +42,7 @@ table_cipher ws s = add_round_key (round_key ws 14) (shift_rows (table_bytes (ta
 
 aes_is : (k : Key) (ws : List Word) (b : Block) → round_words k ≡ ws → aes k b ≡ table_cipher ws b
 unfolding aes cipher
-aes_is k ws b words i =
-    add_round_key (round_key (words i) 14)
+aes_is k ws b words i = add_round_key (round_key (words i) 14)
     (shift_rows (bytes_are (rounds (words i) b 13) (table_rounds (words i) b 13) (rounds_are (words i) b 13) i))
 
 pub hash_key_is : (k : Key) {ws : List Word} → round_words k ≡ ws

@@ -36,8 +36,7 @@ pub ends_at : (plan : Plan) (h : History) (o : Option ArrivedBytes) (port : Port
     → before_tag plan h (record { port = port; bytes = packet_bytes p }) ≡ Ok (ending_at p unit)
     → is_verified plan h port (ending_at p unit) ≡ verified
     → arrival_due plan h o ≡ ends_as plan h port (ending_at p unit) verified
-ends_at plan h o port p unit verified brings passes is =
-    ap (arrival_due plan h) brings
+ends_at plan h o port p unit verified brings passes is = ap (arrival_due plan h) brings
     ∙ (ap (ending_due plan h port) passes ∙ ap (ends_as plan h port (ending_at p unit)) is)
 
 -- ---- at the host's port of link 0, on stream 5

@@ -18,7 +18,7 @@ use Rattle.spec_links.specs.Due.{before_tag, due, t_sealed}
 use Rattle.spec_links.specs.History.{ahead_of_unit, arrival_of_event, got_since, has_live_in, has_live_out}
 use Rattle.spec_links.specs.History.{packets_in_hold, port_keys, meets_counts, packet_of, posted_since_last}
 use Rattle.spec_links.specs.History.{sealed_packets, sub_stream_packets, total_in, units_got, units_since}
-use Rattle.spec_links.specs.Hops.{accepted_tlps_in, forwarded_count}
+use Rattle.spec_links.specs.Hops.{accepted_tlps_in_list, forwarded_count}
 use Rattle.spec_links.specs.Plan.{key_of, stream_plan, streams_by_line}
 use Rattle.spec_links.specs.Ports.{goes_through, id_in, port_of, end_reached, sealing_end}
 use Rattle.spec_links.specs.Sent.{bytes_by, packets_held}
@@ -31,7 +31,8 @@ unfolding whole_reading walk_length walked_from open_of masked_bytes read_head_o
     moments is_open keys devices sites managed_view stream_draw choice_of outgoing_of peer_end peer_ends before_tag due
     t_sealed ahead_of_unit arrival_of_event got_since has_live_in has_live_out packets_in_hold port_keys meets_counts
     packet_of posted_since_last
-    sealed_packets sub_stream_packets total_in units_got units_since accepted_tlps_in forwarded_count key_of stream_plan
+    sealed_packets sub_stream_packets total_in units_got units_since accepted_tlps_in_list forwarded_count key_of
+    stream_plan
     streams_by_line
     goes_through id_in port_of end_reached sealing_end bytes_by packets_held open_unit units
 due_on_literals = tt

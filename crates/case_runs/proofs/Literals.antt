@@ -24,10 +24,10 @@ use Rattle.spec_links.specs.History.{ahead_of_unit, arrival_of_event, got_since,
 use Rattle.spec_links.specs.History.{packets_in_hold, port_keys, meets_counts, packet_of, posted_since_last}
 use Rattle.spec_links.specs.History.{sealed_packets, sub_stream_packets, total_in, units_got, units_since}
 use Rattle.spec_links.specs.Memory.{writes}
-use Rattle.spec_links.specs.Hops.{accepted_tlps_in, forwarded_count}
+use Rattle.spec_links.specs.Hops.{accepted_tlps_in_list, forwarded_count}
 use Rattle.spec_links.specs.Plan.{key_of, stream_plan, streams_by_line}
 use Rattle.spec_links.specs.Ports.{goes_through, id_in, port_of, end_reached, sealing_end}
-use Rattle.spec_links.specs.Sent.{bytes_by, packets_held, queued_in, reads_taken, writes_in}
+use Rattle.spec_links.specs.Sent.{bytes_by, packets_held, queued_in, reads_taken, writes_in_list}
 use Rattle.spec_links.specs.Units.{open_unit, units}
 
 unfoldable pub due_on_literals : ⊤
@@ -38,6 +38,6 @@ unfolding whole_reading walk_length walked_from verifies read_head_of read_of cu
     got_since
     has_live_in has_live_out packets_in_hold port_keys meets_counts packet_of posted_since_last sealed_packets
     sub_stream_packets total_in units_got
-    units_since writes key_of stream_plan bytes_by packets_held queued_in reads_taken writes_in open_unit units
-    t_sealed accepted_tlps_in forwarded_count streams_by_line goes_through id_in port_of end_reached sealing_end
+    units_since writes key_of stream_plan bytes_by packets_held queued_in reads_taken writes_in_list open_unit units
+    t_sealed accepted_tlps_in_list forwarded_count streams_by_line goes_through id_in port_of end_reached sealing_end
 due_on_literals = tt

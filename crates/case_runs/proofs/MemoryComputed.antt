@@ -78,14 +78,12 @@ blocked_due =
 
 halted_due : IsInterfaceDue halted_history (accepted_write (Blocked NotRunning))
 unfolding due_on_literals
-halted_due =
-    ends_at interface_plan (halted_history) _ (host_port 0) device_write write_unit true
+halted_due = ends_at interface_plan (halted_history) _ (host_port 0) device_write write_unit true
     (ap (comes_at (host_port 0)) device_write_is) refl (ap (bytes_eq device_tag) device_tag_is)
 
 stale_due : IsInterfaceDue run_again (accepted_write (Blocked Stale))
 unfolding due_on_literals
-stale_due =
-    ends_at interface_plan (run_again) _ (host_port 0) device_write write_unit true
+stale_due = ends_at interface_plan (run_again) _ (host_port 0) device_write write_unit true
     (ap (comes_at (host_port 0)) device_write_is) refl (ap (bytes_eq device_tag) device_tag_is)
 
 pub computed : MemoryCases

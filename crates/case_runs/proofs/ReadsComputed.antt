@@ -16,7 +16,7 @@ use Rattle.spec_links.specs.Plan.{streams_of}
 use Rattle.spec_links.specs.History.{sealed_packets, sent_bytes}
 use Rattle.spec_links.specs.Packets.{ArrivedBytes, arrival_packet}
 use Rattle.spec_links.specs.Memory.{admitted_writes}
-use Rattle.spec_links.specs.Sent.{queued_in, reads_taken, reads_by, writes_in, bytes_by, unit_accepted}
+use Rattle.spec_links.specs.Sent.{queued_in, reads_taken, reads_by, writes_in_list, bytes_by, unit_accepted}
 use Rattle.spec_links.specs.Due.{due, answer_first, outgoing_completion}
 use Rattle.script_events.specs.declared.event.Event.TheVariants.{Pass}
 use Rattle.event_verdicts.specs.declared.access.AccessVerdict.TheVariants as av
@@ -40,8 +40,7 @@ asked_due = refl
 
 queued_due : IsInterfaceDue (sealed_request 2 1 ∷ written_history) (queued_read 2)
 unfolding due_on_literals
-queued_due =
-    ends_at interface_plan (sealed_request 2 1 ∷ written_history) _ (host_port 0) later_read read_unit true
+queued_due = ends_at interface_plan (sealed_request 2 1 ∷ written_history) _ (host_port 0) later_read read_unit true
     (ap (comes_at (host_port 0)) later_read_is) refl (ap (bytes_eq later_read_tag) later_read_tag_is)
 
 -- ---- what stands in memory, and what waits
@@ -60,25 +59,25 @@ none_of_read =
     read_unit (arrival_packet o ∷ [])) (applied_write ∷ []))
     (ap (comes_at (host_port 0)) later_read_is)
 
-before_read : writes_in interface_plan (sealed_packets interface_plan waiting_history) written_history
+before_read : writes_in_list interface_plan (sealed_packets interface_plan waiting_history) written_history
     ≡ applied_write ∷ []
 unfolding due_on_literals
 before_read = write_admitted
 
-then_read : writes_in interface_plan (sealed_packets interface_plan waiting_history) waiting_history
-    ≡ newest_first of_read (writes_in interface_plan (sealed_packets interface_plan waiting_history) written_history)
-unfolding writes_in of_read
+then_read : writes_in_list interface_plan (sealed_packets interface_plan waiting_history) waiting_history
+    ≡ newest_first of_read
+    (writes_in_list interface_plan (sealed_packets interface_plan waiting_history) written_history)
+unfolding writes_in_list of_read
 then_read = refl
 
-writes_are : writes_in interface_plan (sealed_packets interface_plan waiting_history) waiting_history
+writes_are : writes_in_list interface_plan (sealed_packets interface_plan waiting_history) waiting_history
     ≡ applied_write ∷ []
 writes_are = then_read ∙ (ap (newest_first of_read) before_read ∙ none_of_read)
 
 queued_are : queued_in interface_plan (sealed_packets interface_plan waiting_history) waiting_history 0
     ≡ waiting_read ∷ []
 unfolding due_on_literals
-queued_are =
-    ap (λ (o : Option ArrivedBytes). reads_by 0 (Queued ∷ []) (arrival_packet o ∷ []))
+queued_are = ap (λ (o : Option ArrivedBytes). reads_by 0 (Queued ∷ []) (arrival_packet o ∷ []))
     (ap (comes_at (host_port 0)) later_read_is)
 
 -- ---- the answer
@@ -102,9 +101,8 @@ due_from_both : due interface_plan waiting_history answer ≡ answer_first inter
     (drop (reads_taken waiting_history 0) (waiting_read ∷ []))
     (outgoing_of (streams_of interface_plan 0) Host read_completion)
 unfolding due_on_literals
-due_from_both i =
-    answer_first interface_plan waiting_history (host_port 0) (drop (reads_taken waiting_history 0) (queued_are i))
-    (outgoing_of (streams_of interface_plan 0) Host (bytes_are i))
+due_from_both i = answer_first interface_plan waiting_history (host_port 0)
+    (drop (reads_taken waiting_history 0) (queued_are i)) (outgoing_of (streams_of interface_plan 0) Host (bytes_are i))
 
 sent_then : answer_first interface_plan waiting_history (host_port 0)
     (drop (reads_taken waiting_history 0) (waiting_read ∷ []))
@@ -118,8 +116,7 @@ answer_due = due_from_both ∙ sent_then
 queued_still : queued_in interface_plan (sealed_packets interface_plan (answered_read ∷ waiting_history))
     (answered_read ∷ waiting_history) 0 ≡ waiting_read ∷ []
 unfolding due_on_literals
-queued_still =
-    ap (λ (o : Option ArrivedBytes). reads_by 0 (Queued ∷ []) (arrival_packet o ∷ []))
+queued_still = ap (λ (o : Option ArrivedBytes). reads_by 0 (Queued ∷ []) (arrival_packet o ∷ []))
     (ap (comes_at (host_port 0)) later_read_is)
 
 empty_due : IsInterfaceDue (answered_read ∷ waiting_history) (answer, v.Access (av.Empty 0))
@@ -135,8 +132,7 @@ empty_due =
 queued_halted : queued_in interface_plan (sealed_packets interface_plan halted_waiting) halted_waiting 0
     ≡ waiting_read ∷ []
 unfolding due_on_literals
-queued_halted =
-    ap (λ (o : Option ArrivedBytes). reads_by 0 (Queued ∷ []) (arrival_packet o ∷ []))
+queued_halted = ap (λ (o : Option ArrivedBytes). reads_by 0 (Queued ∷ []) (arrival_packet o ∷ []))
     (ap (comes_at (host_port 0)) first_read_is)
 
 dropped_due : IsInterfaceDue halted_waiting (answer, v.Access (av.Dropped 0 NotRunning))

@@ -23,8 +23,7 @@ two_3 = refl
 two_4 : due (plan 2 false) (seal_read_step 2 true ∷ seal_read_step 1 false ∷ establish_step ∷ []) held_packet.0
     ≡ held_packet.1
 unfolding due_on_literals masked_bytes
-two_4 =
-    stops (plan 2 false) (seal_read_step 2 true ∷ seal_read_step 1 false ∷ establish_step ∷ []) _ first_read _
+two_4 = stops (plan 2 false) (seal_read_step 2 true ∷ seal_read_step 1 false ∷ establish_step ∷ []) _ first_read _
     (ap comes first_read_is) refl
 
 two_5 : due (plan 2 false) (held_packet ∷ seal_read_step 2 true ∷ seal_read_step 1 false ∷ establish_step ∷ [])

@@ -20,16 +20,14 @@ use Rattle.case_runs.proofs.Literals.{due_on_literals}
 accepted_once_3 : due (plan 1 false) (seal_step 1 0 1 ∷ establish_step ∷ []) (accepted_unit 1 0 1).0
     ≡ (accepted_unit 1 0 1).1
 unfolding due_on_literals
-accepted_once_3 =
-    ends (plan 1 false) (seal_step 1 0 1 ∷ establish_step ∷ []) _ write_1 Pr 0 1 true
+accepted_once_3 = ends (plan 1 false) (seal_step 1 0 1 ∷ establish_step ∷ []) _ write_1 Pr 0 1 true
     (ap comes write_1_is) refl (ap (bytes_eq tag_1) tag_1_is)
 
 accepted_once_4 : due (plan 1 false) (accepted_unit 1 0 1 ∷ seal_step 1 0 1 ∷ establish_step ∷ []) (fails (Pass 1)).0
     ≡ (fails (Pass 1)).1
 unfolding due_on_literals
-accepted_once_4 =
-    ends (plan 1 false) (accepted_unit 1 0 1 ∷ seal_step 1 0 1 ∷ establish_step ∷ []) _ write_1 Pr 0 2 false
-    (ap comes write_1_is) refl (ap (bytes_eq tag_1) repeated_tag_is)
+accepted_once_4 = ends (plan 1 false) (accepted_unit 1 0 1 ∷ seal_step 1 0 1 ∷ establish_step ∷ []) _ write_1 Pr 0 2
+    false (ap comes write_1_is) refl (ap (bytes_eq tag_1) repeated_tag_is)
 
 accepted_once_5 : due (plan 1 false) (fails (Pass 1) ∷ accepted_unit 1 0 1 ∷ seal_step 1 0 1 ∷ establish_step ∷ [])
     insecure.0 ≡ insecure.1
@@ -57,8 +55,7 @@ trusted_due = (refl, (refl, (trusted_3, tt)))
 rekeyed_3 : due (plan 1 false) (seal_step 1 0 1 ∷ establish_step ∷ []) (fails_key (Alter 1 1 0x40)).0
     ≡ (fails_key (Alter 1 1 0x40)).1
 unfolding due_on_literals
-rekeyed_3 =
-    stops (plan 1 false) (seal_step 1 0 1 ∷ establish_step ∷ []) _ rekeyed_write _
+rekeyed_3 = stops (plan 1 false) (seal_step 1 0 1 ∷ establish_step ∷ []) _ rekeyed_write _
     (ap (λ (p : Packet). altered_arrival (plan 1 false) 1 0x40 (packet 1 Pr 0 1 true 0, p)) write_1_is) refl
 
 pub rekeyed_due : AreDue (plan 1 false) [] other_set_on_the_way
@@ -90,8 +87,7 @@ one_missing_due = (refl, (refl, (refl, (refl, (one_missing_5, (one_missing_6, tt
 
 read_ahead_4 : due (plan 1 false) (sealed_read ∷ seal_step 1 0 1 ∷ establish_step ∷ []) fails_order.0 ≡ fails_order.1
 unfolding due_on_literals masked_bytes
-read_ahead_4 =
-    ends (plan 1 false) (sealed_read ∷ seal_step 1 0 1 ∷ establish_step ∷ []) _ read_behind Npr 0 1 true
+read_ahead_4 = ends (plan 1 false) (sealed_read ∷ seal_step 1 0 1 ∷ establish_step ∷ []) _ read_behind Npr 0 1 true
     (ap comes read_behind_is) refl (ap (bytes_eq read_tag) read_tag_is)
 
 pub read_ahead_due : AreDue (plan 1 false) [] read_ahead

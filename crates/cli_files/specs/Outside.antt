@@ -57,9 +57,9 @@ ReadIfTold None name at result buf = Unit {0}
 ReadIfTold (Some contents) name at result buf = ReadOrRefused (contents name) at result buf
 
 -- what is given is counted, and a fault gives nothing
-abbrev pub Given : ℕ → ℕ → Result ℕ ShelfFault → Type 0
-Given before now (Ok n) = now ≡ capped_count before n
-Given before now (Err e) = now ≡ before
+abbrev pub IsGiven : ℕ → ℕ → Result ℕ ShelfFault → Type 0
+IsGiven before now (Ok n) = now ≡ capped_count before n
+IsGiven before now (Err e) = now ≡ before
 
 -- how many bytes a read gave
 abbrev pub given_by : Result ℕ ShelfFault → ℕ

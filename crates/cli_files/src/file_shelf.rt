@@ -1,7 +1,7 @@
 //! Files of the system.
 ghost use Rattle.std.specs.Prelude.{◌≡◌, [], true, Some, None, IfOk, IfSome, map, string_bytes};
 ghost use Rattle.std.specs.Io.{ReadsAtMost};
-ghost use Rattle.cli_files.specs.Files.{Noted};
+ghost use Rattle.cli_files.specs.Files.{IsNoted};
 ghost use Rattle.cli_files.specs.Outside.{AsksFor, IsLastName};
 
 use crate::{Shelf, ShelfFault};
@@ -119,7 +119,7 @@ fn failed_under(asked: &[String], name: &str, error: io::Error) -> Option<io::Er
 
 // Notes a name that is asked for, unless there is no memory.
 fn note(alloc: Global, asked: &mut Vec<String>, name: &str) -> io::Result<()>
-    ensures { Noted name.now (map string_bytes asked.old.items) (map string_bytes asked.new.items) result }
+    ensures { IsNoted name.now (map string_bytes asked.old.items) (map string_bytes asked.new.items) result }
 {
     let name = String::from_str(alloc, name)?;
     asked.push(name)?;

@@ -1,7 +1,7 @@
 //! Files in memory: chosen reads fail, or none.
 ghost use Rattle.std.specs.Prelude.{◌≡◌, ◌≤◌, ◌||◌, None, Some, is_err, is_none, option_map, length, max, IfOk};
 ghost use Rattle.cli_files.specs.Memory.{IsNew, calls_after, contents_of, fails_now, file_contents, reads_of};
-ghost use Rattle.cli_files.specs.Outside.{AsksFor, IsLastName, Given, ReadAt, ReadIfTold, ReadOrRefused, ShelfCause};
+ghost use Rattle.cli_files.specs.Outside.{AsksFor, IsLastName, IsGiven, ReadAt, ReadIfTold, ReadOrRefused, ShelfCause};
 ghost use Rattle.cli_files.specs.Outside.{given_by};
 
 use crate::calls::Calls;
@@ -48,7 +48,7 @@ fn read_file(
 ) -> Result<usize, ShelfFault>
     ensures bound { IfOk result (λ n. n ≤ length buf.new) }
     ensures bytes { ReadOrRefused (file_contents files.now name.now) at result buf.new }
-    ensures counted { Given given.old given.new result }
+    ensures counted { IsGiven given.old given.new result }
     ensures latest { latest.new ≡ given_by result }
     ensures fails { is_err result ≡ is_none (file_contents files.now name.now) }
 {
@@ -114,7 +114,8 @@ impl Shelf for MemShelf {
         ensures told { IfOk result (λ n. IsLastName name.now (⟦<MemShelf as Shelf>⟧.seen self.new).asked) }
         ensures bound { IfOk result (λ n. n ≤ length buf.new) }
         ensures bytes { ReadIfTold (⟦<MemShelf as Shelf>⟧.seen self.old).contents name.now at result buf.new }
-        ensures counted { Given (⟦<MemShelf as Shelf>⟧.seen self.old).given (⟦<MemShelf as Shelf>⟧.seen self.new).given
+        ensures counted { IsGiven (⟦<MemShelf as Shelf>⟧.seen self.old).given
+            (⟦<MemShelf as Shelf>⟧.seen self.new).given
             result }
         ensures latest { (⟦<MemShelf as Shelf>⟧.seen self.new).latest ≡ given_by result }
         ensures asked { (⟦<MemShelf as Shelf>⟧.seen self.new).longest

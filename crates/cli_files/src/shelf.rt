@@ -1,6 +1,6 @@
 //! A shelf of files.
 ghost use Rattle.std.specs.Prelude.{◌≡◌, ◌≤◌, length, max, IfOk};
-ghost use Rattle.cli_files.specs.Outside.{AsksFor, IsLastName, Given, ReadIfTold, ShelfCause, ShelfSeen, given_by};
+ghost use Rattle.cli_files.specs.Outside.{AsksFor, IsLastName, IsGiven, ReadIfTold, ShelfCause, ShelfSeen, given_by};
 
 /// A read gave nothing: the file cannot be read now, or there is no file of this name.
 #[derive(Clone, Copy, Debug, PartialEq, Eq)]
@@ -22,7 +22,7 @@ pub trait Shelf {
         ensures told { IfOk result (λ n. IsLastName name.now (seen self.new).asked) }
         ensures bound { IfOk result (λ n. n ≤ length buf.new) }
         ensures bytes { ReadIfTold (seen self.old).contents name.now at result buf.new }
-        ensures counted { Given (seen self.old).given (seen self.new).given result }
+        ensures counted { IsGiven (seen self.old).given (seen self.new).given result }
         ensures latest { (seen self.new).latest ≡ given_by result }
         ensures asked { (seen self.new).longest ≡ max (seen self.old).longest (length buf.new) }
         ensures cause { ShelfCause (seen self.old).faults (seen self.new).faults (seen self.old).contents name.now

@@ -38,8 +38,7 @@ some_kind (k ∷ ks) e has other = grind (arith, nat_tests)
 pub some_found : (a : App) (words : List Text) (e : Error) → a ≡ ide_app
     → (is_simple_and_free a ≡ true → HasKind (fault_of a words) e) → kind_of e ≢ kind.OutOfMemory
     → is_empty (fault_of ide_app words) ≡ false
-some_found a words e is fails other =
-    some_kind (fault_of ide_app words) e
+some_found a words e is fails other = some_kind (fault_of ide_app words) e
     ((subst (λ (x : App). is_simple_and_free x ≡ true → HasKind (fault_of x words) e) is fails) ide_is_simple) other
 
 -- ---- what is asked for then
@@ -54,9 +53,8 @@ asks_met words met passes is one =
 
 pub asks_two : (words : List Text) (met : Option (Text × List Row)) → met ≡ subcommand_of ide_app words
     → asks_both met ≡ true → command_asked words ≡ None
-asks_two words met is two =
-    refused_anyway words (is_empty (fault_of ide_app words)) (asks_both (subcommand_of ide_app words))
-    (subst (λ (m : Option (Text × List Row)). asks_both m ≡ true) is two)
+asks_two words met is two = refused_anyway words (is_empty (fault_of ide_app words))
+    (asks_both (subcommand_of ide_app words)) (subst (λ (m : Option (Text × List Row)). asks_both m ≡ true) is two)
 
 pub asks_nothing : (words : List Text) → is_empty (fault_of ide_app words) ≡ false → command_asked words ≡ None
 asks_nothing words faulty = rw faulty refl

@@ -55,8 +55,7 @@ no_more (k ∷ ks) = refl
 -- ---- the level of `generate`
 
 abbrev generate_level : Shape
-generate_level =
-    built_leaf (inherited (on_top with_leaf_noted (on_top marked_built ide_app)).top generate_app.top)
+generate_level = built_leaf (inherited (on_top with_leaf_noted (on_top marked_built ide_app)).top generate_app.top)
 
 -- an argument that was given
 abbrev pub given_row : (id text : Text) → Row
@@ -220,8 +219,7 @@ meets_four p a b c d = refl
 three_pass : (p a b c : Text) → IsName a → IsName b → is_unsigned_in 0 4294967295 a ≡ true
     → rest_fault generate_level [] (after_numbers a b) (c ∷ []) ≡ []
     → fault_of ide_app (p ∷ codes "generate" ∷ a ∷ b ∷ c ∷ []) ≡ []
-three_pass p a b c h i seed passes =
-    enters_three p a b c ∙ no_more _ ∙ level_passes a b (c ∷ []) h i seed passes
+three_pass p a b c h i seed passes = enters_three p a b c ∙ no_more _ ∙ level_passes a b (c ∷ []) h i seed passes
 
 -- the words are read by the rows of the level
 read_at_level : (words : List Text) (rows known : List Row) (a : CommandRequest × Bool)

@@ -30,8 +30,7 @@ FewIn _ = Unit {0}
 by_test : (most : ℕ) (text : Text) (b : Bool) → 1 ≤ most → is_unsigned_in 1 most text ≡ b
     → Within most (if b then digits_value 10 (without_leading_plus text) else 1)
 unfolding Within
-by_test most text true some passes =
-    let h = accepts-Accepts false (vp.Unsigned 1 most) text passes in (h.2, h.3)
+by_test most text true some passes = let h = accepts-Accepts false (vp.Unsigned 1 most) text passes in (h.2, h.3)
 by_test most text false some passes = (lit≤ tt, some)
 
 number_within : (most : ℕ) (text : Text) → 1 ≤ most → Within most (number_of 1 most text)

@@ -103,9 +103,8 @@ status_named w =
     else status.Insecure
 
 abbrev operation_named : Text → Operation
-operation_named w =
-    if bytes_eq w (codes "establish") then operation.Establish else if bytes_eq w (codes "refresh") then
-    operation.Refresh else operation.Stop
+operation_named w = if bytes_eq w (codes "establish") then operation.Establish else if bytes_eq w (codes "refresh")
+    then operation.Refresh else operation.Stop
 
 -- an operation on a stream, by the letter before its word
 abbrev busy_named : Text → Verdict

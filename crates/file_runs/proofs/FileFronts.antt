@@ -20,13 +20,14 @@ use Rattle.file_runs.specs.declared.ends.End.TheVariants as end
 use Rattle.file_runs.specs.declared.ends.Fault.{Fault}
 use Rattle.file_runs.specs.declared.ends.Fault.TheVariants as fault
 use Rattle.file_runs.specs.Front.{Gave, bytes_of, IsReadIn, IsReadIfTold, IsWholeIn, IsWholeIfTold, ReadsOn}
-use Rattle.file_runs.specs.Gain.{Text, Gained, GainedMore, IsFront}
-use Rattle.file_runs.specs.Outcome.{Due, EndsDue, EndsToldOrBlind, Quiet, IsWholeLines, Ran, RanOn, SomeFront}
+use Rattle.file_runs.specs.Gain.{Text, HasGained, GainedMore, IsFront}
+use Rattle.file_runs.specs.Outcome.{Due, EndsDue, EndsToldOrBlind, Quiet, IsWholeLines, Ran, RanOnShelf, SomeFront}
 use Rattle.file_runs.specs.Lines.{after, bytes_for_lines, cut_text, file_due, file_limit, go_on, is_over, process}
 use Rattle.file_runs.specs.Lines.{refusal, unended_due}
-use Rattle.file_runs.specs.Gathering.{GainedAt, IsPartGathered, GoesOn, NoFurther, ReadAsFar, ReadAsFarOf, SoFar}
-use Rattle.file_runs.specs.Gathering.{WroteEnded, WroteEndedIn, WroteEndedIfTold, pieces_after, due_behind, ended_text}
-use Rattle.file_runs.specs.Gathering.{last_piece, limit_due, open_line, waiting_at}
+use Rattle.file_runs.specs.Gathering.{HasGainedAtFault, IsPartGathered, GoesOn, NoFurther, ReadAsFar}
+use Rattle.file_runs.specs.Gathering.{ReadAsFarOfContents, SoFar, WroteEnded, WroteEndedInFile, WroteEndedIfTold}
+use Rattle.file_runs.specs.Gathering.{pieces_after, due_behind, ended_text, last_piece, limit_due, open_line}
+use Rattle.file_runs.specs.Gathering.{waiting_at}
 use Rattle.file_runs.proofs.Cuttings.{cut_short}
 use Rattle.file_runs.proofs.Fronts.{start}
 use Rattle.file_runs.proofs.Gains.{gained_more}
@@ -128,27 +129,27 @@ in_file : {S : Type 0} (advance : S → ℕ → Text → Result (S × Text) Line
     → 0 < length front → length front ≤ file_limit → s1 ≡ s0
     → ((over : Bool) (left : Text) → Ran (process advance closing over 1 first (pieces (front ++ left))) o0 o1 r)
     → EndsDue (option_map (file_due advance closing first) file) (Rose s0 s1) (Rose o0.faults o1.faults)
-    (Quiet s0 s1 o0.faults o1.faults) (Gained o0.held o1.held) r
+    (Quiet s0 s1 o0.faults o1.faults) (HasGained o0.held o1.held) r
 in_file advance closing first None front s0 s1 o0 o1 r read some le same ran = absurd (omega (arith, ap length read))
 in_file advance closing first (Some file) front s0 s1 o0 o1 r read some le same ran =
     let cut = front_of_cut file_limit front file read le in
     let P : Text → Type 0 = λ t. Ran (process advance closing (is_over file) 1 first (pieces t)) o0 o1 r in
     ran_told (Some (file_due advance closing first file)) (file_due advance closing first file) s0 s1 o0.faults
-    o1.faults (Gained o0.held o1.held) r refl same (subst P cut.1 (ran (is_over file) cut.0))
+    o1.faults (HasGained o0.held o1.held) r refl same (subst P cut.1 (ran (is_over file) cut.0))
 
 pub in_told : {S : Type 0} (advance : S → ℕ → Text → Result (S × Text) LineFault) (closing : S → Due) (first : S)
     (name front : Text) (s0 s1 : ShelfSeen) (o0 o1 : SinkSeen) (r : Result End Fault)
     → IsReadIfTold s0.contents name front → 0 < length front → length front ≤ file_limit → s1.faults ≡ s0.faults
     → ((over : Bool) (left : Text) → Ran (process advance closing over 1 first (pieces (front ++ left))) o0 o1 r)
-    → RanOn (λ contents. option_map (file_due advance closing first) (contents name)) s0 s1 o0 o1 r
+    → RanOnShelf (λ contents. option_map (file_due advance closing first) (contents name)) s0 s1 o0 o1 r
 in_told advance closing first name front s0 s1 o0 o1 r read some le same ran = by_told s0.contents read
   where
     by_told : (told : Option Contents) → IsReadIfTold told name front
         → EndsToldOrBlind told (λ contents. option_map (file_due advance closing first) (contents name))
         (Rose s0.faults s1.faults) (Rose o0.faults o1.faults) (Quiet s0.faults s1.faults o0.faults o1.faults)
-        (Gained o0.held o1.held) r
+        (HasGained o0.held o1.held) r
     by_told None read = ran_blind (process advance closing true 1 first (pieces (front ++ []))) s0.faults s1.faults
-        o0.faults o1.faults (Gained o0.held o1.held) r same (ran true [])
+        o0.faults o1.faults (HasGained o0.held o1.held) r same (ran true [])
     by_told (Some contents) read = in_file advance closing first (contents name) front s0.faults s1.faults o0 o1 r read
         some le same ran
 
@@ -159,7 +160,7 @@ pub end_in_piece : {S : Type 0} (advance : S → ℕ → Text → Result (S × T
     (r : Result End Fault) → (f : FileSoFar advance closing first s0.contents name at n s before o0 o1)
     → IsReadIfTold s0.contents name (f.front ++ piece) → 0 < length piece → at + length piece ≤ file_limit → s1.faults
     ≡ s0.faults → ((over : Bool) (left : Text) → Ran (due_behind advance closing over n s before (piece ++ left)) o1 o2
-    r) → RanOn (λ contents. option_map (file_due advance closing first) (contents name)) s0 s1 o0 o2 r
+    r) → RanOnShelf (λ contents. option_map (file_due advance closing first) (contents name)) s0 s1 o0 o2 r
 end_in_piece advance closing first name at n s before piece s0 s1 o0 o1 o2 r f read some le same ran =
     in_told advance closing first name (f.front ++ piece) s0 s1 o0 o2 r read
     (omega (arith, length-append f.front piece)) (omega (arith, length-append f.front piece, f.size)) same
@@ -175,7 +176,7 @@ whole_in : {S : Type 0} (advance : S → ℕ → Text → Result (S × Text) Lin
     (file : Option Text) (front : Text) (s0 s1 : ℕ) (o0 o1 : SinkSeen) (r : Result End Fault) → IsWholeIn file front
     → length front ≤ file_limit → s1 ≡ s0 → Ran (process advance closing false 1 first (pieces (front ++ []))) o0 o1 r
     → EndsDue (option_map (file_due advance closing first) file) (Rose s0 s1) (Rose o0.faults o1.faults)
-    (Quiet s0 s1 o0.faults o1.faults) (Gained o0.held o1.held) r
+    (Quiet s0 s1 o0.faults o1.faults) (HasGained o0.held o1.held) r
 whole_in advance closing first None front s0 s1 o0 o1 r whole le same ran = absurd whole
 whole_in advance closing first (Some file) front s0 s1 o0 o1 r whole le same ran =
     let f : Bool → Text → Due = λ over text. process advance closing over 1 first (pieces text) in
@@ -183,14 +184,14 @@ whole_in advance closing first (Some file) front s0 s1 o0 o1 r whole le same ran
     let due : f false (front ++ []) ≡ file_due advance closing first file = ap₂ f
     (sym (le-ltb file_limit (length front) le)) text ∙ ap (file_due advance closing first) whole in
     ran_told (Some (file_due advance closing first file)) (file_due advance closing first file) s0 s1 o0.faults
-    o1.faults (Gained o0.held o1.held) r refl same (subst (λ (d : Due). Ran d o0 o1 r) due ran)
+    o1.faults (HasGained o0.held o1.held) r refl same (subst (λ (d : Due). Ran d o0 o1 r) due ran)
 
 pub end_of_file : {S : Type 0} (advance : S → ℕ → Text → Result (S × Text) LineFault) (closing : S → Due) (first : S)
     (name : Text) (at n : ℕ) (s : S) (before : Text) (s0 s1 : ShelfSeen) (o0 o1 o2 : SinkSeen) (r : Result End Fault)
     → (f : FileSoFar advance closing first s0.contents name at n s before o0 o1)
     → IsWholeIfTold s0.contents name (f.front ++ []) → at ≤ file_limit → s1.faults ≡ s0.faults
     → Ran (process advance closing false n s (before ∷ [])) o1 o2 r
-    → RanOn (λ contents. option_map (file_due advance closing first) (contents name)) s0 s1 o0 o2 r
+    → RanOnShelf (λ contents. option_map (file_due advance closing first) (contents name)) s0 s1 o0 o2 r
 end_of_file advance closing first name at n s before s0 s1 o0 o1 o2 r f whole le same ran = by_told s0.contents
     (subst (λ (t : Text). IsWholeIfTold s0.contents name t) (append-nil f.front) whole)
   where
@@ -203,9 +204,9 @@ end_of_file advance closing first name at n s before s0 s1 o0 o1 o2 r f whole le
     by_told : (told : Option Contents) → IsWholeIfTold told name f.front
         → EndsToldOrBlind told (λ contents. option_map (file_due advance closing first) (contents name))
         (Rose s0.faults s1.faults) (Rose o0.faults o2.faults) (Quiet s0.faults s1.faults o0.faults o2.faults)
-        (Gained o0.held o2.held) r
+        (HasGained o0.held o2.held) r
     by_told None whole = ran_blind (process advance closing false 1 first (pieces (f.front ++ []))) s0.faults s1.faults
-        o0.faults o2.faults (Gained o0.held o2.held) r same all
+        o0.faults o2.faults (HasGained o0.held o2.held) r same all
     by_told (Some contents) whole = whole_in advance closing first (contents name) f.front s0.faults s1.faults o0 o2 r
         whole (omega (arith, f.size)) same all
 
@@ -261,7 +262,7 @@ limit_in : {S : Type 0} (advance : S → ℕ → Text → Result (S × Text) Lin
     → IsReadIn file (front ++ byte ∷ []) → length front ≡ file_limit → s1 ≡ s0
     → Ran (process advance closing true 1 first (pieces (if byte == 10 then front else front ++ byte ∷ []))) o0 o1 r
     → EndsDue (option_map (file_due advance closing first) file) (Rose s0 s1) (Rose o0.faults o1.faults)
-    (Quiet s0 s1 o0.faults o1.faults) (Gained o0.held o1.held) r
+    (Quiet s0 s1 o0.faults o1.faults) (HasGained o0.held o1.held) r
 limit_in advance closing first None front byte s0 s1 o0 o1 r read size same ran = absurd
     (omega (arith, length-append front (byte ∷ []), ap length read))
 limit_in advance closing first (Some file) front byte s0 s1 o0 o1 r (rest, e) size same ran =
@@ -272,13 +273,13 @@ limit_in advance closing first (Some file) front byte s0 s1 o0 o1 r (rest, e) si
     (lt-ltb file_limit (length file)
     (omega (arith, length-append front (byte ∷ []), length-append (front ++ byte ∷ []) rest, ap length e))) in
     ran_told (Some (file_due advance closing first file)) (file_due advance closing first file) s0 s1 o0.faults
-    o1.faults (Gained o0.held o1.held) r refl same (subst (λ (d : Due). Ran d o0 o1 r) (ap₂ f over text) ran)
+    o1.faults (HasGained o0.held o1.held) r refl same (subst (λ (d : Due). Ran d o0 o1 r) (ap₂ f over text) ran)
 
 pub end_at_limit : {S : Type 0} (advance : S → ℕ → Text → Result (S × Text) LineFault) (closing : S → Due) (first : S)
     (name : Text) (at n : ℕ) (s : S) (before : Text) (byte : ℕ) (s0 s1 : ShelfSeen) (o0 o1 o2 : SinkSeen)
     (r : Result End Fault) → (f : FileSoFar advance closing first s0.contents name at n s before o0 o1) → at
     ≡ file_limit → IsReadIfTold s0.contents name (f.front ++ byte ∷ []) → s1.faults ≡ s0.faults
-    → Ran (limit_due n before byte) o1 o2 r → RanOn
+    → Ran (limit_due n before byte) o1 o2 r → RanOnShelf
     (λ contents. option_map (file_due advance closing first) (contents name)) s0 s1 o0 o2 r
 end_at_limit advance closing first name at n s before byte s0 s1 o0 o1 o2 r f is read same ran = by_told s0.contents
     read
@@ -290,10 +291,10 @@ end_at_limit advance closing first name at n s before byte s0 s1 o0 o1 o2 r f is
     by_told : (told : Option Contents) → IsReadIfTold told name (f.front ++ byte ∷ [])
         → EndsToldOrBlind told (λ contents. option_map (file_due advance closing first) (contents name))
         (Rose s0.faults s1.faults) (Rose o0.faults o2.faults) (Quiet s0.faults s1.faults o0.faults o2.faults)
-        (Gained o0.held o2.held) r
+        (HasGained o0.held o2.held) r
     by_told None read = ran_blind
         (process advance closing true 1 first (pieces (if byte == 10 then f.front else f.front ++ byte ∷ []))) s0.faults
-        s1.faults o0.faults o2.faults (Gained o0.held o2.held) r same all
+        s1.faults o0.faults o2.faults (HasGained o0.held o2.held) r same all
     by_told (Some contents) read = limit_in advance closing first (contents name) f.front byte s0.faults s1.faults o0 o2
         r read (f.size ∙ is) same all
 
@@ -347,27 +348,27 @@ open_line_short : {S : Type 0} (advance : S → ℕ → Text → Result (S × Te
     (told : Option Contents) (name : Text) (at n : ℕ) (s : S) (before : Text) (o0 o1 : SinkSeen)
     → (f : FileSoFar advance closing first told name at n s before o0 o1) → length before ≤ 20000
     → length (open_line f.front) ≤ 20000
-open_line_short advance closing first told name at n s before o0 o1 f short =
-    last_short advance closing 1 first (pieces f.front)
-    (ap (λ (d : Due). d.0) (ended_there advance closing first told name at n s before o0 o1 f short))
+open_line_short advance closing first told name at n s before o0 o1 f short = last_short advance closing 1 first
+    (pieces f.front) (ap (λ (d : Due). d.0) (ended_there advance closing first told name at n s before o0 o1 f short))
 
-all_gained : (o0 o1 : SinkSeen) (text : Text) → IsPartGathered text [] o0 o1 → Gained o0.held o1.held text
-all_gained o0 o1 text g = let P : Text → Type 0 = λ t. Gained o0.held o1.held t in subst P (sym (append-nil g.0) ∙ g.1)
+all_gained : (o0 o1 : SinkSeen) (text : Text) → IsPartGathered text [] o0 o1 → HasGained o0.held o1.held text
+all_gained o0 o1 text g = let P : Text → Type 0 = λ t. HasGained o0.held o1.held t in subst P
+    (sym (append-nil g.0) ∙ g.1)
     g.2
 
 pub gained_ended : {S : Type 0} (advance : S → ℕ → Text → Result (S × Text) LineFault) (closing : S → Due) (first : S)
     (told : Option Contents) (name : Text) (at n : ℕ) (s : S) (before : Text) (o0 o1 : SinkSeen)
     → (f : FileSoFar advance closing first told name at n s before o0 o1) → length before ≤ 20000
-    → Gained o0.held o1.held (ended_text advance closing first f.front)
+    → HasGained o0.held o1.held (ended_text advance closing first f.front)
 gained_ended advance closing first told name at n s before o0 o1 f short =
-    let P : Text → Type 0 = λ t. Gained o0.held o1.held t in
+    let P : Text → Type 0 = λ t. HasGained o0.held o1.held t in
     subst P (text_is advance closing first told name at n s before o0 o1 f short)
     (all_gained o0 o1 f.so_far.text f.so_far.gained)
 
 wrote_all : (e : Fault) (text : Text → Text) (file front piece : Text) (s0 s1 : ShelfSeen) (o0 o1 : SinkSeen)
     → IsFront (front ++ piece) file → Gave s0.given (length front + length piece) s1.given
-    → length piece ≤ waiting_at e s1
-    → length (open_line front) ≤ 20000 → GainedAt e o0.held o1.held (text front) → WroteEndedIn e text file s0 s1 o0 o1
+    → length piece ≤ waiting_at e s1 → length (open_line front) ≤ 20000
+    → HasGainedAtFault e o0.held o1.held (text front) → WroteEndedInFile e text file s0 s1 o0 o1
 wrote_all e text file front piece s0 s1 o0 o1 (rest, is) gave few short gained =
     let same : front ≡ take (length front) file = sym (take-append_seam front (piece ++ rest)) ∙ ap
     (take (length front)) (sym (append_assoc front piece rest) ∙ is) in
@@ -379,13 +380,14 @@ wrote_all e text file front piece s0 s1 o0 o1 (rest, is) gave few short gained =
       most = omega arith;
       all_but = omega (arith, few);
       short = subst (λ (t : Text). length (open_line t) ≤ 20000) same short;
-      gained = subst (λ (t : Text). GainedAt e o0.held o1.held (text t)) same gained;
+      gained = subst (λ (t : Text). HasGainedAtFault e o0.held o1.held (text t)) same gained;
     }
 
 wrote_in : (e : Fault) (text : Text → Text) (file : Option Text) (front piece : Text) (s0 s1 : ShelfSeen)
     (o0 o1 : SinkSeen) → IsReadIn file (front ++ piece) → Gave s0.given (length front + length piece) s1.given
-    → length piece ≤ waiting_at e s1 → length (open_line front) ≤ 20000 → GainedAt e o0.held o1.held (text front)
-    → WroteEndedIn e text (bytes_of file) s0 s1 o0 o1
+    → length piece ≤ waiting_at e s1 → length (open_line front) ≤ 20000
+    → HasGainedAtFault e o0.held o1.held (text front)
+    → WroteEndedInFile e text (bytes_of file) s0 s1 o0 o1
 wrote_in e text None front piece s0 s1 o0 o1 read gave few short gained = wrote_all e text [] front piece s0 s1 o0 o1
     ([], append-nil (front ++ piece) ∙ read) gave few short gained
 wrote_in e text (Some file) front piece s0 s1 o0 o1 read gave few short gained = wrote_all e text file front piece s0 s1
@@ -427,7 +429,8 @@ no_further advance closing first name at n s before piece s0 s1 o0 o1 (Ok e) f r
     s0.contents read
   where
     by_told : (told : Option Contents) → IsReadIfTold told name (f.front ++ piece)
-        → ReadAsFarOf (λ contents. NoFurther (GoesOn advance closing first) (bytes_of (contents name))) told s0 s1
+        → ReadAsFarOfContents (λ contents. NoFurther (GoesOn advance closing first) (bytes_of (contents name))) told s0
+        s1
     by_told None read = tt
     by_told (Some contents) read = (
       at + length piece,
@@ -445,7 +448,7 @@ pub fault_wrote : {S : Type 0} (advance : S → ℕ → Text → Result (S × Te
     → (f : FileSoFar advance closing first s0.contents name at n s before o0 o1)
     → IsReadIfTold s0.contents name (f.front ++ piece) → length before ≤ 20000 → length piece ≤ waiting_at e s1
     → Gave s0.given (at + length piece) s1.given
-    → ((text : Text) → Gained o0.held o1.held text → GainedAt e o0.held o2.held text)
+    → ((text : Text) → HasGained o0.held o1.held text → HasGainedAtFault e o0.held o2.held text)
     → WroteEnded e (ended_text advance closing first) name s0 s1 o0 o2
 fault_wrote advance closing first e name at n s before piece s0 s1 o0 o1 o2 f read short few gave more = by_told
     s0.contents read
@@ -466,7 +469,7 @@ pub nothing_more : (told : Option Contents) (name front : Text) → IsReadIfTold
     → IsReadIfTold told name (front ++ [])
 nothing_more told name front read = subst (λ (t : Text). IsReadIfTold told name t) (sym (append-nil front)) read
 
-more_gained : (h0 h1 h2 : Option Text) (text later : Text) → Gained h0 h1 text → SomeFront (Gained h1 h2) later
+more_gained : (h0 h1 h2 : Option Text) (text later : Text) → HasGained h0 h1 text → SomeFront (HasGained h1 h2) later
     → GainedMore h0 h2 text
 more_gained h0 h1 h2 text later was (front, is, gained) = (front, gained_more h0 h1 h2 text front was gained)
 
@@ -504,14 +507,15 @@ nothing_wrote advance closing first name shelf sink =
 fault_in : {S : Type 0} (advance : S → ℕ → Text → Result (S × Text) LineFault) (closing : S → Due) (first : S)
     (contents : Contents) (file : Option Text) (name front text : Text) (later : Bool → Text → Due) (s0 s1 : ℕ)
     (o0 o1 : SinkSeen) → contents name ≡ file → IsReadIn file front → length front ≤ file_limit → text
-    ≡ ended_text advance closing first front → IsWholeLines text → Gained o0.held o1.held text
+    ≡ ended_text advance closing first front → IsWholeLines text → HasGained o0.held o1.held text
     → ((over : Bool) (left : Text) → process advance closing over 1 first (pieces (front ++ left))
     ≡ after text (later over left)) → (Rose s0 s1 ⊎ (contents name ≡ None))
     → EndsDue (option_map (file_due advance closing first) file) (Rose s0 s1) (Rose o0.faults o1.faults)
-    (Quiet s0 s1 o0.faults o1.faults) (Gained o0.held o1.held) (Err fault.Read)
+    (Quiet s0 s1 o0.faults o1.faults) (HasGained o0.held o1.held) (Err fault.Read)
 fault_in advance closing first contents None name front text later s0 s1 o0 o1 there read le is whole gained goes cause
     =
-    let P : Text → Type 0 = λ t. Gained o0.held o1.held t in subst P (is ∙ ap (ended_text advance closing first) read)
+    let P : Text → Type 0 = λ t. HasGained o0.held o1.held t in subst P
+    (is ∙ ap (ended_text advance closing first) read)
     gained
 fault_in advance closing first contents (Some file) name front text later s0 s1 o0 o1 there read le is whole gained goes
     cause =
@@ -526,7 +530,7 @@ pub fault_answers : {S : Type 0} (advance : S → ℕ → Text → Result (S × 
     (name : Text) (at n : ℕ) (s : S) (before : Text) (s0 s1 : ShelfSeen) (o0 o1 : SinkSeen) (e : ShelfFault)
     → FileSoFar advance closing first s0.contents name at n s before o0 o1 → at ≤ file_limit → length before ≤ 20000
     → ShelfCause s0.faults s1.faults s0.contents name (Err e)
-    → RanOn (λ contents. option_map (file_due advance closing first) (contents name)) s0 s1 o0 o1 (Err fault.Read)
+    → RanOnShelf (λ contents. option_map (file_due advance closing first) (contents name)) s0 s1 o0 o1 (Err fault.Read)
 fault_answers advance closing first name at n s before s0 s1 o0 o1 e f le short cause = by_told s0.contents f.is_read
     cause
   where
@@ -534,7 +538,7 @@ fault_answers advance closing first name at n s before s0 s1 o0 o1 e f le short 
         → ShelfCause s0.faults s1.faults told name (Err e)
         → EndsToldOrBlind told (λ contents. option_map (file_due advance closing first) (contents name))
         (Rose s0.faults s1.faults) (Rose o0.faults o1.faults) (Quiet s0.faults s1.faults o0.faults o1.faults)
-        (Gained o0.held o1.held) (Err fault.Read)
+        (HasGained o0.held o1.held) (Err fault.Read)
     by_told None read cause = elim cause.1 [ inl rose ↦ rose | inr none ↦ absurd none ]
     by_told (Some contents) read cause =
         fault_in advance closing first contents (contents name) name f.front f.so_far.text

@@ -50,9 +50,8 @@ empty_is (x ∷ xs) e =
 -- it is the only one
 pub last_is : (text line later : Text) → pieces text ≡ line ∷ pieces later → true ≡ (length later == 0)
     → text ≡ last_line_of text
-last_is text line later is none =
-    sym (joined text) ∙ ap (join_with_byte 10) is ∙ sym (ends_there line later (empty_is later none))
-    ∙ sym (ap last_text_piece is)
+last_is text line later is none = sym (joined text) ∙ ap (join_with_byte 10) is
+    ∙ sym (ends_there line later (empty_is later none)) ∙ sym (ap last_text_piece is)
 
 behind_line : (line : Text) (parts : List Text) → HasFirst parts → (length (join_with_byte 10 parts) == 0) ≡ false
     → last_text_piece (line ∷ parts) ≡ last_text_piece parts

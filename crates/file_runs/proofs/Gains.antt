@@ -2,10 +2,10 @@
 use Rattle.std.proofs.Common.{◌≡◌, ℕ, ◌++◌, Option, Some, None, ap, ◌∙◌, append_assoc, take, drop, length, ◌≤◌, ◌-◌}
 use Rattle.std.proofs.Common.{arith, length-drop}
 use Rattle.std.proofs.lemmas.List.{take_all, take-append-drop}
-use Rattle.file_runs.specs.Gain.{Text, Gained}
+use Rattle.file_runs.specs.Gain.{Text, HasGained}
 
-pub gained_more : (before mid now : Option Text) (front more : Text) → Gained before mid front → Gained mid now more
-    → Gained before now (front ++ more)
+pub gained_more : (before mid now : Option Text) (front more : Text) → HasGained before mid front
+    → HasGained mid now more → HasGained before now (front ++ more)
 gained_more None mid now front more e f = rw e at f
 gained_more (Some held) mid now front more e f =
     let g = rw e at f in

@@ -8,9 +8,9 @@ use Rattle.file_runs.specs.declared.ends.End.{End}
 use Rattle.file_runs.specs.declared.ends.Fault.{Fault}
 use Rattle.file_runs.specs.declared.ends.Fault.TheVariants as fault
 use Rattle.file_runs.specs.Front.{FrontIn, FrontIfTold, Gave, GaveIfTold, bytes_of}
-use Rattle.file_runs.specs.Gain.{Text, Gained, GainedMore, IsFront}
-use Rattle.file_runs.specs.Gathering.{GainedAt, NoFurther, ReadAsFar, ReadAsFarOf, WroteEnded, WroteEndedIn}
-use Rattle.file_runs.specs.Gathering.{WroteEndedIfTold}
+use Rattle.file_runs.specs.Gain.{Text, HasGained, GainedMore, IsFront}
+use Rattle.file_runs.specs.Gathering.{HasGainedAtFault, NoFurther, ReadAsFar, ReadAsFarOfContents, WroteEnded}
+use Rattle.file_runs.specs.Gathering.{WroteEndedInFile, WroteEndedIfTold}
 use Rattle.file_runs.specs.Outcome.{Due, EndsBy, EndsToldOrBlind, Quiet, SomeFront}
 use Rattle.file_runs.proofs.WholeFiles.{SameDue, gained_nothing}
 
@@ -50,19 +50,19 @@ given_within None name read most before now is gave = tt
 given_within (Some contents) name read most before now is gave = within_in (contents name) read most before now is gave
 
 -- nothing that was gained is due to a line
-pub gained_none : (e : Fault) (h : Option Text) → GainedAt e h h []
+pub gained_none : (e : Fault) (h : Option Text) → HasGainedAtFault e h h []
 gained_none fault.Read h = gained_nothing h
 gained_none fault.Write h = ([], gained_nothing h)
 gained_none fault.Memory h = ([], gained_nothing h)
 
-pub some_gained : (h0 h1 : Option Text) (last : Text) → SomeFront (Gained h0 h1) last → GainedMore h0 h1 []
+pub some_gained : (h0 h1 : Option Text) (last : Text) → SomeFront (HasGained h0 h1) last → GainedMore h0 h1 []
 some_gained h0 h1 last (front, is, gained) = (front, gained)
 
 -- the same text in other words
 same_ended_in : (e : Fault) (f g : Text → Text) (file : Text) (s0 s1 : ShelfSeen) (o0 o1 : SinkSeen)
-    → ((t : Text) → f t ≡ g t) → WroteEndedIn e f file s0 s1 o0 o1 → WroteEndedIn e g file s0 s1 o0 o1
+    → ((t : Text) → f t ≡ g t) → WroteEndedInFile e f file s0 s1 o0 o1 → WroteEndedInFile e g file s0 s1 o0 o1
 same_ended_in e f g file s0 s1 o0 o1 same wrote =
-    let gained = subst (λ (t : Text). GainedAt e o0.held o1.held t) (same (take wrote.ran file)) wrote.gained in
+    let gained = subst (λ (t : Text). HasGainedAtFault e o0.held o1.held t) (same (take wrote.ran file)) wrote.gained in
     record {
       given = wrote.given;
       ran = wrote.ran;
@@ -97,8 +97,9 @@ pub far_same : (f g : Text → Type 0) (name : Text) (s0 s1 : ShelfSeen) (r : Re
 far_same f g name s0 s1 (Err e) same far = tt
 far_same f g name s0 s1 (Ok e) same far = by_told s0.contents far
   where
-    by_told : (told : Option Contents) → ReadAsFarOf (λ contents. NoFurther f (bytes_of (contents name))) told s0 s1
-        → ReadAsFarOf (λ contents. NoFurther g (bytes_of (contents name))) told s0 s1
+    by_told : (told : Option Contents) → ReadAsFarOfContents (λ contents. NoFurther f (bytes_of (contents name))) told
+        s0 s1
+        → ReadAsFarOfContents (λ contents. NoFurther g (bytes_of (contents name))) told s0 s1
     by_told None far = tt
     by_told (Some contents) (n, gave, far) = (n, gave, (far.0, same _ far.1))
 
@@ -112,20 +113,20 @@ whole_front : (a : Text) → IsFront a a
 whole_front a = ([], append-nil a)
 
 same_gain : (before now : Option Text) (held gained text : Text) → before ≡ Some held → now ≡ Some (held ++ gained)
-    → Gained before now text → gained ≡ text
+    → HasGained before now text → gained ≡ text
 same_gain before now held gained text one two is =
     let there : now ≡ Some (held ++ text) = is ∙ ap (option_map (λ (h : Text). h ++ text)) one in
     let same : held ++ gained ≡ held ++ text = cc (two, there) in
     append_cancel_left held gained text same
 
 some_front : (before now : Option Text) (held gained text : Text) → before ≡ Some held → now ≡ Some (held ++ gained)
-    → SomeFront (Gained before now) text → IsFront gained text
+    → SomeFront (HasGained before now) text → IsFront gained text
 some_front before now held gained text one two is = subst (λ (t : Text). IsFront t text)
     (sym (same_gain before now held gained is.0 one two is.2)) is.1
 
 pub gained_front : (due : Due) (read write quiet : Type 0) (before now : Option Text) (held gained : Text)
     (r : Result End Fault) → before ≡ Some held → now ≡ Some (held ++ gained)
-    → EndsBy due read write quiet (Gained before now) r → IsFront gained due.1
+    → EndsBy due read write quiet (HasGained before now) r → IsFront gained due.1
 gained_front due read write quiet before now held gained (Ok e) one two ran = subst (λ (t : Text). IsFront t due.1)
     (sym (same_gain before now held gained due.1 one two ran.1)) (whole_front due.1)
 gained_front due read write quiet before now held gained (Err fault.Read) one two ran = some_front before now held

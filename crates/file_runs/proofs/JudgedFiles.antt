@@ -11,7 +11,7 @@ use Rattle.file_runs.specs.declared.ends.Fault.{Fault}
 use Rattle.file_runs.specs.declared.ends.Fault.TheVariants as fault
 use Rattle.file_runs.specs.Front.{FrontIn, FrontIfTold, Gave, GaveAtMost}
 use Rattle.file_runs.specs.Gain.{Text}
-use Rattle.file_runs.specs.Gathering.{GainedAt}
+use Rattle.file_runs.specs.Gathering.{HasGainedAtFault}
 use Rattle.file_runs.specs.Outcome.{Due, Ran}
 use Rattle.file_runs.proofs.WholeFiles.{IsDue}
 use Rattle.file_runs.proofs.Joins.{some_gained}
@@ -53,7 +53,7 @@ gave_few (Err f) n before now gave few = few
 -- ---- if writing fails
 
 pub some_wrote : (last : Due) (o0 o1 : SinkSeen) (r : Result End Fault) → Ran last o0 o1 r
-    → IfErr r (λ e. GainedAt e o0.held o1.held [])
+    → IfErr r (λ e. HasGainedAtFault e o0.held o1.held [])
 some_wrote last o0 o1 (Ok e) ran = tt
 some_wrote last o0 o1 (Err fault.Read) ran = absurd ran.0
 some_wrote last o0 o1 (Err fault.Write) ran = some_gained o0.held o1.held last.1 ran.1

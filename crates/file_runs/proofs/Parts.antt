@@ -16,10 +16,11 @@ use Rattle.script_events.specs.declared.fault.LineFault.{LineFault}
 use Rattle.script_events.specs.declared.fault.LineFault.TheVariants.{TooLong}
 use Rattle.file_runs.specs.declared.ends.End.{End}
 use Rattle.file_runs.specs.declared.ends.Fault.{Fault}
-use Rattle.file_runs.specs.Gain.{Text, Gained}
+use Rattle.file_runs.specs.Gain.{Text, HasGained}
 use Rattle.file_runs.specs.Outcome.{Due, IsWholeLines, Ran}
 use Rattle.file_runs.specs.Lines.{after, process, refusal}
-use Rattle.file_runs.specs.Gathering.{CutIn, PieceEnds, IsPartGathered, PieceRan, SoFar, pieces_after, due_behind}
+use Rattle.file_runs.specs.Gathering.{IsCutOffAtSink, PieceEnds, IsPartGathered, PieceRan, SoFar, pieces_after}
+use Rattle.file_runs.specs.Gathering.{due_behind}
 use Rattle.file_runs.proofs.Gains.{gained_more}
 use Rattle.file_runs.proofs.Runs.{cut_later, process_line, ran_later}
 
@@ -161,7 +162,7 @@ whole_more one two h (inl none) = rw (none, append-nil) h
 whole_more one two h (inr (lines, e)) = inr
     (one ++ lines, ap (λ (t : Text). one ++ t) e ∙ sym (append_assoc one lines (10 ∷ [])))
 
-nothing_gained : (h : Option Text) → Gained h h []
+nothing_gained : (h : Option Text) → HasGained h h []
 nothing_gained None = refl
 nothing_gained (Some held) = ap (λ (t : Text). Some t) (sym (append-nil held))
 
@@ -172,8 +173,7 @@ begins due later sink is = record {
   text = [];
   goes_on = λ over left. is over left;
   whole = inl refl;
-  gained =
-      ([], refl, nothing_gained sink.held, refl);
+  gained = ([], refl, nothing_gained sink.held, refl);
 }
 
 -- one more text came, and was gathered
@@ -214,7 +214,7 @@ ends due mid gathered last o0 o1 o2 r over left so_far is ran =
 -- the writing of what came last is cut off
 pub cut_off : (due mid : Bool → Text → Due) (gathered w : Text) (last : Due) (o0 o1 o2 : SinkSeen) (e : Fault)
     (over : Bool) (left : Text) → SoFar due mid gathered o0 o1 → mid over left ≡ after w last
-    → CutIn (gathered ++ w) o1 o2 e → CutIn (due over left).1 o0 o2 e
+    → IsCutOffAtSink (gathered ++ w) o1 o2 e → IsCutOffAtSink (due over left).1 o0 o2 e
 cut_off due mid gathered w last o0 o1 o2 e over left so_far is cut =
     let was = so_far.gained in
     let whole : (due over left).1 ≡ was.0 ++ ((gathered ++ w) ++ last.1) =
@@ -224,12 +224,13 @@ cut_off due mid gathered w last o0 o1 o2 e over left so_far is cut =
     whole was.2 was.3 cut
 
 pub cut_gathered : (due mid : Bool → Text → Due) (gathered : Text) (o0 o1 o2 : SinkSeen) (e : Fault) (over : Bool)
-    (left : Text) → SoFar due mid gathered o0 o1 → CutIn gathered o1 o2 e → CutIn (due over left).1 o0 o2 e
+    (left : Text) → SoFar due mid gathered o0 o1 → IsCutOffAtSink gathered o1 o2 e
+    → IsCutOffAtSink (due over left).1 o0 o2 e
 cut_gathered due mid gathered o0 o1 o2 e over left so_far cut = cut_off due mid gathered [] (mid over left) o0 o1 o2 e
     over left so_far refl (rw append-nil cut)
 
 -- all that was gathered is written
-pub put : (gathered : Text) (o1 o2 : SinkSeen) → Gained o1.held o2.held gathered → o2.faults ≡ o1.faults
+pub put : (gathered : Text) (o1 o2 : SinkSeen) → HasGained o1.held o2.held gathered → o2.faults ≡ o1.faults
     → IsPartGathered (gathered ++ []) [] o1 o2
 put gathered o1 o2 gained same = (gathered, refl, gained, same)
 

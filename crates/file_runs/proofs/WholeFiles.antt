@@ -8,7 +8,7 @@ use Rattle.file_runs.specs.declared.ends.Fault.TheVariants as fault
 use Rattle.file_runs.specs.declared.front.Unread.{Unread}
 use Rattle.file_runs.specs.declared.front.Unread.TheVariants as unread
 use Rattle.file_runs.specs.Front.{UnreadCause}
-use Rattle.file_runs.specs.Gain.{Text, Gained}
+use Rattle.file_runs.specs.Gain.{Text, HasGained}
 use Rattle.file_runs.specs.Outcome.{Due, Quiet, EndsBy, EndsBlind, EndsDue, EndsToldOrBlind}
 
 -- what is due if contents are told
@@ -20,7 +20,7 @@ abbrev pub SameDue : Option Contents → (due other : Contents → Option Due) �
 SameDue None due other = Unit {0}
 SameDue (Some contents) due other = due contents ≡ other contents
 
-pub gained_nothing : (h : Option Text) → Gained h h []
+pub gained_nothing : (h : Option Text) → HasGained h h []
 gained_nothing None = refl
 gained_nothing (Some held) = ap (λ (t : Text). Some t) (sym (append-nil held))
 
@@ -34,7 +34,7 @@ fault_of unread.Memory = fault.Memory
 -- a file could not be read
 stopped_told : (contents : Contents) (due : Option Due) (name : Text) (s0 s1 : ℕ) (write quiet : Type 0)
     (h : Option Text) (e : Unread) → (contents name ≡ None → due ≡ None)
-    → UnreadCause s0 s1 (Some contents) name e → EndsDue due (Rose s0 s1) write quiet (Gained h h) (Err (fault_of e))
+    → UnreadCause s0 s1 (Some contents) name e → EndsDue due (Rose s0 s1) write quiet (HasGained h h) (Err (fault_of e))
 stopped_told contents None name s0 s1 write quiet h unread.Fault lacks c = gained_nothing h
 stopped_told contents None name s0 s1 write quiet h unread.Memory lacks c = gained_nothing h
 stopped_told contents (Some due) name s0 s1 write quiet h unread.Fault lacks c =
@@ -44,7 +44,8 @@ stopped_told contents (Some due) name s0 s1 write quiet h unread.Memory lacks c 
 
 pub stopped : (told : Option Contents) (due : Contents → Option Due) (name : Text) (s0 s1 : ℕ) (write quiet : Type 0)
     (h : Option Text) (e : Unread) → ((contents : Contents) → contents name ≡ None → due contents ≡ None)
-    → UnreadCause s0 s1 told name e → EndsToldOrBlind told due (Rose s0 s1) write quiet (Gained h h) (Err (fault_of e))
+    → UnreadCause s0 s1 told name e → EndsToldOrBlind told due (Rose s0 s1) write quiet (HasGained h h)
+    (Err (fault_of e))
 stopped None due name s0 s1 write quiet h unread.Fault lacks c = elim c.1 [ inl r ↦ r | inr none ↦ absurd none ]
 stopped None due name s0 s1 write quiet h unread.Memory lacks c = tt
 stopped (Some contents) due name s0 s1 write quiet h e lacks c = stopped_told contents (due contents) name s0 s1 write
@@ -82,12 +83,12 @@ redue None due other read write quiet gained r same h = h
 redue (Some contents) due other read write quiet gained r same h = rw (← same) h
 
 memory_told : (due : Option Due) (read write quiet : Type 0) (h : Option Text)
-    → EndsDue due read write quiet (Gained h h) (Err fault.Memory)
+    → EndsDue due read write quiet (HasGained h h) (Err fault.Memory)
 memory_told None read write quiet h = gained_nothing h
 memory_told (Some due) read write quiet h = ([], (due.1, refl), gained_nothing h)
 
 -- want of memory before anything was written
 pub out_of_memory : (told : Option Contents) (due : Contents → Option Due) (read write quiet : Type 0) (h : Option Text)
-    → EndsToldOrBlind told due read write quiet (Gained h h) (Err fault.Memory)
+    → EndsToldOrBlind told due read write quiet (HasGained h h) (Err fault.Memory)
 out_of_memory None due read write quiet h = tt
 out_of_memory (Some contents) due read write quiet h = memory_told (due contents) read write quiet h

@@ -10,25 +10,25 @@ use Rattle.file_runs.specs.declared.ends.End.TheVariants as end
 use Rattle.file_runs.specs.declared.ends.Fault.{Fault}
 use Rattle.file_runs.specs.declared.ends.Fault.TheVariants as fault
 use Rattle.file_runs.specs.Front.{Gave, bytes_of}
-use Rattle.file_runs.specs.Gain.{Text, Gained, GainedMore}
+use Rattle.file_runs.specs.Gain.{Text, HasGained, GainedMore}
 use Rattle.file_runs.specs.Lines.{after, process, unended_due}
-use Rattle.file_runs.specs.Outcome.{CutOff, Due, IsWholeLines, Ran}
+use Rattle.file_runs.specs.Outcome.{IsCutOff, Due, IsWholeLines, Ran}
 
 -- ---- what is gathered
 
 -- a prefix of a text was written, and the rest of it is gathered
 abbrev pub IsPartGathered : (text gathered : Text) → (before now : SinkSeen) → Type 0
 IsPartGathered text gathered before now = (written : Text) × (written ++ gathered ≡ text)
-    × Gained before.held now.held written × (now.faults ≡ before.faults)
+    × HasGained before.held now.held written × (now.faults ≡ before.faults)
 
 -- the writing of a text was cut off
-abbrev pub CutIn : Text → SinkSeen → SinkSeen → Fault → Type 0
-CutIn text before now e = CutOff text ⊥ (Rose before.faults now.faults) (Gained before.held now.held) e
+abbrev pub IsCutOffAtSink : Text → SinkSeen → SinkSeen → Fault → Type 0
+IsCutOffAtSink text before now e = IsCutOff text ⊥ (Rose before.faults now.faults) (HasGained before.held now.held) e
 
 -- a text was gathered after an earlier one
 abbrev pub Gathers : (earlier text gathered : Text) → SinkSeen → SinkSeen → Result (Unit {0}) Fault → Type 0
 Gathers earlier text gathered before now (Ok u) = IsPartGathered (earlier ++ text) gathered before now
-Gathers earlier text gathered before now (Err e) = CutIn (earlier ++ text) before now e
+Gathers earlier text gathered before now (Err e) = IsCutOffAtSink (earlier ++ text) before now e
 
 -- ---- piece by piece
 
@@ -100,14 +100,14 @@ waiting_at fault.Write shelf = shelf.latest
 waiting_at fault.Memory shelf = shelf.latest
 
 -- the sink gained exactly this text at a fault of reading, and at another at least this
-abbrev pub GainedAt : Fault → Option Text → Option Text → Text → Type 0
-GainedAt fault.Read before now text = Gained before now text
-GainedAt fault.Write before now text = GainedMore before now text
-GainedAt fault.Memory before now text = GainedMore before now text
+abbrev pub HasGainedAtFault : Fault → Option Text → Option Text → Text → Type 0
+HasGainedAtFault fault.Read before now text = HasGained before now text
+HasGainedAtFault fault.Write before now text = GainedMore before now text
+HasGainedAtFault fault.Memory before now text = GainedMore before now text
 
 -- So many bytes of the file were given, and all but those that may wait were run: the line that has begun in these is
 -- within its limit, and the sink gained the text that is due of them. A file that is not there has no bytes.
-pub record WroteEndedIn (e : Fault) (text : Text → Text) (file : Text) (shelf shelf_now : ShelfSeen)
+pub record WroteEndedInFile (e : Fault) (text : Text → Text) (file : Text) (shelf shelf_now : ShelfSeen)
     (sink sink_now : SinkSeen) : Type 0 where
   pub given : ℕ
   pub ran : ℕ
@@ -116,12 +116,12 @@ pub record WroteEndedIn (e : Fault) (text : Text → Text) (file : Text) (shelf 
   pub most : ran ≤ given
   pub all_but : given ≤ ran + waiting_at e shelf_now
   pub short : length (open_line (take ran file)) ≤ line_limit
-  pub gained : GainedAt e sink.held sink_now.held (text (take ran file))
+  pub gained : HasGainedAtFault e sink.held sink_now.held (text (take ran file))
 
 abbrev pub WroteEndedIfTold : Fault → (Text → Text) → Option Contents → Text → ShelfSeen → ShelfSeen → SinkSeen
     → SinkSeen → Type 0
 WroteEndedIfTold e text None name shelf shelf_now sink sink_now = Unit {0}
-WroteEndedIfTold e text (Some contents) name shelf shelf_now sink sink_now = WroteEndedIn e text
+WroteEndedIfTold e text (Some contents) name shelf shelf_now sink sink_now = WroteEndedInFile e text
     (bytes_of (contents name))
     shelf shelf_now sink sink_now
 
@@ -142,10 +142,11 @@ abbrev pub NoFurther : (Text → Type 0) → Text → (given ahead : ℕ) → Ty
 NoFurther goes_on file given ahead = (given ≤ length file) × goes_on (take ahead file)
 
 -- if the contents are told, so many bytes were given, and so many of them before the last read, as their files say
-abbrev pub ReadAsFarOf : (Contents → (given ahead : ℕ) → Type 0) → Option Contents → ShelfSeen → ShelfSeen → Type 0
-ReadAsFarOf far None shelf shelf_now = Unit {0}
-ReadAsFarOf far (Some contents) shelf shelf_now = (n : ℕ) × Gave shelf.given n shelf_now.given
+abbrev pub ReadAsFarOfContents : (Contents → (given ahead : ℕ) → Type 0) → Option Contents → ShelfSeen → ShelfSeen
+    → Type 0
+ReadAsFarOfContents far None shelf shelf_now = Unit {0}
+ReadAsFarOfContents far (Some contents) shelf shelf_now = (n : ℕ) × Gave shelf.given n shelf_now.given
     × far contents n (n - shelf_now.latest)
 
 abbrev pub ReadAsFar : (Contents → (given ahead : ℕ) → Type 0) → ShelfSeen → ShelfSeen → Type 0
-ReadAsFar far shelf shelf_now = ReadAsFarOf far shelf.contents shelf shelf_now
+ReadAsFar far shelf shelf_now = ReadAsFarOfContents far shelf.contents shelf shelf_now

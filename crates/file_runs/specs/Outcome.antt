@@ -4,7 +4,7 @@ use Rattle.cli_files.specs.Outside.{Contents, Rose, ShelfSeen, SinkSeen}
 use Rattle.file_runs.specs.declared.ends.End.{End}
 use Rattle.file_runs.specs.declared.ends.Fault.{Fault}
 use Rattle.file_runs.specs.declared.ends.Fault.TheVariants as fault
-use Rattle.file_runs.specs.Gain.{Text, IsFront, Gained}
+use Rattle.file_runs.specs.Gain.{Text, IsFront, HasGained}
 
 -- the end and the text that are due
 abbrev pub Due : Type 0
@@ -26,27 +26,27 @@ abbrev pub SomeLines : (Text → Type 0) → Text → Type 0
 SomeLines gained text = (front : Text) × IsFront front text × IsWholeLines front × gained front
 
 -- cut off by a fault of reading or writing, or by want of memory
-abbrev pub CutOff : Text → (read write : Type 0) → (Text → Type 0) → Fault → Type 0
-CutOff text read write gained fault.Read = read × SomeLines gained text
-CutOff text read write gained fault.Write = write × SomeFront gained text
-CutOff text read write gained fault.Memory = SomeFront gained text
+abbrev pub IsCutOff : Text → (read write : Type 0) → (Text → Type 0) → Fault → Type 0
+IsCutOff text read write gained fault.Read = read × SomeLines gained text
+IsCutOff text read write gained fault.Write = write × SomeFront gained text
+IsCutOff text read write gained fault.Memory = SomeFront gained text
 
 -- the due end with all of the due text and no fault counted, or cut off
 abbrev pub EndsBy : Due → (read write quiet : Type 0) → (Text → Type 0) → Result End Fault → Type 0
 EndsBy due read write quiet gained (Ok e) = (e ≡ due.0) × gained due.1 × quiet
-EndsBy due read write quiet gained (Err e) = CutOff due.1 read write gained e
+EndsBy due read write quiet gained (Err e) = IsCutOff due.1 read write gained e
 
 -- ---- of what is seen of a sink, before and now
 
 -- the due end with all of the due text and no fault counted, or cut off
 abbrev pub Ran : Due → SinkSeen → SinkSeen → Result End Fault → Type 0
 Ran due before now r = EndsBy due ⊥ (Rose before.faults now.faults) (now.faults ≡ before.faults)
-    (Gained before.held now.held) r
+    (HasGained before.held now.held) r
 
 -- a text was written, or cut off
 abbrev pub Wrote : Text → SinkSeen → SinkSeen → Result (Unit {0}) Fault → Type 0
-Wrote text before now (Ok u) = Gained before.held now.held text × (now.faults ≡ before.faults)
-Wrote text before now (Err e) = CutOff text ⊥ (Rose before.faults now.faults) (Gained before.held now.held) e
+Wrote text before now (Ok u) = HasGained before.held now.held text × (now.faults ≡ before.faults)
+Wrote text before now (Err e) = IsCutOff text ⊥ (Rose before.faults now.faults) (HasGained before.held now.held) e
 
 -- ---- if a shelf may tell its contents
 
@@ -82,8 +82,8 @@ abbrev pub Quiet : ℕ → ℕ → ℕ → ℕ → Type 0
 Quiet shelf_before shelf_now sink_before sink_now = (shelf_now ≡ shelf_before) × (sink_now ≡ sink_before)
 
 -- by what is seen of a shelf and of a sink, before and now
-abbrev pub RanOn : (Contents → Option Due) → (shelf shelf_now : ShelfSeen) → (sink sink_now : SinkSeen)
+abbrev pub RanOnShelf : (Contents → Option Due) → (shelf shelf_now : ShelfSeen) → (sink sink_now : SinkSeen)
     → Result End Fault → Type 0
-RanOn due shelf shelf_now sink sink_now r =
+RanOnShelf due shelf shelf_now sink sink_now r =
     EndsToldOrBlind shelf.contents due (Rose shelf.faults shelf_now.faults) (Rose sink.faults sink_now.faults)
-    (Quiet shelf.faults shelf_now.faults sink.faults sink_now.faults) (Gained sink.held sink_now.held) r
+    (Quiet shelf.faults shelf_now.faults sink.faults sink_now.faults) (HasGained sink.held sink_now.held) r

@@ -2,13 +2,14 @@
 //! and the text of the lines is gathered before it is written.
 ghost use Rattle.std.specs.Prelude.{◌≡◌, ◌≢◌, ◌≤◌, ◌<◌, ◌+◌, ◌++◌, ◌^◌, ℕ, [], List, Ok, IsErr, IfOk, IfErr, IfSome};
 ghost use Rattle.std.specs.Prelude.{OnOk, None, length, nat_lt, option_map, take, vec_capacity, vec_len};
-ghost use Rattle.cli_files.specs.Outside.{AsksFor, Given, ShelfCause, given_by};
+ghost use Rattle.cli_files.specs.Outside.{AsksFor, IsGiven, ShelfCause, given_by};
 ghost use Rattle.script_events.specs.Words.{line_limit};
 ghost use Rattle.file_runs.specs.Front.{AskedPieces, Gave, GaveAtMost, IsReadIfTold, ReadsOn, bytes_of};
-ghost use Rattle.file_runs.specs.Gathering.{CutIn, Gathers, GoesOn, NoFurther, PieceRan, ReadAsFar, WroteEnded};
+ghost use Rattle.file_runs.specs.Gathering.{IsCutOffAtSink, Gathers, GoesOn, NoFurther, PieceRan, ReadAsFar};
+ghost use Rattle.file_runs.specs.Gathering.{WroteEnded};
 ghost use Rattle.file_runs.specs.Gathering.{due_behind, ended_text, limit_due};
 ghost use Rattle.file_runs.specs.Lines.{Came, file_due, file_limit};
-ghost use Rattle.file_runs.specs.Outcome.{Ran, RanOn, Wrote};
+ghost use Rattle.file_runs.specs.Outcome.{Ran, RanOnShelf, Wrote};
 
 use crate::front::PIECE;
 use crate::lines::{LineWork, refuse, refuse_in, run_last};
@@ -38,7 +39,7 @@ fn read_piece<S: Shelf>(
     ensures bound { IfOk result (λ n. n ≤ length buf.new) }
     ensures counts { IfOk result (λ n. at < file_limit → at + n ≤ file_limit) }
     ensures one { IfOk result (λ n. at ≡ file_limit → n ≤ 1) }
-    ensures counted { Given (S.seen shelf.old).given (S.seen shelf.new).given result }
+    ensures counted { IsGiven (S.seen shelf.old).given (S.seen shelf.new).given result }
     ensures latest { (S.seen shelf.new).latest ≡ given_by result }
     ensures file_names { AsksFor name.now (S.seen shelf.old).asked (S.seen shelf.new).asked }
     ensures read_pieces { AskedPieces (S.seen shelf.old).longest (S.seen shelf.new).longest }
@@ -79,7 +80,7 @@ pub fn run_file<S: Shelf, O: Sink, W: LineWork>(
     ensures end { IfOk result (λ e. e ≢ End.Usage) }
     ensures unjudged { IfOk result (λ e. e ≢ End.Differs) }
     ensures same { (S.seen shelf.new).contents ≡ (S.seen shelf.old).contents }
-    ensures due_outcome { (past : W.Past) → W.follows work.old past → RanOn (λ contents. option_map
+    ensures due_outcome { (past : W.Past) → W.follows work.old past → RanOnShelf (λ contents. option_map
         (file_due W.advance W.closing past) (contents name.now)) (S.seen shelf.old) (S.seen shelf.new)
         (O.seen out.old) (O.seen out.new) result }
     ensures output_so_far { (past : W.Past) → W.follows work.old past → IfErr result (λ e. WroteEnded e
@@ -252,7 +253,7 @@ fn flush<O: Sink>(gathered: &mut Vec<u8>, out: &mut O) -> Result<(), Fault>
 
 // Writes what was gathered, and ends for want of memory.
 fn end_for_memory<O: Sink>(gathered: &[u8], out: &mut O) -> Fault
-    ensures { CutIn gathered.now (O.seen out.old) (O.seen out.new) result }
+    ensures { IsCutOffAtSink gathered.now (O.seen out.old) (O.seen out.new) result }
 {
     match write(out, gathered) {
         Ok(()) => Fault::Memory,

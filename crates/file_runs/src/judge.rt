@@ -2,8 +2,8 @@
 ghost use Rattle.std.specs.Prelude.{◌≡◌, ◌≢◌, ◌<◌, ◌≤◌, ◌+◌, [], IfErr, IfOk, length, option_map};
 ghost use Rattle.cli_files.specs.Outside.{AsksFor};
 ghost use Rattle.file_runs.specs.Front.{AskedPieces, Gave, GaveAtMost, GaveIfTold};
-ghost use Rattle.file_runs.specs.Gathering.{GainedAt};
-ghost use Rattle.file_runs.specs.Outcome.{Ran, RanOn};
+ghost use Rattle.file_runs.specs.Gathering.{HasGainedAtFault};
+ghost use Rattle.file_runs.specs.Outcome.{Ran, RanOnShelf};
 ghost use Rattle.file_runs.specs.Judging.{judgement_due, verdicts_limit};
 
 use crate::compare::compare;
@@ -44,9 +44,9 @@ pub fn judge_file<S: Shelf, O: Sink>(
 ) -> Result<End, Fault>
     ensures end { IfOk result (λ e. e ≢ End.Usage) }
     ensures present { IfOk result (λ e. e ≢ End.NoEvent) }
-    ensures due_outcome { RanOn (λ contents. option_map (judgement_due due.now) (contents name.now)) (S.seen shelf.old)
-        (S.seen shelf.new) (O.seen out.old) (O.seen out.new) result }
-    ensures output_so_far { IfErr result (λ e. GainedAt e (O.seen out.old).held (O.seen out.new).held []) }
+    ensures due_outcome { RanOnShelf (λ contents. option_map (judgement_due due.now) (contents name.now))
+        (S.seen shelf.old) (S.seen shelf.new) (O.seen out.old) (O.seen out.new) result }
+    ensures output_so_far { IfErr result (λ e. HasGainedAtFault e (O.seen out.old).held (O.seen out.new).held []) }
     ensures file_names { AsksFor name.now (S.seen shelf.old).asked (S.seen shelf.new).asked }
     ensures within { GaveIfTold (S.seen shelf.old).contents name.now (S.seen shelf.old).given (S.seen shelf.new).given }
     ensures read_limit { (S.seen shelf.new).given ≤ (S.seen shelf.old).given + (verdicts_limit + 1) }

@@ -71,13 +71,11 @@ halves h j row is x lt =
     ∙ sym (ap (byte_of j) (split 4 4 x h) ∙ byte_of-xor j (act (bits 4 n) h) (act (bits 4 x) (raised_block 4 h)))
 
 pub high_may : (v : List ℕ) → IsVector v → SwzOk w8 16 16 0 (zip2 (λ a b. a / 2 ^ b) v (replicate 16 4))
-high_may v fits =
-    may_look _ (length-zip2 (λ a b. a / 2 ^ b) v (replicate 16 4) fits.0 ∙ fits.0)
+high_may v fits = may_look _ (length-zip2 (λ a b. a / 2 ^ b) v (replicate 16 4) fits.0 ∙ fits.0)
     (placed high v _ fits.1 (high_map v fits.0) high_place)
 
 pub low_may : (v : List ℕ) → IsVector v → SwzOk w8 16 16 0 (zip2 bit_and v (replicate 16 15))
-low_may v fits =
-    may_look _ (length-zip2 bit_and v (replicate 16 15) fits.0 ∙ fits.0)
+low_may v fits = may_look _ (length-zip2 bit_and v (replicate 16 15) fits.0 ∙ fits.0)
     (placed low v _ fits.1 (low_map v fits.0) low_place)
 
 pub products : (h j : ℕ) (row : Row) (v : List ℕ) → IsVector v → IsRow h j row
@@ -112,25 +110,21 @@ swz-halves a b x y la lx ly places = lower 0 x (omega (arith, lx)) places where
 
 -- places below 16 in both halves
 low_two : (x y : List ℕ) → IsVector x → IsVector y → zip2 bit_and (x ++ y) (replicate 32 15) ≡ map low x ++ map low y
-low_two x y fx fy =
-    zip2-append bit_and x y (replicate 16 15) (replicate 16 15) fx.0
+low_two x y fx fy = zip2-append bit_and x y (replicate 16 15) (replicate 16 15) fx.0
     ∙ (λ i. low_map x fx.0 i ++ low_map y fy.0 i)
 
 high_two : (x y : List ℕ) → IsVector x → IsVector y
     → zip2 (λ a b. a / 2 ^ b) (x ++ y) (replicate 32 4) ≡ map high x ++ map high y
-high_two x y fx fy =
-    zip2-append (λ a b. a / 2 ^ b) x y (replicate 16 4) (replicate 16 4) fx.0
+high_two x y fx fy = zip2-append (λ a b. a / 2 ^ b) x y (replicate 16 4) (replicate 16 4) fx.0
     ∙ (λ i. high_map x fx.0 i ++ high_map y fy.0 i)
 
 pub high_may_two : (v : List ℕ) → length v ≡ 32 → Each1 (Fits w8) v
     → SwzOk w8 16 32 0 (zip2 (λ a b. a / 2 ^ b) v (replicate 32 4))
-high_may_two v long fits =
-    may_look_twice _ (length-zip2 (λ a b. a / 2 ^ b) v (replicate 32 4) long ∙ long)
+high_may_two v long fits = may_look_twice _ (length-zip2 (λ a b. a / 2 ^ b) v (replicate 32 4) long ∙ long)
     (placed high v _ fits (high_map v long) high_place)
 
 pub low_may_two : (v : List ℕ) → length v ≡ 32 → Each1 (Fits w8) v → SwzOk w8 16 32 0 (zip2 bit_and v (replicate 32 15))
-low_may_two v long fits =
-    may_look_twice _ (length-zip2 bit_and v (replicate 32 15) long ∙ long)
+low_may_two v long fits = may_look_twice _ (length-zip2 bit_and v (replicate 32 15) long ∙ long)
     (placed low v _ fits (low_map v long) low_place)
 
 -- a byte of the products with a block, from a row
@@ -180,8 +174,7 @@ sum-halves v w a b c d e ev ew = (λ i. zip2 bit_xor (ev i) (ew i)) ∙ zip2-app
 -- the sum of the halves of a vector
 pub halves-sum : (v a b : List ℕ) → length a ≡ 16 → length b ≡ 16 → v ≡ a ++ b
     → zip2 bit_xor (pick_l 0 (v ++ v) lower_places) (pick_l 0 (v ++ v) upper_places) ≡ zip2 bit_xor a b
-halves-sum v a b la lb e =
-    (λ i. zip2 bit_xor (pick_l 0 (e i ++ e i) lower_places) (pick_l 0 (e i ++ e i) upper_places))
+halves-sum v a b la lb e = (λ i. zip2 bit_xor (pick_l 0 (e i ++ e i) lower_places) (pick_l 0 (e i ++ e i) upper_places))
     ∙ (λ i. zip2 bit_xor (lower-is a b la lb i) (upper-is a b la lb i))
 
 -- ---- tables
@@ -194,15 +187,13 @@ picked-set : (v : List ℕ) (j : ℕ) → j < 16 → entry_picked v j 0 ≡ slic
 picked-set v j lt = ap (entry_of v) (xor_zero_l j) ∙ entry_below v j lt
 
 picked-unset : (v : List ℕ) (j : ℕ) → j < 16 → entry_picked v j 128 ≡ 0
-picked-unset v j lt =
-    ap (entry_of v) (xor_shifted 1 7 j (omega arith))
+picked-unset v j lt = ap (entry_of v) (xor_shifted 1 7 j (omega arith))
     ∙ ap (λ (b : Bool). cond b 0 (get_or v (128 + j) 0)) (le-leb 128 (128 + j) (omega arith))
 
 -- the places of both halves
 places_two : (unset : List ℕ) (j : ℕ) → length unset ≡ 16
     → zip2 bit_xor (unset ++ unset) (replicate 32 j) ≡ map (λ s. bit_xor s j) unset ++ map (λ s. bit_xor s j) unset
-places_two unset j long =
-    zip2-append bit_xor unset unset (replicate 16 j) (replicate 16 j) long
+places_two unset j long = zip2-append bit_xor unset unset (replicate 16 j) (replicate 16 j) long
     ∙ (λ i. zip2_splat bit_xor unset 16 j long i ++ zip2_splat bit_xor unset 16 j long i)
 
 either : (a b : Bool) → T (a || b) → (a ≡ true) ⊎ (b ≡ true)

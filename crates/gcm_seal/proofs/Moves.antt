@@ -258,15 +258,13 @@ tails-whole m lt = joined-number (to_be_bytes w128 m) (bytes-vector m) ∙ from-
 
 sum-bytes : (h : ℕ) → h < 2 ^ 128 → (v : List ℕ) → moved_sum (byte_product h) v 16 ≡ by_bytes h v
 sum-bytes h lt [] = sum-none (byte_product h) 16
-sum-bytes h lt (x ∷ v) =
-    sum-first (byte_product h) x v 16
+sum-bytes h lt (x ∷ v) = sum-first (byte_product h) x v 16
     ∙ (λ i. bit_xor (tails-whole (act (bits 8 x) h) (act-lt (bits 8 x) h lt) i) (raised_block 8 (sum-bytes h lt v i)))
 
 bits-cat : (n k x s : ℕ) → n ≤ k → bits n (x * 2 ^ k + s) ≡ bits n s
 unfolding bits
 bits-cat zero k x s le = refl
-bits-cat (suc n) k x s le =
-    λ i. (bit_at_cat_low x k s n (omega arith) i == 1) ∷ bits-cat n k x s (omega arith) i
+bits-cat (suc n) k x s le = λ i. (bit_at_cat_low x k s n (omega arith) i == 1) ∷ bits-cat n k x s (omega arith) i
 
 by_bytes-product : (h : ℕ) (v : List ℕ) → Each1 (Fits w8) v → act (bits (8 * length v) (number_spelled v)) h
     ≡ by_bytes h v

@@ -53,6 +53,5 @@ bytes-sum n out long at =
 -- the number of a sum, one summand as bytes
 pub number-sum : (n : ℕ) (out : List ℕ) → n < 2 ^ 128 → IsVector out
     → from_be_bytes w128 (zip2 bit_xor (to_be_bytes w128 n) out) ≡ bit_xor n (from_be_bytes w128 out)
-number-sum n out lt fits =
-    ap (from_be_bytes w128) (bytes-sum n out fits.0 (λ i. lane_fits out i fits.1))
+number-sum n out lt fits = ap (from_be_bytes w128) (bytes-sum n out fits.0 (λ i. lane_fits out i fits.1))
     ∙ from-to _ (xor_lt 128 n (from_be_bytes w128 out) lt (number-lt out fits))

@@ -20,8 +20,7 @@ act-raised_block p (suc n) k = act-step_x p (raised_block n k) ∙ ap step_x (ac
 pub act-append : (p q : List Bool) (k : ℕ) → act (p ++ q) k ≡ bit_xor (act p k) (raised_block (length p) (act q k))
 unfolding raised_block
 act-append [] q k = sym (xor_zero_l (act q k))
-act-append (a ∷ p) q k =
-    rw (act-append p q k, step_x-xor (act p k) (raised_block (length p) (act q k)))
+act-append (a ∷ p) q k = rw (act-append p q k, step_x-xor (act p k) (raised_block (length p) (act q k)))
     (sym (xor_assoc (term a k) (step_x (act p k)) (step_x (raised_block (length p) (act q k)))))
 
 pub bits-append : (m n v : ℕ) → bits (m + n) v ≡ bits m (v / 2 ^ n) ++ bits n v

@@ -105,14 +105,12 @@ term-lt true k lt = lt
 pub act-plus : (p q : List Bool) (k : ℕ) → act (plus p q) k ≡ bit_xor (act p k) (act q k)
 act-plus [] q k = refl
 act-plus (a ∷ p) [] k = sym (xor_zero_r (act (a ∷ p) k))
-act-plus (a ∷ p) (b ∷ q) k =
-    rw (term-differ a b k, act-plus p q k, step_x-xor (act p k) (act q k))
+act-plus (a ∷ p) (b ∷ q) k = rw (term-differ a b k, act-plus p q k, step_x-xor (act p k) (act q k))
     (xor_four (term a k) (term b k) (step_x (act p k)) (step_x (act q k)))
 
 pub act-xor : (p : List Bool) (k m : ℕ) → act p (bit_xor k m) ≡ bit_xor (act p k) (act p m)
 act-xor [] k m = refl
-act-xor (a ∷ p) k m =
-    rw (term-xor a k m, act-xor p k m, step_x-xor (act p k) (act p m))
+act-xor (a ∷ p) k m = rw (term-xor a k m, act-xor p k m, step_x-xor (act p k) (act p m))
     (xor_four (term a k) (term a m) (step_x (act p k)) (step_x (act p m)))
 
 pub act-zero : (p : List Bool) → act p 0 ≡ 0
@@ -122,8 +120,7 @@ act-zero (false ∷ p) = rw (act-zero p) step_x-zero
 
 pub act-step_x : (p : List Bool) (k : ℕ) → act p (step_x k) ≡ step_x (act p k)
 act-step_x [] k = sym step_x-zero
-act-step_x (a ∷ p) k =
-    rw (act-step_x p k, step_x-xor (term a k) (step_x (act p k)), step_x-term a k) refl
+act-step_x (a ∷ p) k = rw (act-step_x p k, step_x-xor (term a k) (step_x (act p k)), step_x-term a k) refl
 
 act-term : (p : List Bool) (a : Bool) (k : ℕ) → act p (term a k) ≡ term a (act p k)
 act-term p false k = act-zero p
@@ -319,8 +316,7 @@ remainder-act p =
 -- the product of two blocks, the other way round
 times-act : (h v : ℕ) → h < 2 ^ 128 → block_product h v ≡ act (polynomial h) (act (polynomial v) one)
 unfolding block_product
-times-act h v lt =
-    ap (act (polynomial v)) (sym (act-polynomial h lt)) ∙ act-act (polynomial v) (polynomial h) one
+times-act h v lt = ap (act (polynomial v)) (sym (act-polynomial h lt)) ∙ act-act (polynomial v) (polynomial h) one
 
 pub times-lt : (h v : ℕ) → h < 2 ^ 128 → block_product h v < 2 ^ 128
 unfolding block_product
@@ -339,13 +335,11 @@ times-last g h u gl hl = ap (act (polynomial u)) (times-acts g h gl hl) ∙ act-
 
 times-times : (g h u : ℕ) → g < 2 ^ 128 → h < 2 ^ 128
     → block_product (block_product g h) u ≡ block_product g (block_product h u)
-times-times g h u gl hl =
-    times-last g h u gl hl ∙ sym (times-acts g (block_product h u) gl (times-lt h u hl))
+times-times g h u gl hl = times-last g h u gl hl ∙ sym (times-acts g (block_product h u) gl (times-lt h u hl))
 
 times-sum : (h a b : ℕ) → block_product h (bit_xor a b) ≡ bit_xor (block_product h a) (block_product h b)
 unfolding block_product
-times-sum h a b =
-    ap (λ (p : List Bool). act p h) (polynomial-xor a b) ∙ act-plus (polynomial a) (polynomial b) h
+times-sum h a b = ap (λ (p : List Bool). act p h) (polynomial-xor a b) ∙ act-plus (polynomial a) (polynomial b) h
 
 -- the product with the square, and one more
 pub two-products : (h u w : ℕ) → h < 2 ^ 128 → bit_xor (block_product (block_product h h) u) (block_product h w)
@@ -399,8 +393,7 @@ hash_after_blocks-sum h (x ∷ xs) y hl yl =
 -- GHASH is what the blocks give one by one
 pub hash_after_blocks-ghash : (h : ℕ) (xs : List ℕ) → h < 2 ^ 128 → hash_after_blocks h 0 xs ≡ ghash h xs
 unfolding ghash
-hash_after_blocks-ghash h xs hl =
-    hash_after_blocks-sum h xs 0 hl (omega arith)
+hash_after_blocks-ghash h xs hl = hash_after_blocks-sum h xs 0 hl (omega arith)
     ∙ rw (act-zero (power (polynomial h) (length xs)), remainder-act (sum_of_products h xs)) refl
 
 -- the hash of additional data a and a ciphertext c, in the code's order

@@ -69,8 +69,7 @@ stream_byte key iv k = slice_index (aes key (counter iv (k / 16 + 1))) (k % 16)
 length-stream : (key iv : List ℕ) (n : ℕ) → length (key_stream key iv n) ≡ 16 * n
 unfolding key_stream
 length-stream key iv zero = refl
-length-stream key iv (suc n) =
-    length-append (key_stream key iv n) (aes key (counter iv (suc n)))
+length-stream key iv (suc n) = length-append (key_stream key iv n) (aes key (counter iv (suc n)))
     ∙ omega (arith, length-stream key iv n, length-aes key (counter iv (suc n)))
 
 stream-at : (key iv : List ℕ) (n k : ℕ) → k < 16 * n → slice_index (key_stream key iv n) k ≡ stream_byte key iv k
@@ -170,12 +169,10 @@ at-padded s n j = elim (cases_lt j (length s)) [
 
 at-block : (s : List ℕ) (i k : ℕ) → k < 16 → slice_index (slice_range s (16 * i) (16 * i + 16)) k
     ≡ slice_index s (16 * i + k)
-at-block s i k lt =
-    get_or-take (16 * i + 16 - 16 * i) (drop (16 * i) s) k 0 (omega arith) ∙ get_or-drop (16 * i) s k 0
+at-block s i k lt = get_or-take (16 * i + 16 - 16 * i) (drop (16 * i) s) k 0 (omega arith) ∙ get_or-drop (16 * i) s k 0
 
 block-padded : (s : List ℕ) (n i : ℕ) → padded_block s i ≡ block (s ++ replicate n 0) i
-block-padded s n i =
-    number_same (drop (16 * i) s) (slice_range (s ++ replicate n 0) (16 * i) (16 * i + 16))
+block-padded s n i = number_same (drop (16 * i) s) (slice_range (s ++ replicate n 0) (16 * i) (16 * i + 16))
     (λ k lt. get_or-drop (16 * i) s k 0 ∙ sym (at-block (s ++ replicate n 0) i k lt ∙ at-padded s n (16 * i + k)))
 
 blocks-padded : (s : List ℕ) (n m : ℕ) → padded_blocks s m ≡ blocks (s ++ replicate n 0) m
@@ -184,8 +181,7 @@ blocks-padded s n zero = refl
 blocks-padded s n (suc m) = rw (blocks-padded s n m, block-padded s n m) refl
 
 block-front : (p q : List ℕ) (i : ℕ) → 16 * i + 16 ≤ length p → block (p ++ q) i ≡ block p i
-block-front p q i le =
-    number_same (slice_range (p ++ q) (16 * i) (16 * i + 16)) (slice_range p (16 * i) (16 * i + 16))
+block-front p q i le = number_same (slice_range (p ++ q) (16 * i) (16 * i + 16)) (slice_range p (16 * i) (16 * i + 16))
     (λ k lt. at-block (p ++ q) i k lt ∙ get_or_append_left p q 0 (16 * i + k) (omega arith) ∙ sym (at-block p i k lt))
 
 blocks-front : (p q : List ℕ) (m : ℕ) → 16 * m ≤ length p → blocks (p ++ q) m ≡ blocks p m
@@ -233,9 +229,8 @@ length-padded s =
 
 -- the blocks that are hashed, as the code reads them
 pub hashed_blocks : (a c : List ℕ) → 8 * length a < 2 ^ 64 → 8 * length c < 2 ^ 64
-    → blocks (hash_input a c) (length (hash_input a c) / 16)
-    ≡ padded_blocks a (div_ceil (length a) 16) ++ padded_blocks c (div_ceil (length c) 16)
-    ++ (8 * length a * 2 ^ 64 + 8 * length c) ∷ []
+    → blocks (hash_input a c) (length (hash_input a c) / 16) ≡ padded_blocks a (div_ceil (length a) 16)
+    ++ padded_blocks c (div_ceil (length c) 16) ++ (8 * length a * 2 ^ 64 + 8 * length c) ∷ []
 hashed_blocks a c ha hc =
     let m : ℕ = div_ceil (length a) 16 in
     let n : ℕ = div_ceil (length c) 16 in

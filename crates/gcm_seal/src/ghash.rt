@@ -155,10 +155,10 @@ pub fn multiples_of(h: u128) -> Multiples
     ensures { AreMultiples h result }
 {
     let first = rows(h);
-    let square = product_of(&first, h);
+    let square = product_of_number(&first, h);
     let second = rows(square);
-    let cube = product_of(&second, h);
-    let fourth = product_of(&second, square);
+    let cube = product_of_number(&second, h);
+    let fourth = product_of_number(&second, square);
     Multiples {
         first,
         second,
@@ -245,7 +245,7 @@ fn product(rows: &[Row; 16], v: u8x16) -> u128
 }
 
 // The same, of the block as a number.
-fn product_of(rows: &[Row; 16], x: u128) -> u128
+fn product_of_number(rows: &[Row; 16], x: u128) -> u128
     ensures { (h : ℕ) → h < 2 ^ 128 → AreRows h rows.now → result ≡ block_product h x }
 {
     product(rows, vector_of(x))
@@ -255,7 +255,7 @@ fn product_of(rows: &[Row; 16], x: u128) -> u128
 pub fn times(m: &Multiples, x: u128) -> u128
     ensures { (h : ℕ) → h < 2 ^ 128 → AreMultiples h m.now → result ≡ block_product h x }
 {
-    product_of(&m.first, x)
+    product_of_number(&m.first, x)
 }
 
 // The sum of the products of `a`, `b`, `c` and `d` with the hash key to the powers of 4, 3, 2 and 1.

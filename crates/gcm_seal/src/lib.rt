@@ -114,7 +114,7 @@ impl Gcm {
     }
 
     // Masks bytes that lie within block `block` of the plaintext, from its byte `skip` on.
-    fn mask_within(&self, iv: &[u8; 12], block: u32, skip: usize, buf: &mut [u8])
+    fn mask_in_block(&self, iv: &[u8; 12], block: u32, skip: usize, buf: &mut [u8])
         requires block { block ≤ MAX_BYTES }
         requires within { skip + length buf.old ≤ 16 }
         ensures { buf.new ≡ masked_bytes self.now iv.now (16 * block + skip) buf.old }
@@ -156,8 +156,8 @@ impl Gcm {
         ensures { buf.new ≡ masked_bytes self.now iv.now (16 * block) buf.old }
     {
         let first = buf.len().min(16);
-        self.mask_within(iv, block, 0, &mut buf[..first]);
-        self.mask_within(iv, block + 1, 0, &mut buf[first..]);
+        self.mask_in_block(iv, block, 0, &mut buf[..first]);
+        self.mask_in_block(iv, block + 1, 0, &mut buf[first..]);
     }
 
     // Masks at most as many bytes as four blocks have, from block `block` of the plaintext on.
@@ -195,7 +195,7 @@ impl Gcm {
     {
         let skip = from as usize % 16;
         let first = ((16 - skip) % 16).min(buf.len());
-        self.mask_within(iv, from / 16, skip, &mut buf[..first]);
+        self.mask_in_block(iv, from / 16, skip, &mut buf[..first]);
         self.mask_blocks(iv, (from + 15) / 16, &mut buf[first..]);
     }
 

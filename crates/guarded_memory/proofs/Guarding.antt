@@ -113,9 +113,8 @@ by_claim : (xs : List InterfaceStatus) (w : Write) (t : Bool) (stream draw : ℕ
     → slice_get xs i ≡ Some x → is_guarded x b ≡ true → is_admitted x t stream draw ≡ false
     → contents_if_happened (stored_by_claim o w t stream draw) old i b a ≡ old i b a
 by_claim xs w t stream draw old i b a x None is there guarded other = refl
-by_claim xs w t stream draw old i b a x (Some c) is there guarded other =
-    by_cause xs w c t stream draw old i b a x (mmio_cause c.status c.range w.span t stream draw)
-    (claimed xs w.span c is) refl there guarded other
+by_claim xs w t stream draw old i b a x (Some c) is there guarded other = by_cause xs w c t stream draw old i b a x
+    (mmio_cause c.status c.range w.span t stream draw) (claimed xs w.span c is) refl there guarded other
 
 pub stays : GuardedBytesStay
 stays xs t stream draw None old i b a x there guarded other = refl

@@ -32,8 +32,7 @@ pub record PutsPage (name : PageName) (new : List ℕ) (es es' : List (PageName 
 
 found : (name q : PageName) (t : Bool) (new : List ℕ) (es es' : List (PageName × List ℕ)) → PutsPage name new es es'
     → is_page_name name q ≡ t → lookup (is_page_name q) es' ≡ cond t (Some new) (lookup (is_page_name q) es)
-found name q t new es es' puts e =
-    puts.there q ∙ ap (λ (u : Bool). cond u (Some new) (lookup (is_page_name q) es)) e
+found name q t new es es' puts e = puts.there q ∙ ap (λ (u : Bool). cond u (Some new) (lookup (is_page_name q) es)) e
 
 read_if : (t : Bool) (new : List ℕ) (o : Option (List ℕ)) → unwrap_or (cond t (Some new) o) []
     ≡ cond t new (unwrap_or o [])
@@ -42,9 +41,8 @@ read_if false new o = refl
 
 bytes_put : (name q : PageName) (t : Bool) (new : List ℕ) (es es' : List (PageName × List ℕ))
     → PutsPage name new es es' → is_page_name name q ≡ t → bytes_of_page es' q ≡ cond t new (bytes_of_page es q)
-bytes_put name q t new es es' puts e =
-    ap (λ (o : Option (List ℕ)). unwrap_or o []) (found name q t new es es' puts e) ∙ read_if t new
-    (lookup (is_page_name q) es)
+bytes_put name q t new es es' puts e = ap (λ (o : Option (List ℕ)). unwrap_or o []) (found name q t new es es' puts e)
+    ∙ read_if t new (lookup (is_page_name q) es)
 
 -- ---- a byte of it is set
 
@@ -75,8 +73,7 @@ byte_put i b offset j c a v old es es' true e was less puts =
     ap (λ (n : PageName). bytes_of_page es n) (sym (same_name (name_at i b offset) (name_at j c a) e)) ∙ was in
     ap (λ (s : List ℕ). get_or s (a % 4096) 0) here ∙ get_or-set old (offset % 4096) (a % 4096) v less
     ∙ ap (λ (s : List ℕ). cond (eqb (offset % 4096) (a % 4096)) v (get_or s (a % 4096) 0)) (sym before)
-byte_put i b offset j c a v old es es' false e was less puts =
-    ap (λ (s : List ℕ). get_or s (a % 4096) 0)
+byte_put i b offset j c a v old es es' false e was less puts = ap (λ (s : List ℕ). get_or s (a % 4096) 0)
     (bytes_put (name_at i b offset) (name_at j c a) false (set old (offset % 4096) v) es es' puts e)
 
 pub byte_set : (i b offset v : ℕ) (old : List ℕ) (es es' : List (PageName × List ℕ))
@@ -129,8 +126,7 @@ no_page name es e = none_of (lookup (is_page_name name) es) e
 pub byte_same : (es es' : List (PageName × List ℕ))
     → ((q : PageName) → lookup (is_page_name q) es' ≡ lookup (is_page_name q) es) → (j c a : ℕ)
     → byte_in_pages es' j c a ≡ byte_in_pages es j c a
-byte_same es es' same j c a =
-    ap (λ (o : Option (List ℕ)). get_or (unwrap_or o []) (a % 4096) 0) (same (name_at j c a))
+byte_same es es' same j c a = ap (λ (o : Option (List ℕ)). get_or (unwrap_or o []) (a % 4096) 0) (same (name_at j c a))
 
 -- ---- pages are taken away
 

@@ -33,8 +33,7 @@ stored_write (InterfaceStopped i bars) j c = None
 -- the writes that were stored in a range since it was last set to 0
 abbrev pub writes_since : List Happened → ℕ → ℕ → List Write
 writes_since [] i b = []
-writes_since (h ∷ older) i b =
-    if clears h i b then [] else cons_option (stored_write h i b) (writes_since older i b)
+writes_since (h ∷ older) i b = if clears h i b then [] else cons_option (stored_write h i b) (writes_since older i b)
 
 -- the byte at an offset: that of the last of these writes that enables it, else 0
 abbrev pub byte_shown : List Happened → ℕ → ℕ → ℕ → ℕ

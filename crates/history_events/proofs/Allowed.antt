@@ -17,7 +17,7 @@ use Rattle.history_events.specs.Terms.event
 use Rattle.history_events.specs.Terms.pe
 use Rattle.history_events.specs.Terms.he
 use Rattle.script_events.specs.Spells.{IsAllowed, IsAllowedInScript}
-use Rattle.history_events.specs.Events.{event_of, peer_stream, peer_stream_in, bound_stream, ends_at, own_stream}
+use Rattle.history_events.specs.Events.{event_of, peer_stream, peer_stream_of_plan, bound_stream, ends_at, own_stream}
 use Rattle.history_events.specs.Events.{
   hop_stream,
   establish_event,
@@ -52,7 +52,7 @@ OfPeers None = Unit {0}
 OfPeers (Some s) = is_peer_line s.0 ≡ true
 
 peer_is : (plan : Plan) → FitsPlan plan → (peer : ℕ) (x : Option PeerPlan) → slice_get plan.peers peer ≡ x
-    → OfPeers (peer_stream_in x peer)
+    → OfPeers (peer_stream_of_plan x peer)
 peer_is plan fits peer None is = tt
 peer_is plan fits peer (Some p) is =
     let few : peer < 8 = omega (arith, slice_get_within plan.peers peer p is, fits.peers_most) in
@@ -82,9 +82,8 @@ if_of true o of = of
 if_of false o of = tt
 
 bound_of : (plan : Plan) → FitsPlan plan → (interface peer : ℕ) → OfPeers (bound_stream plan interface peer)
-bound_of plan fits interface peer =
-    if_of (ends_at (slice_get plan.peers peer) (interface_link plan.links 0 interface)) (peer_stream plan peer)
-    (peer_is plan fits peer (slice_get plan.peers peer) refl)
+bound_of plan fits interface peer = if_of (ends_at (slice_get plan.peers peer) (interface_link plan.links 0 interface))
+    (peer_stream plan peer) (peer_is plan fits peer (slice_get plan.peers peer) refl)
 
 arrived_is : (plan : Plan) (port : PortName) (bytes : List ℕ) (b : Bool) → is_planned_port plan port ≡ b
     → IsAllowedInScript (Arrive port bytes) → IsAllowed (arrive_event plan port bytes)

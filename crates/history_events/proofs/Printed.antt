@@ -45,8 +45,7 @@ keys_value : (ks : List (List ℕ)) → Keys ks → 2 ≤ length ks
     → IsValueText true (array (key_list ks)) (codes "[" ++ (key_items ks ++ codes "\n]"))
 keys_value [] keys two = absurd (omega (arith, two))
 keys_value (k ∷ []) keys two = absurd (omega (arith, two))
-keys_value (k ∷ l ∷ ks) keys two =
-    (key_items (k ∷ l ∷ ks) ++ codes "\n]", refl, keys_text true (k ∷ l ∷ ks) keys)
+keys_value (k ∷ l ∷ ks) keys two = (key_items (k ∷ l ∷ ks) ++ codes "\n]", refl, keys_text true (k ∷ l ∷ ks) keys)
 
 -- ---- lines
 
@@ -184,8 +183,7 @@ InterfaceLines es =
 
 -- what stands in `interface_text` after the end of the nonces
 abbrev interface_start : Text
-interface_start =
-    codes "\n[[link.interface]]\ncacheline = 16\ncommand = 6\ninfo = \""
+interface_start = codes "\n[[link.interface]]\ncacheline = 16\ncommand = 6\ninfo = \""
     ++ (zeros ++ (zeros ++ codes "\"\nrid = 256\nstream = 5\n"))
 
 interface_lines : (es : List Expression) (rest : Text) → Prints true es rest → Prints true (InterfaceLines es)

@@ -10,7 +10,7 @@ use Rattle.hex.proofs.HexLemmas.{decode_sized-encode_lower}
 use Rattle.hex.proofs.OnLiterals.{hex_on_literals}
 use Rattle.toml.specs.Data.{Data, array}
 use Rattle.toml_walk.specs.Values.{key_bytes}
-use Rattle.toml_walk.specs.Walk.{Text, count_between, each, list, list_of, place, within_span}
+use Rattle.toml_walk.specs.Walk.{Text, count_between, each, list, data_list, place, within_span}
 use Rattle.ide_types.specs.declared.plan.Plan.{Plan}
 use Rattle.history_events.specs.GeneratedTopology.{the_interface, the_link, the_plan, the_stream}
 use Rattle.topology.specs.declared.draft.LinkDraft.{LinkDraft}
@@ -27,11 +27,12 @@ use Rattle.history_events.proofs.Table.{interface_table, key_data, key_list, lin
 key_read : (path : Text) (k : List ℕ) → Key k → key_bytes path (key_data k) ≡ Ok k
 key_read path k key = rw (decode_sized-encode_lower k 32 key.long (are_bytes k key.bytes)) refl
 
-each_read : (path : Text) (i : ℕ) (ks : List (List ℕ)) → Keys ks → each key_bytes path i (list_of (key_list ks)) ≡ Ok ks
+each_read : (path : Text) (i : ℕ) (ks : List (List ℕ)) → Keys ks → each key_bytes path i (data_list (key_list ks))
+    ≡ Ok ks
 each_read path i [] keys = refl
 each_read path i (k ∷ ks) keys = rw (key_read (place path i) k keys.0, each_read path (i + 1) ks keys.1) refl
 
-as_many : (ks : List (List ℕ)) → length (list_of (key_list ks)) ≡ length ks
+as_many : (ks : List (List ℕ)) → length (data_list (key_list ks)) ≡ length ks
 as_many [] = refl
 as_many (k ∷ ks) = let e = as_many ks in omega (arith, e)
 
@@ -47,7 +48,7 @@ keys_read : (least most : ℕ) (path : Text) (ks : List (List ℕ)) → Keys ks 
 keys_read least most path ks keys enough few =
     let many = as_many ks in
     rw (
-      counted least most path (list_of (key_list ks)) (omega (arith, many, enough)) (omega (arith, many, few)),
+      counted least most path (data_list (key_list ks)) (omega (arith, many, enough)) (omega (arith, many, few)),
       each_read path 0 ks keys,
     ) refl
 

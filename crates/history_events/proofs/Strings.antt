@@ -10,8 +10,7 @@ use Rattle.ide_types.specs.Names.{Text}
 
 -- no character that a basic string escapes
 unfoldable pub plain : ℕ → Bool
-plain c =
-    not (is_control c) && (not (c == 92) && (not (c == 34) && (not (c == 10) && not (needs_escape false 0 c))))
+plain c = not (is_control c) && (not (c == 92) && (not (c == 34) && (not (c == 10) && not (needs_escape false 0 c))))
 
 record IsPlain (c : ℕ) : Type 0 where
   pub control : is_control c ≡ false

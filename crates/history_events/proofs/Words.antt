@@ -92,8 +92,7 @@ no_ends line h k d lt = no_end (get_or line k d) (AllPass-from_list_all is_print
 cut_words : (w : Text) (ws : List Text) → IsWord w → AreWords ws → slice_split (λ b. b == 32) (spaced_words w ws) ≡ w
     ∷ ws
 cut_words w [] word words = slice_split_none (λ b. b == 32) w (no_spaces w word.glyphs)
-cut_words w (v ∷ ws) word words =
-    slice_split_at (λ b. b == 32) w 32 (spaced_words v ws) (no_spaces w word.glyphs) refl
+cut_words w (v ∷ ws) word words = slice_split_at (λ b. b == 32) w 32 (spaced_words v ws) (no_spaces w word.glyphs) refl
     ∙ ap (λ (ps : List Text). w ∷ ps) (cut_words v ws words.0 words.1)
 
 positive : (n : ℕ) → 0 < n → (n == 0) ≡ false

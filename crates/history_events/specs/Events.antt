@@ -25,12 +25,12 @@ abbrev pub own_stream : Plan → ℕ → ℕ → Option (ℕ × ℕ)
 own_stream plan link stream = if own_has_id (slice_get plan.links link) stream then Some (link, stream) else None
 
 -- a stream between devices, by its number
-abbrev pub peer_stream_in : Option PeerPlan → ℕ → Option (ℕ × ℕ)
-peer_stream_in None peer = None
-peer_stream_in (Some p) peer = Some (peer_line peer, p.id)
+abbrev pub peer_stream_of_plan : Option PeerPlan → ℕ → Option (ℕ × ℕ)
+peer_stream_of_plan None peer = None
+peer_stream_of_plan (Some p) peer = Some (peer_line peer, p.id)
 
 abbrev pub peer_stream : Plan → ℕ → Option (ℕ × ℕ)
-peer_stream plan peer = peer_stream_in (slice_get plan.peers peer) peer
+peer_stream plan peer = peer_stream_of_plan (slice_get plan.peers peer) peer
 
 -- the stream of a hop on a segment of its link: 0 towards the host, 1 towards the device
 abbrev pub segment_stream : Option HopPlan → ℕ → ℕ → Option (ℕ × ℕ)

@@ -82,8 +82,7 @@ step_after step.Start = None
 
 -- keys, and the interface locked, reported and started
 abbrev pub setting_up : List Event
-setting_up =
-    step_event step.Establish ∷ step_event step.Lock ∷ step_event step.Report ∷ step_event step.Start ∷ []
+setting_up = step_event step.Establish ∷ step_event step.Lock ∷ step_event step.Report ∷ step_event step.Start ∷ []
 
 -- the events from a step on
 abbrev pub events_from : Option Step → List Event

@@ -6,7 +6,7 @@ use Rattle.cli_words.specs.Words.{CommandRequest, command_asked}
 use Rattle.file_runs.specs.declared.ends.End.{End}
 use Rattle.file_runs.specs.declared.ends.Fault.{Fault}
 use Rattle.file_runs.specs.Gain.{Text}
-use Rattle.file_runs.specs.Gathering.{ReadAsFar, ReadAsFarOf}
+use Rattle.file_runs.specs.Gathering.{ReadAsFar, ReadAsFarOfContents}
 use Rattle.ide_cli.specs.Reads.{AskedNoFurther, Names, ReadNoFurther}
 use Rattle.ide_cli.specs.Seen.{CallSeen}
 
@@ -29,7 +29,7 @@ nothing_read call a is same none = subst
     given : call.shelf_after.given ≡ call.shelf_before.given
     given = ap (λ (s : ShelfSeen). s.given) same
 
-    by_told : (told : Option Contents) → ReadAsFarOf (AskedNoFurther a) told call.shelf_before call.shelf_after
+    by_told : (told : Option Contents) → ReadAsFarOfContents (AskedNoFurther a) told call.shelf_before call.shelf_after
     by_told None = tt
     by_told (Some contents) = (0, (omega (arith, given), omega (arith, given)), none contents _)
 

@@ -27,7 +27,7 @@ use Rattle.ide_runs.specs.declared.topologies.Loaded.TheVariants.{Sound}
 use Rattle.ide_runs.specs.Script.{AtEnd, Script, run_due, script_of_pieces, script_of, with_line}
 use Rattle.ide_runs.specs.Topologies.{loaded_topology}
 use Rattle.ide_cli.specs.GeneratedRuns.{RunsGenerated, generated_run_due}
-use Rattle.ide_cli.specs.Meaning.{Answered, command_due}
+use Rattle.ide_cli.specs.Meaning.{CallIsAnswered, command_due}
 use Rattle.ide_cli.specs.Seen.{CallSeen}
 
 -- ---- the script
@@ -96,7 +96,7 @@ ends_by (Some c) contents due other read write quiet gained r is same ends =
     let here : due c ≡ other c = subst (λ (x : Contents). due x ≡ other x) (sym at) same in
     subst (λ (d : Option Due). EndsDue d read write quiet gained r) here ends
 
-pub runs_generated : (call : CallSeen) → Answered call → RunsGenerated call
+pub runs_generated : (call : CallSeen) → CallIsAnswered call → RunsGenerated call
 runs_generated call answered contents topology script seed count told asks is_topology is_script few =
     let same : command_due answered.migrated (command_asked call.words) contents ≡ Some (generated_run_due seed count) =
     ap (λ (a : Option CommandRequest). command_due answered.migrated a contents) asks

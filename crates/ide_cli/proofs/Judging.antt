@@ -7,7 +7,7 @@ use Rattle.ide_types.specs.declared.plan.Plan.{Plan}
 use Rattle.file_runs.specs.declared.ends.End.{End}
 use Rattle.file_runs.specs.declared.ends.End.TheVariants as end
 use Rattle.file_runs.specs.declared.ends.Fault.{Fault}
-use Rattle.file_runs.specs.Gain.{Text, Gained}
+use Rattle.file_runs.specs.Gain.{Text, HasGained}
 use Rattle.file_runs.specs.Outcome.{Due, EndsBy, EndsDue, EndsToldOrBlind}
 use Rattle.ide_runs.specs.{Tells, judgement_due}
 use Rattle.ide_runs.specs.declared.topologies.Loaded.TheVariants.{Sound}
@@ -16,8 +16,8 @@ use Rattle.ide_runs.specs.Script.{AtEnd, Script, due_after, run_end, events_on, 
 use Rattle.ide_runs.specs.Topologies.{loaded_topology}
 use Rattle.ide_runs.proofs.{judged_tells}
 use Rattle.cli_words.specs.Words.{command_asked}
-use Rattle.ide_cli.specs.Headline.{AllJudged}
-use Rattle.ide_cli.specs.Meaning.{Answered, command_due}
+use Rattle.ide_cli.specs.Headline.{JudgedEvents}
+use Rattle.ide_cli.specs.Meaning.{CallIsAnswered, command_due}
 use Rattle.ide_cli.specs.Seen.{CallSeen}
 use Rattle.ide_cli.specs.Went.{NamesPlanAndScript, CameToEnd, JudgedCall}
 use Rattle.ide_cli.proofs.Written.{at_end}
@@ -64,23 +64,23 @@ pub at_this_end : {P : End → Type 0} (r : Result End Fault) → ((e : End) →
 at_this_end (Ok e) holds = holds e refl
 at_this_end (Err f) holds = tt
 
-pub is_judged : (call : CallSeen) → Answered call → JudgedCall call
+pub is_judged : (call : CallSeen) → CallIsAnswered call → JudgedCall call
 is_judged call answered = at_this_end call.outcome (λ e ended plan script a claimed held stop claims held_before.
     let text = (due_after plan [] script).1 in
     let due = judgement_due text claimed in
     let is = asked_is answered.migrated call plan script a claimed claims
     ∙ judge_is a.topology a.bytes claimed plan script a.plan_is a.read stop in
-    let came = there _ _ _ (Gained call.sink_before.held call.sink_after.held) call.outcome e due ended
+    let came = there _ _ _ (HasGained call.sink_before.held call.sink_after.held) call.outcome e due ended
     (ends_told call a.contents (command_due answered.migrated (command_asked call.words)) due _ _ _
-    (Gained call.sink_before.held call.sink_after.held) a.are_told is answered.ran) in
+    (HasGained call.sink_before.held call.sink_after.held) a.are_told is answered.ran) in
     record {
       told = due.1;
       holds_now = came.1 ∙ ap (option_map (λ (t : Text). t ++ due.1)) held_before;
       tells = subst (λ (x : End). Tells text claimed x due.1) (sym came.0) (judged_tells text claimed);
     })
 
-pub all_judged : (call : CallSeen) → AllJudged call
-all_judged call = at_end call.outcome (λ e ended plan script a. record {
+pub judged_events : (call : CallSeen) → JudgedEvents call
+judged_events call = at_end call.outcome (λ e ended plan script a. record {
   script = script;
   asks_judge = a;
   first = events_on plan script;

@@ -10,54 +10,55 @@ use Rattle.file_runs.specs.declared.ends.End.{End}
 use Rattle.file_runs.specs.declared.ends.End.TheVariants as end
 use Rattle.file_runs.specs.declared.ends.Fault.{Fault}
 use Rattle.file_runs.specs.declared.ends.Fault.TheVariants as fault
-use Rattle.file_runs.specs.Gain.{Text, Gained}
-use Rattle.file_runs.specs.Outcome.{Due, Ran, RanOn}
+use Rattle.file_runs.specs.Gain.{Text, HasGained}
+use Rattle.file_runs.specs.Outcome.{Due, Ran, RanOnShelf}
 use Rattle.file_runs.proofs.WholeFiles.{IsDue, gained_nothing, out_of_memory, ran_after}
 use Rattle.ide_cli.specs.declared.status.Status.{Status}
 use Rattle.ide_runs.specs.Generated.{generated_due}
 use Rattle.ide_runs.specs.Judge.{judge_due}
-use Rattle.ide_runs.specs.Migrating.{MigratedFor}
+use Rattle.ide_runs.specs.Migrating.{IsFileMigrated}
 use Rattle.ide_runs.specs.Script.{run_due}
 use Rattle.ide_runs.specs.Topologies.{check_due}
 use Rattle.ide_runs.specs.Why.{why_due}
 use Rattle.ide_runs.proofs.{failed_migration}
-use Rattle.ide_cli.specs.Meaning.{AnsweredFor, MigratesTo, RanAlone, RanGenerated, command_due, show_due, usage_line}
-use Rattle.ide_cli.specs.Meaning.{script_text_due, topology_text_due}
+use Rattle.ide_cli.specs.Meaning.{RequestIsAnswered, MigratesTo, RanAlone, RanGenerated, command_due, show_due}
+use Rattle.ide_cli.specs.Meaning.{usage_line, script_text_due, topology_text_due}
 use Rattle.ide_cli.specs.Reads.{most_counted}
 use Rattle.ide_cli.specs.Seen.{CallSeen, outcome_of_status}
 
 pub asks_for : {request : Option CommandRequest} {a : CommandRequest} {s0 s1 : ShelfSeen} {o0 o1 : SinkSeen}
-    {r : Result End Fault} → request ≡ Some a → AnsweredFor (Some a) s0 s1 o0 o1 r → AnsweredFor request s0 s1 o0 o1 r
+    {r : Result End Fault} → request ≡ Some a → RequestIsAnswered (Some a) s0 s1 o0 o1 r
+    → RequestIsAnswered request s0 s1 o0 o1 r
 asks_for {request} {a} {s0} {s1} {o0} {o1} {r} is answered =
-    subst (λ (o : Option CommandRequest). AnsweredFor o s0 s1 o0 o1 r) (sym is) answered
+    subst (λ (o : Option CommandRequest). RequestIsAnswered o s0 s1 o0 o1 r) (sym is) answered
 
 pub answered_run : (topology script : Text) (s0 s1 : ShelfSeen) (o0 o1 : SinkSeen) (r : Result End Fault)
-    → RanOn (λ contents. run_due (contents topology) (contents script)) s0 s1 o0 o1 r
-    → AnsweredFor (Some (run topology script)) s0 s1 o0 o1 r
+    → RanOnShelf (λ contents. run_due (contents topology) (contents script)) s0 s1 o0 o1 r
+    → RequestIsAnswered (Some (run topology script)) s0 s1 o0 o1 r
 answered_run topology script s0 s1 o0 o1 r ran = record { migrated = []; migrates = tt; ran = ran }
 
 pub answered_judge : (topology script verdicts : Text) (s0 s1 : ShelfSeen) (o0 o1 : SinkSeen) (r : Result End Fault)
-    → RanOn (λ contents. judge_due (contents topology) (contents script) (contents verdicts)) s0 s1 o0 o1 r
-    → AnsweredFor (Some (judge topology script verdicts)) s0 s1 o0 o1 r
+    → RanOnShelf (λ contents. judge_due (contents topology) (contents script) (contents verdicts)) s0 s1 o0 o1 r
+    → RequestIsAnswered (Some (judge topology script verdicts)) s0 s1 o0 o1 r
 answered_judge topology script verdicts s0 s1 o0 o1 r ran = record { migrated = []; migrates = tt; ran = ran }
 
 pub answered_why : (topology script : Text) (n : ℕ) (s0 s1 : ShelfSeen) (o0 o1 : SinkSeen) (r : Result End Fault)
-    → RanOn (λ contents. why_due n (contents topology) (contents script)) s0 s1 o0 o1 r
-    → AnsweredFor (Some (why topology script n)) s0 s1 o0 o1 r
+    → RanOnShelf (λ contents. why_due n (contents topology) (contents script)) s0 s1 o0 o1 r
+    → RequestIsAnswered (Some (why topology script n)) s0 s1 o0 o1 r
 answered_why topology script n s0 s1 o0 o1 r ran = record { migrated = []; migrates = tt; ran = ran }
 
 pub answered_migrate : (topology : Text) (s0 s1 : ShelfSeen) (o0 o1 : SinkSeen) (r : Result End Fault)
-    → MigratedFor topology s0 s1 o0 o1 r → AnsweredFor (Some (migrate topology)) s0 s1 o0 o1 r
+    → IsFileMigrated topology s0 s1 o0 o1 r → RequestIsAnswered (Some (migrate topology)) s0 s1 o0 o1 r
 answered_migrate topology s0 s1 o0 o1 r m = record { migrated = m.migrated; migrates = m.migrates; ran = m.ran }
 
 pub answered_check : (topology : Text) (s0 s1 : ShelfSeen) (o0 o1 : SinkSeen) (r : Result End Fault)
-    → RanOn (λ contents. option_map check_due (contents topology)) s0 s1 o0 o1 r
-    → AnsweredFor (Some (check topology)) s0 s1 o0 o1 r
+    → RanOnShelf (λ contents. option_map check_due (contents topology)) s0 s1 o0 o1 r
+    → RequestIsAnswered (Some (check topology)) s0 s1 o0 o1 r
 answered_check topology s0 s1 o0 o1 r ran = record { migrated = []; migrates = tt; ran = ran }
 
 pub answered_show : (packets : Text) (s0 s1 : ShelfSeen) (o0 o1 : SinkSeen) (r : Result End Fault)
-    → RanOn (λ contents. option_map show_due (contents packets)) s0 s1 o0 o1 r
-    → AnsweredFor (Some (show packets)) s0 s1 o0 o1 r
+    → RanOnShelf (λ contents. option_map show_due (contents packets)) s0 s1 o0 o1 r
+    → RequestIsAnswered (Some (show packets)) s0 s1 o0 o1 r
 answered_show packets s0 s1 o0 o1 r ran = record { migrated = []; migrates = tt; ran = ran }
 
 -- ---- if nothing is read
@@ -72,12 +73,12 @@ AsksAlone a due = ((contents : Contents) → command_due [] (Some a) contents �
 
 -- of generated events
 pub answered_alone : (a : CommandRequest) (due : Due) (s : ShelfSeen) (o0 o1 : SinkSeen) (r : Result End Fault)
-    → AsksAlone a due → Ran due o0 o1 r → AnsweredFor (Some a) s s o0 o1 r
+    → AsksAlone a due → Ran due o0 o1 r → RequestIsAnswered (Some a) s s o0 o1 r
 answered_alone a due s o0 o1 r asks ran = record {
   migrated = [];
   migrates = asks.1 s.contents r;
   ran = ran_after s.contents (command_due [] (Some a)) due s.faults s.faults o0.faults o1.faults
-      (Gained o0.held o1.held) r (there s.contents) refl ran;
+      (HasGained o0.held o1.held) r (there s.contents) refl ran;
 }
   where
     there : (told : Option Contents) → IsDue told (command_due [] (Some a)) due
@@ -85,18 +86,18 @@ answered_alone a due s o0 o1 r asks ran = record {
     there (Some contents) = asks.0 contents
 
 answered_nothing : (s : ShelfSeen) (o0 o1 : SinkSeen) (r : Result End Fault) → Ran (end.Usage, usage_line) o0 o1 r
-    → AnsweredFor None s s o0 o1 r
+    → RequestIsAnswered None s s o0 o1 r
 answered_nothing s o0 o1 r ran = record {
   migrated = [];
   migrates = tt;
   ran = ran_after s.contents (λ contents. Some (end.Usage, usage_line)) (end.Usage, usage_line) s.faults s.faults
-      o0.faults o1.faults (Gained o0.held o1.held) r (always s.contents (end.Usage, usage_line)) refl ran;
+      o0.faults o1.faults (HasGained o0.held o1.held) r (always s.contents (end.Usage, usage_line)) refl ran;
 }
 
 pub asks_nothing : {request : Option CommandRequest} {s : ShelfSeen} {o0 o1 : SinkSeen} {r : Result End Fault}
-    → request ≡ None → Ran (end.Usage, usage_line) o0 o1 r → AnsweredFor request s s o0 o1 r
+    → request ≡ None → Ran (end.Usage, usage_line) o0 o1 r → RequestIsAnswered request s s o0 o1 r
 asks_nothing {request} {s} {o0} {o1} {r} is ran =
-    subst (λ (o : Option CommandRequest). AnsweredFor o s s o0 o1 r) (sym is) (answered_nothing s o0 o1 r ran)
+    subst (λ (o : Option CommandRequest). RequestIsAnswered o s s o0 o1 r) (sym is) (answered_nothing s o0 o1 r ran)
 
 -- ---- for want of memory
 
@@ -117,7 +118,7 @@ no_text (Some (generate_script seed count)) told = tt
 no_text (Some (generate_topology seed count)) told = tt
 
 pub answered_without_memory : (request : Option CommandRequest) (s : ShelfSeen) (o : SinkSeen)
-    → AnsweredFor request s s o o no_memory
+    → RequestIsAnswered request s s o o no_memory
 answered_without_memory request s o = record {
   migrated = [];
   migrates = no_text request s.contents;

@@ -4,7 +4,7 @@ use Rattle.std.proofs.Common.{◌≡◌, ◌∙◌, ◌++◌, ℕ, [], Some, opt
 use Rattle.std.proofs.Common.{sym, ap, subst, inl, arith, drop, length-take, take}
 use Rattle.std.proofs.lemmas.List.{take-append-drop}
 use Rattle.ide_types.specs.declared.plan.Plan.{Plan}
-use Rattle.file_runs.specs.Gain.{Text, Gained}
+use Rattle.file_runs.specs.Gain.{Text, HasGained}
 use Rattle.file_runs.specs.Outcome.{Due}
 use Rattle.ide_runs.specs.declared.topologies.Loaded.TheVariants.{Sound}
 use Rattle.ide_runs.specs.Script.{Script, events_on, script_of}
@@ -12,10 +12,10 @@ use Rattle.ide_runs.specs.Topologies.{loaded_topology}
 use Rattle.ide_runs.specs.Why.{told_event_due, why_due}
 use Rattle.ide_runs.proofs.Whys.{told_event, told_none}
 use Rattle.cli_words.specs.Words.{command_asked}
-use Rattle.ide_cli.specs.Headline.{AllTold}
-use Rattle.ide_cli.specs.Meaning.{Answered, command_due}
+use Rattle.ide_cli.specs.Headline.{ToldUpToEvent}
+use Rattle.ide_cli.specs.Meaning.{CallIsAnswered, command_due}
 use Rattle.ide_cli.specs.Seen.{CallSeen}
-use Rattle.ide_cli.specs.Went.{AsksWhy, CameToEnd, Explained}
+use Rattle.ide_cli.specs.Went.{AsksWhy, CameToEnd, IsExplained}
 use Rattle.ide_cli.proofs.Judging.{at_this_end, ends_told, there}
 use Rattle.ide_cli.proofs.Written.{at_end}
 
@@ -27,14 +27,14 @@ asked_is : (migrated : Text) (call : CallSeen) (plan : Plan) (script : Script) (
     → command_due migrated (command_asked call.words) a.contents ≡ why_due n (Some a.topology) (Some a.bytes)
 asked_is migrated call plan script n a = rw (a.asks, a.topology_is, a.script_is) refl
 
-pub is_explained : (call : CallSeen) → Answered call → Explained call
+pub is_explained : (call : CallSeen) → CallIsAnswered call → IsExplained call
 is_explained call answered = at_this_end call.outcome (λ e ended plan script n held a held_before.
     let due = told_event_due n plan [] script in
     let is = asked_is answered.migrated call plan script n a
     ∙ why_is n a.topology a.bytes plan script a.plan_is a.read in
-    let came = there _ _ _ (Gained call.sink_before.held call.sink_after.held) call.outcome e due ended
+    let came = there _ _ _ (HasGained call.sink_before.held call.sink_after.held) call.outcome e due ended
     (ends_told call a.contents (command_due answered.migrated (command_asked call.words)) due _ _ _
-    (Gained call.sink_before.held call.sink_after.held) a.are_told is answered.ran) in
+    (HasGained call.sink_before.held call.sink_after.held) a.are_told is answered.ran) in
     let holds = came.1 ∙ ap (option_map (λ (t : Text). t ++ due.1)) held_before in
     record {
       told = λ h x at.
@@ -45,8 +45,8 @@ is_explained call answered = at_this_end call.outcome (λ e ended plan script n 
           (came.0 ∙ ap (λ (d : Due). d.0) same, holds ∙ ap (λ (d : Due). Some (held ++ d.1)) same);
     })
 
-pub all_told : (call : CallSeen) → AllTold call
-all_told call = at_end call.outcome (λ e ended plan script n a. record {
+pub told_up_to_event : (call : CallSeen) → ToldUpToEvent call
+told_up_to_event call = at_end call.outcome (λ e ended plan script n a. record {
   script = script;
   number = n;
   asks_why = a;

@@ -19,7 +19,7 @@ use Rattle.law_text.specs.Runs.{history_on, history_with_event, text_on}
 use Rattle.law_text.specs.Telling.{events_told, lines_told, AreAllowed}
 use Rattle.law_text.specs.Statements.{LinesTell, AreTold}
 use Rattle.law_text.proofs.Reading.{length-events}
-use Rattle.file_runs.specs.Gain.{Text, Gained}
+use Rattle.file_runs.specs.Gain.{Text, HasGained}
 use Rattle.file_runs.specs.Outcome.{Due, EndsBy, EndsDue, EndsToldOrBlind}
 use Rattle.file_runs.specs.declared.ends.End.{End}
 use Rattle.file_runs.specs.declared.ends.Fault.{Fault}
@@ -30,9 +30,9 @@ use Rattle.ide_runs.specs.Generated.{generated_due, generated_history, generated
 use Rattle.ide_runs.specs.Topologies.{loaded_topology}
 use Rattle.ide_runs.proofs.Events.{events_allowed}
 use Rattle.ide_runs.proofs.Plans.{loaded_fits}
-use Rattle.ide_cli.specs.Meaning.{Answered, RanAlone, RanGenerated, command_due}
+use Rattle.ide_cli.specs.Meaning.{CallIsAnswered, RanAlone, RanGenerated, command_due}
 use Rattle.ide_cli.specs.Laws.{IsDue}
-use Rattle.ide_cli.specs.Headline.{AllCounted, AllWritten, AsksRun, InEvery, Written}
+use Rattle.ide_cli.specs.Headline.{CountedEvents, WrittenEvents, AsksRun, InEvery, CallHasWritten}
 use Rattle.ide_cli.specs.Seen.{CallSeen}
 use Rattle.ide_cli.specs.Went.{WentOverGenerated, WentOverJudged, WentUpTo}
 
@@ -67,8 +67,8 @@ few_written : (h : History) (later events : List Event) → events_told h ++ lat
 few_written h later events same allowed = omega
     (arith, length-events h, length-append (events_told h) later, ap length same, allowed.few)
 
-written_is_due : LinesTell → (call : CallSeen) → Answered call → (plan : Plan) (h : History) → Written call plan h
-    → IsDue plan h
+written_is_due : LinesTell → (call : CallSeen) → CallIsAnswered call → (plan : Plan) (h : History)
+    → CallHasWritten call plan h → IsDue plan h
 written_is_due tell call answered plan h w =
     let script = w.script in
     let due = due_after plan [] script in
@@ -77,7 +77,7 @@ written_is_due tell call answered plan h w =
     let fits = plan_fits call plan script w.asks_for in
     let gained = gained_front due _ _ _ call.sink_before.held call.sink_after.held w.held w.gained call.outcome
     w.held_before w.holds_now
-    (ran_script answered.migrated call _ _ _ (Gained call.sink_before.held call.sink_after.held) call.outcome
+    (ran_script answered.migrated call _ _ _ (HasGained call.sink_before.held call.sink_after.held) call.outcome
     answered.ran plan script w.asks_for) in
     let front = front_of_front (lines_told plan h) w.gained due.1 w.lines gained in
     let text : lines_told plan h ++ front.0 ≡ text_on plan [] (events_told h ++ w.later)
@@ -155,7 +155,7 @@ up_to_is_due call plan h w =
 
 -- ---- any of these
 
-pub history_is_due : LinesTell → (call : CallSeen) → Answered call → InEvery IsDue call
+pub history_is_due : LinesTell → (call : CallSeen) → CallIsAnswered call → InEvery IsDue call
 history_is_due tell call answered plan h (inl w) = written_is_due tell call answered plan h w
 history_is_due tell call answered plan h (inr (inl w)) = went_is_due call plan h w
 history_is_due tell call answered plan h (inr (inr (inl w))) = through_is_due call plan h w
@@ -172,13 +172,13 @@ whole_gain : (due : Due) (read write quiet : Type 0) (gained : Text → Type 0) 
 whole_gain due read write quiet gained r e is ran =
     (subst (λ (x : Result End Fault). EndsBy due read write quiet gained x) is ran).1
 
-pub all_written : AreTold → (call : CallSeen) → Answered call → AllWritten call
-all_written are_told call answered = at_end call.outcome (λ e ended plan script held asks held_before.
+pub written_events : AreTold → (call : CallSeen) → CallIsAnswered call → WrittenEvents call
+written_events are_told call answered = at_end call.outcome (λ e ended plan script held asks held_before.
     let is = are_told plan (plan_fits call plan script asks) (events_on plan script)
     (script_allowed call plan script asks) in
     let due = due_after plan [] script in
-    let whole = whole_gain due _ _ _ (Gained call.sink_before.held call.sink_after.held) call.outcome e ended
-    (ran_script answered.migrated call _ _ _ (Gained call.sink_before.held call.sink_after.held) call.outcome
+    let whole = whole_gain due _ _ _ (HasGained call.sink_before.held call.sink_after.held) call.outcome e ended
+    (ran_script answered.migrated call _ _ _ (HasGained call.sink_before.held call.sink_after.held) call.outcome
     answered.ran plan script asks) in
     let h = history_on plan [] (events_on plan script) in
     let last = last_line script.ending h in
@@ -195,10 +195,10 @@ all_written are_told call answered = at_end call.outcome (λ e ended plan script
       lines = (last, ap (λ (t : Text). t ++ last) is.lines_are);
     })
 
-pub all_counted : (call : CallSeen) → RanGenerated call → AllCounted call
-all_counted call ran = at_end call.outcome (λ e ended seed count held asks held_before.
+pub counted_events : (call : CallSeen) → RanGenerated call → CountedEvents call
+counted_events call ran = at_end call.outcome (λ e ended seed count held asks held_before.
     let line = generated_line (generated_history seed count) in
-    let whole = whole_gain (generated_due seed count) _ _ _ (Gained call.sink_before.held call.sink_after.held)
+    let whole = whole_gain (generated_due seed count) _ _ _ (HasGained call.sink_before.held call.sink_after.held)
     call.outcome e ended
     (subst (λ (a : Option CommandRequest). RanAlone a call.sink_before call.sink_after call.outcome) asks ran) in
     record {

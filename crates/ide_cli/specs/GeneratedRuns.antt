@@ -10,7 +10,7 @@ use Rattle.event_verdicts.specs.Lines.{totals_line_of}
 use Rattle.law_text.specs.Runs.{text_on, totals_of}
 use Rattle.file_runs.specs.declared.ends.End.TheVariants as end
 use Rattle.file_runs.specs.Gain.{Text}
-use Rattle.file_runs.specs.Outcome.{Due, RanOn}
+use Rattle.file_runs.specs.Outcome.{Due, RanOnShelf}
 use Rattle.ide_runs.specs.Generated.{generated_history}
 use Rattle.ide_cli.specs.Seen.{CallSeen}
 
@@ -28,6 +28,6 @@ RunsGenerated call = (contents : Contents) (topology script : Text) (seed count 
     → call.shelf_before.contents ≡ Some contents → command_asked call.words ≡ Some (run topology script)
     → contents topology ≡ Some generated_topology → contents script ≡ Some (generated_script seed count)
     → count ≤ 100000
-    → RanOn (λ c. Some (generated_run_due seed count)) call.shelf_before call.shelf_after call.sink_before
+    → RanOnShelf (λ c. Some (generated_run_due seed count)) call.shelf_before call.shelf_after call.sink_before
     call.sink_after
     call.outcome

@@ -34,7 +34,7 @@ pub record AsksRun (call : CallSeen) (plan : Plan) (script : Script) : Type 0 wh
 -- The call wrote a history under a plan: its events are the first of the script's, in this topology; its verdicts name
 -- what the topology has; and the sink, which tells what it held before and holds now, gained the lines of its verdicts,
 -- numbered from 1, and maybe more after them.
-pub record Written (call : CallSeen) (plan : Plan) (h : History) : Type 0 where
+pub record CallHasWritten (call : CallSeen) (plan : Plan) (h : History) : Type 0 where
   pub script : Script
   pub asks_for : AsksRun call plan script
   pub later : List Event
@@ -50,7 +50,7 @@ pub record Written (call : CallSeen) (plan : Plan) (h : History) : Type 0 where
 -- script by which it judged a text, or of that of which it told an event
 abbrev pub InEvery : (Plan → History → Type 0) → CallSeen → Type 0
 InEvery law call = (plan : Plan) (h : History)
-    → Written call plan h ⊎ (WentOverGenerated call plan h ⊎ (WentOverJudged call plan h ⊎ WentUpTo call plan h))
+    → CallHasWritten call plan h ⊎ (WentOverGenerated call plan h ⊎ (WentOverJudged call plan h ⊎ WentUpTo call plan h))
     → law plan h
 
 -- the same of a law that asks nothing of the topology
@@ -59,22 +59,22 @@ InEveryHistory law call = InEvery (λ p. law) call
 
 -- if the call comes to an end of its own, the history of all events of the script was written, each with the verdict
 -- that is due
-abbrev pub AllWritten : CallSeen → Type 0
-AllWritten call = IfOk call.outcome (λ e. (plan : Plan) (script : Script) (held : Text) → AsksRun call plan script
-    → call.sink_before.held ≡ Some held → Written call plan (history_on plan [] (events_on plan script)))
+abbrev pub WrittenEvents : CallSeen → Type 0
+WrittenEvents call = IfOk call.outcome (λ e. (plan : Plan) (script : Script) (held : Text) → AsksRun call plan script
+    → call.sink_before.held ≡ Some held → CallHasWritten call plan (history_on plan [] (events_on plan script)))
 
 -- and the line of the history of all generated events, if the words ask for them
-abbrev pub AllCounted : CallSeen → Type 0
-AllCounted call = IfOk call.outcome (λ e. (seed count : ℕ) (held : Text) → command_asked call.words
+abbrev pub CountedEvents : CallSeen → Type 0
+CountedEvents call = IfOk call.outcome (λ e. (seed count : ℕ) (held : Text) → command_asked call.words
     ≡ Some (generate seed count)
     → call.sink_before.held ≡ Some held → WentOverGenerated call the_plan (generated_history seed count))
 
 -- and went over the history of all events of the script by which it judged a text
-abbrev pub AllJudged : CallSeen → Type 0
-AllJudged call = IfOk call.outcome (λ e. (plan : Plan) (script : Script) → NamesPlanAndScript call plan script
+abbrev pub JudgedEvents : CallSeen → Type 0
+JudgedEvents call = IfOk call.outcome (λ e. (plan : Plan) (script : Script) → NamesPlanAndScript call plan script
     → WentOverJudged call plan (history_on plan [] (events_on plan script)))
 
 -- and over the history of the events up to the one that it told, or of all if there are fewer
-abbrev pub AllTold : CallSeen → Type 0
-AllTold call = IfOk call.outcome (λ e. (plan : Plan) (script : Script) (n : ℕ) → AsksWhy call plan script n
+abbrev pub ToldUpToEvent : CallSeen → Type 0
+ToldUpToEvent call = IfOk call.outcome (λ e. (plan : Plan) (script : Script) (n : ℕ) → AsksWhy call plan script n
     → WentUpTo call plan (history_on plan [] (take n (events_on plan script))))

@@ -1,7 +1,7 @@
 -- The laws of every history in which each verdict is the one that is due.
 use Rattle.std.specs.Prelude.{◌≡◌, ◌≤◌, Some, length}
-use Rattle.law_bytes.specs.{AnswerLaw, AnswersLaw, Attested, ByteOriginLaw, EffectLaw, FailedLaw, KeyStreamFresh}
-use Rattle.law_bytes.specs.{LockLaw, MmioOriginLaw, NamedLaw, OneLockPerKey, Scrubbed, TrustLaw, ViewsAreTrue}
+use Rattle.law_bytes.specs.{AnswerLaw, AnswersLaw, ReportsAreShown, ByteOriginLaw, EffectLaw, FailedLaw, KeyStreamFresh}
+use Rattle.law_bytes.specs.{LockLaw, MmioOriginLaw, NamedLaw, OneLockPerKey, UnlockedIsScrubbed, TrustLaw, ViewsAreTrue}
 use Rattle.law_delivery.specs.PostedCounts.{CountLaw}
 use Rattle.ide_types.specs.declared.plan.Plan.{Plan}
 use Rattle.ide_types.specs.Fits.{FitsPlan}
@@ -21,8 +21,8 @@ use Rattle.law_memory.specs.Origin.{MemoryLaw, OriginLaw}
 use Rattle.law_memory.specs.ReadLaws.{ReadLaw, ReadOriginLaw}
 
 -- the law holds provided that no tag verified on a unit that its partner had not sealed
-abbrev pub Unforged : (Plan → History → Type 0) → Plan → History → Type 0
-Unforged law plan h = NoForgery plan h → law plan h
+abbrev pub IfNoForgery : (Plan → History → Type 0) → Plan → History → Type 0
+IfNoForgery law plan h = NoForgery plan h → law plan h
 
 -- of every interface of the plan, what the manager's view says of it holds
 abbrev pub TrustedPacketsFitView : Plan → History → Type 0
@@ -49,9 +49,9 @@ pub record Laws (plan : Plan) (h : History) : Type 0 where
   pub numbers_fresh : NumbersFresh plan h
   pub keystream_fresh : KeyStreamFresh plan h
   pub run_law : RunLaw plan h
-  pub reports_are_shown : Attested plan h
+  pub reports_are_shown : ReportsAreShown plan h
   pub lock_law : LockLaw plan h
-  pub unlocked_is_scrubbed : Scrubbed plan h
+  pub unlocked_is_scrubbed : UnlockedIsScrubbed plan h
   pub bind_law : BindLaw plan h
   pub trusted_packets_fit_view : TrustedPacketsFitView plan h
   pub views_are_true : ViewsAreTrue plan h
@@ -66,14 +66,14 @@ pub record Laws (plan : Plan) (h : History) : Type 0 where
   pub hop_law : HopLaw plan h
   pub through_law : ThroughLaw plan h
   pub named_law : NamedLaw plan h
-  pub prefix_law : Unforged PrefixLaw plan h
-  pub delivery_law : Unforged DeliveryLaw plan h
-  pub order_law : Unforged OrderLaw plan h
-  pub origin_law : Unforged OriginLaw plan h
-  pub read_origin_law : Unforged ReadOriginLaw plan h
-  pub bind_origin_law : Unforged BindOriginLaw plan h
-  pub byte_origin : Unforged ByteOriginLaw plan h
-  pub mmio_origin_law : Unforged MmioOriginLaw plan h
+  pub prefix_law : IfNoForgery PrefixLaw plan h
+  pub delivery_law : IfNoForgery DeliveryLaw plan h
+  pub order_law : IfNoForgery OrderLaw plan h
+  pub origin_law : IfNoForgery OriginLaw plan h
+  pub read_origin_law : IfNoForgery ReadOriginLaw plan h
+  pub bind_origin_law : IfNoForgery BindOriginLaw plan h
+  pub byte_origin : IfNoForgery ByteOriginLaw plan h
+  pub mmio_origin_law : IfNoForgery MmioOriginLaw plan h
 
 abbrev pub LawsHold : Type 0
 LawsHold = (plan : Plan) (h : History) → IsDue plan h → Laws plan h

@@ -9,7 +9,7 @@ use Rattle.file_runs.specs.declared.ends.End.{End}
 use Rattle.file_runs.specs.declared.ends.End.TheVariants as end
 use Rattle.file_runs.specs.declared.ends.Fault.{Fault}
 use Rattle.file_runs.specs.Gain.{Text}
-use Rattle.file_runs.specs.Outcome.{Due, Ran, RanOn}
+use Rattle.file_runs.specs.Outcome.{Due, Ran, RanOnShelf}
 use Rattle.file_runs.specs.Lines.{file_due}
 use Rattle.ide_runs.specs.Generated.{generated_due}
 use Rattle.ide_runs.specs.Judge.{judge_due}
@@ -57,15 +57,15 @@ MigratesTo asked told text r = Unit {0}
 
 -- The run ends as what is asked for and the contents call for; the text of a migration is one of those that it may
 -- write.
-pub record AnsweredFor (request : Option CommandRequest) (shelf shelf_now : ShelfSeen) (sink sink_now : SinkSeen)
+pub record RequestIsAnswered (request : Option CommandRequest) (shelf shelf_now : ShelfSeen) (sink sink_now : SinkSeen)
     (r : Result End Fault) : Type 0 where
   pub migrated : Text
   pub migrates : MigratesTo request shelf.contents migrated r
-  pub ran : RanOn (command_due migrated request) shelf shelf_now sink sink_now r
+  pub ran : RanOnShelf (command_due migrated request) shelf shelf_now sink sink_now r
 
-abbrev pub Answered : CallSeen → Type 0
-Answered call =
-    AnsweredFor (command_asked call.words) call.shelf_before call.shelf_after call.sink_before call.sink_after
+abbrev pub CallIsAnswered : CallSeen → Type 0
+CallIsAnswered call =
+    RequestIsAnswered (command_asked call.words) call.shelf_before call.shelf_after call.sink_before call.sink_after
     call.outcome
 
 -- Of generated events the due text was written, whatever the shelf tells: their totals, their script, or their

@@ -83,7 +83,7 @@ pub record WentOverJudged (call : CallSeen) (plan : Plan) (h : History) : Type 0
 
 -- The sink gained a text, which tells of the claimed text whether it is the one that is due, or which line is the first
 -- that differs; it gained nothing if the claimed text is too long.
-pub record Said (due claimed held : Text) (call : CallSeen) (e : End) : Type 0 where
+pub record HasSaid (due claimed held : Text) (call : CallSeen) (e : End) : Type 0 where
   pub told : Text
   pub holds_now : call.sink_after.held ≡ Some (held ++ told)
   pub tells : Tells due claimed e told
@@ -92,7 +92,7 @@ pub record Said (due claimed held : Text) (call : CallSeen) (e : End) : Type 0 w
 abbrev pub JudgedCall : CallSeen → Type 0
 JudgedCall call = IfOk call.outcome (λ e. (plan : Plan) (script : Script) (a : NamesPlanAndScript call plan script)
     (claimed held : Text) → script.ending ≡ AtEnd → a.contents a.verdicts_name ≡ Some claimed
-    → call.sink_before.held ≡ Some held → Said (due_after plan [] script).1 claimed held call e)
+    → call.sink_before.held ≡ Some held → HasSaid (due_after plan [] script).1 claimed held call e)
 
 -- ---- an event that is told
 
@@ -141,6 +141,6 @@ pub record ToldWhy (plan : Plan) (script : Script) (n : ℕ) (held : Text) (call
       × (call.sink_after.held ≡ Some (held ++ no_event_line n (length (events_on plan script))))
 
 -- if a call that is asked why an event got its verdict comes to an end of its own
-abbrev pub Explained : CallSeen → Type 0
-Explained call = IfOk call.outcome (λ e. (plan : Plan) (script : Script) (n : ℕ) (held : Text)
+abbrev pub IsExplained : CallSeen → Type 0
+IsExplained call = IfOk call.outcome (λ e. (plan : Plan) (script : Script) (n : ℕ) (held : Text)
     → AsksWhy call plan script n → call.sink_before.held ≡ Some held → ToldWhy plan script n held call e)

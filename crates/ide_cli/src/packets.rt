@@ -5,7 +5,7 @@ ghost use Rattle.cli_files.specs.Outside.{AsksFor};
 ghost use Rattle.file_runs.specs.Front.{AskedPieces, Gave, bytes_of};
 ghost use Rattle.file_runs.specs.Gathering.{GoesOn, NoFurther, ReadAsFar};
 ghost use Rattle.file_runs.specs.Lines.{file_limit};
-ghost use Rattle.file_runs.specs.Outcome.{RanOn};
+ghost use Rattle.file_runs.specs.Outcome.{RanOnShelf};
 ghost use Rattle.ide_cli.specs.Meaning.{show_due};
 ghost use Rattle.ide_cli.specs.Packets.{long_packet, nothing_due, shown_line, whole_packet};
 ghost use Rattle.ide_cli.specs.SoFar.{shown_so_far};
@@ -84,7 +84,7 @@ pub(crate) fn show_packets<S: Shelf, O: Sink>(
     ensures end { IfOk result (λ e. e ≢ End.Usage) }
     ensures unjudged { IfOk result (λ e. e ≢ End.Differs) }
     ensures present { IfOk result (λ e. e ≢ End.NoEvent) }
-    ensures due_outcome { RanOn (λ contents. option_map show_due (contents packets.now)) (S.seen shelf.old)
+    ensures due_outcome { RanOnShelf (λ contents. option_map show_due (contents packets.now)) (S.seen shelf.old)
         (S.seen shelf.new) (O.seen out.old) (O.seen out.new) result }
     ensures output_so_far { IfErr result (λ e. WroteBy e (λ contents n. shown_so_far
         (take n (bytes_of (contents packets.now)))) (λ contents n. take n (bytes_of (contents packets.now)))

@@ -1,8 +1,10 @@
 //! The whole program.
 
 ghost use Rattle.std.specs.Prelude.{◌≡◌, ◌+◌, ◌≤◌, IfOk, None, map, string_bytes};
-ghost use Rattle.law_bytes.specs.{AnswerLaw, AnswersLaw, Attested, ByteOriginLaw, EffectLaw, FailedLaw, KeyStreamFresh};
-ghost use Rattle.law_bytes.specs.{LockLaw, MmioOriginLaw, NamedLaw, OneLockPerKey, Scrubbed, TrustLaw, ViewsAreTrue};
+ghost use Rattle.law_bytes.specs.{AnswerLaw, AnswersLaw, ReportsAreShown, ByteOriginLaw, EffectLaw, FailedLaw};
+ghost use Rattle.law_bytes.specs.{KeyStreamFresh};
+ghost use Rattle.law_bytes.specs.{LockLaw, MmioOriginLaw, NamedLaw, OneLockPerKey, UnlockedIsScrubbed, TrustLaw};
+ghost use Rattle.law_bytes.specs.{ViewsAreTrue};
 ghost use Rattle.law_delivery.specs.PostedCounts.{CountLaw};
 ghost use Rattle.cli_files.specs.Outside.{AsksOnly};
 ghost use Rattle.cli_words.specs.Words.{command_asked};
@@ -20,14 +22,15 @@ ghost use Rattle.law_mmio.specs.Mmio.{MmioLaw};
 ghost use Rattle.law_memory.specs.Bindings.{BindOriginLaw};
 ghost use Rattle.law_memory.specs.Origin.{MemoryLaw, OriginLaw};
 ghost use Rattle.law_memory.specs.ReadLaws.{ReadLaw, ReadOriginLaw};
-ghost use Rattle.ide_cli.specs.Headline.{AllCounted, AllJudged, AllTold, AllWritten, InEvery, InEveryHistory};
-ghost use Rattle.ide_cli.specs.Laws.{Unforged, TrustedPacketsFitView};
+ghost use Rattle.ide_cli.specs.Headline.{CountedEvents, JudgedEvents, ToldUpToEvent, WrittenEvents, InEvery};
+ghost use Rattle.ide_cli.specs.Headline.{InEveryHistory};
+ghost use Rattle.ide_cli.specs.Laws.{IfNoForgery, TrustedPacketsFitView};
 ghost use Rattle.ide_cli.specs.GeneratedRuns.{RunsGenerated};
-ghost use Rattle.ide_cli.specs.Meaning.{Answered, RanGenerated, usage_line};
+ghost use Rattle.ide_cli.specs.Meaning.{CallIsAnswered, RanGenerated, usage_line};
 ghost use Rattle.ide_cli.specs.SoFar.{WroteSoFar};
 ghost use Rattle.ide_cli.specs.Reads.{AsksToJudge, AsksToTell, Names, ReadNoFurther, ReadPast, most_counted, most_read};
 ghost use Rattle.ide_cli.specs.Seen.{call_seen, outcome_of_status, run_seen, said_words};
-ghost use Rattle.ide_cli.specs.Went.{Explained, JudgedCall};
+ghost use Rattle.ide_cli.specs.Went.{IsExplained, JudgedCall};
 
 use crate::laws::laws_hold;
 use crate::packets::show_packets;
@@ -52,7 +55,8 @@ fn perform<S: Shelf, O: Sink>(
         → Ran (End.Usage, usage_line) (O.seen out.old) (O.seen out.new) result }
     ensures generated_text { RanGenerated
         (call_seen S.seen O.seen words.now shelf.old shelf.new out.old out.new result) }
-    ensures due_outcome { Answered (call_seen S.seen O.seen words.now shelf.old shelf.new out.old out.new result) }
+    ensures due_outcome { CallIsAnswered
+        (call_seen S.seen O.seen words.now shelf.old shelf.new out.old out.new result) }
     ensures output_so_far { WroteSoFar (call_seen S.seen O.seen words.now shelf.old shelf.new out.old out.new result) }
     ensures reads_no_further { ReadNoFurther
         (call_seen S.seen O.seen words.now shelf.old shelf.new out.old out.new result) }
@@ -139,7 +143,7 @@ pub fn run<S: Shelf, O: Sink>(
 
     // If the shelf tells its contents, the due status comes with all of the due text, and a fault or want of memory
     // leaves a prefix of it. Each fault has its cause.
-    ensures due_outcome { Answered (run_seen S.seen O.seen words.now shelf.old shelf.new out.old out.new result) }
+    ensures due_outcome { CallIsAnswered (run_seen S.seen O.seen words.now shelf.old shelf.new out.old out.new result) }
 
     // If a file could not be read on, the sink has gained exactly what is due to those lines of the script, or of the
     // packet file, that ended in the bytes that were given, and of the next line at most 20,000 bytes were; if the
@@ -183,7 +187,8 @@ pub fn run<S: Shelf, O: Sink>(
     // If the words ask why event N of a script got its verdict, the text is the line of the verdict that is due, the
     // rule that answers, and the facts that its machine's state is due to have after the events before N, one a line;
     // of a script that is read to its end with fewer events it is the line that says so.
-    ensures explained_event { Explained (run_seen S.seen O.seen words.now shelf.old shelf.new out.old out.new result) }
+    ensures explained_event { IsExplained
+        (run_seen S.seen O.seen words.now shelf.old shelf.new out.old out.new result) }
 
     // If the words ask for generated events, the line with the totals of their history is due, or their script, or
     // their topology, whatever the shelf tells.
@@ -197,10 +202,13 @@ pub fn run<S: Shelf, O: Sink>(
     // If the run ends by itself, the history of all events of the script was written; if the words ask for generated
     // events, one line with the totals of their history; if they ask to judge a text, the call went over the history
     // of all events of the script; and if they ask why an event got its verdict, over that of the events up to it.
-    ensures all_written { AllWritten (run_seen S.seen O.seen words.now shelf.old shelf.new out.old out.new result) }
-    ensures all_counted { AllCounted (run_seen S.seen O.seen words.now shelf.old shelf.new out.old out.new result) }
-    ensures all_judged { AllJudged (run_seen S.seen O.seen words.now shelf.old shelf.new out.old out.new result) }
-    ensures all_told { AllTold (run_seen S.seen O.seen words.now shelf.old shelf.new out.old out.new result) }
+    ensures written_events { WrittenEvents
+        (run_seen S.seen O.seen words.now shelf.old shelf.new out.old out.new result) }
+    ensures counted_events { CountedEvents
+        (run_seen S.seen O.seen words.now shelf.old shelf.new out.old out.new result) }
+    ensures judged_events { JudgedEvents (run_seen S.seen O.seen words.now shelf.old shelf.new out.old out.new result) }
+    ensures told_up_to_event { ToldUpToEvent
+        (run_seen S.seen O.seen words.now shelf.old shelf.new out.old out.new result) }
 
     // In every history that was written or gone over, each verdict is the one that is due. On every line, which is a
     // link, a segment of a hop or a stream between devices, the draws of accepted units never fall. A packet that
@@ -246,10 +254,10 @@ pub fn run<S: Shelf, O: Sink>(
     // locked now. Locked or in RUN, the stream of its lock is Secure at its device, and so is each stream between
     // devices that it is bound to. Whatever takes it back to the unlocked state clears each byte of its closed ranges.
     ensures run_law { InEvery RunLaw (run_seen S.seen O.seen words.now shelf.old shelf.new out.old out.new result) }
-    ensures reports_are_shown { InEvery Attested
+    ensures reports_are_shown { InEvery ReportsAreShown
         (run_seen S.seen O.seen words.now shelf.old shelf.new out.old out.new result) }
     ensures lock_law { InEvery LockLaw (run_seen S.seen O.seen words.now shelf.old shelf.new out.old out.new result) }
-    ensures unlocked_is_scrubbed { InEvery Scrubbed
+    ensures unlocked_is_scrubbed { InEvery UnlockedIsScrubbed
         (run_seen S.seen O.seen words.now shelf.old shelf.new out.old out.new result) }
     // An interface is bound to streams between devices only while it is locked or in RUN: whatever ends a lock ends its
     // bindings too.
@@ -306,31 +314,31 @@ pub fn run<S: Shelf, O: Sink>(
     // of each line got, key by key, a prefix of what was sealed, and delivered a prefix of the TLPs that were sent;
     // and, of draws since the stream was last established, on a closed stream or if nothing of an overtaken key is
     // missing, non-posted packets and completions came after the posted packets that were sealed before them.
-    ensures prefix_law { InEvery (Unforged PrefixLaw)
+    ensures prefix_law { InEvery (IfNoForgery PrefixLaw)
         (run_seen S.seen O.seen words.now shelf.old shelf.new out.old out.new result) }
-    ensures delivery_law { InEvery (Unforged DeliveryLaw)
+    ensures delivery_law { InEvery (IfNoForgery DeliveryLaw)
         (run_seen S.seen O.seen words.now shelf.old shelf.new out.old out.new result) }
-    ensures order_law { InEvery (Unforged OrderLaw)
+    ensures order_law { InEvery (IfNoForgery OrderLaw)
         (run_seen S.seen O.seen words.now shelf.old shelf.new out.old out.new result) }
     // Under the same proviso, each admitted write, and each read that was queued, was sealed by the interface that it
     // is admitted or queued for, while that was in RUN under the lock that it has now.
-    ensures origin_law { InEvery (Unforged OriginLaw)
+    ensures origin_law { InEvery (IfNoForgery OriginLaw)
         (run_seen S.seen O.seen words.now shelf.old shelf.new out.old out.new result) }
-    ensures read_origin_law { InEvery (Unforged ReadOriginLaw)
+    ensures read_origin_law { InEvery (IfNoForgery ReadOriginLaw)
         (run_seen S.seen O.seen words.now shelf.old shelf.new out.old out.new result) }
     // Under it too, each accepted packet with T on a stream between devices was sealed while the interface that owns
     // its TLP was in RUN and bound to that stream.
-    ensures bind_origin_law { InEvery (Unforged BindOriginLaw)
+    ensures bind_origin_law { InEvery (IfNoForgery BindOriginLaw)
         (run_seen S.seen O.seen words.now shelf.old shelf.new out.old out.new result) }
     // Under it each byte of trusted memory that is shown and is not 0 is a payload byte, at its address, of a memory
     // write that was given to `send` at the device's port of the link, by the interface of its requester ID, while that
     // was in the RUN in which the write was admitted.
-    ensures byte_origin { InEvery (Unforged ByteOriginLaw)
+    ensures byte_origin { InEvery (IfNoForgery ByteOriginLaw)
         (run_seen S.seen O.seen words.now shelf.old shelf.new out.old out.new result) }
     // And each packet with T whose write is stored in the memory of an interface was sealed by a trusted send at the
     // host's port of its link or, on a stream between devices that the interface is bound to, by a send of the TLP's
     // owner, which was in RUN and bound to that stream; and since then the interface was in no other RUN.
-    ensures mmio_origin_law { InEvery (Unforged MmioOriginLaw)
+    ensures mmio_origin_law { InEvery (IfNoForgery MmioOriginLaw)
         (run_seen S.seen O.seen words.now shelf.old shelf.new out.old out.new result) }
 {
     lines_tell();

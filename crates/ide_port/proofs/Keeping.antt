@@ -4,7 +4,7 @@ use Rattle.ide_port.proofs.Terms.{◌≡◌, ℕ, suc, zero, ◌<◌, List, [], 
 use Rattle.ide_port.proofs.Terms.{Result, refl, ap, ◌∙◌, arith, slice_set, slice_get, nat_tests, Side}
 use Rattle.ide_port.proofs.Terms.{SubKind, StreamPlan, Packet, StreamState, Sending, KeyCall, StreamEnd}
 use Rattle.ide_port.proofs.Terms.{end_outcome, end_taken, called_end, SendRefusal, Inside, PortEnd, Found}
-use Rattle.ide_port.proofs.Terms.{found_stream, NoneWaits, AreStreamsOf, IsKept, packets_lent, delivered_at}
+use Rattle.ide_port.proofs.Terms.{found_stream, NoneWaits, AreStreamsOfPlans, IsKept, packets_lent, delivered_at}
 use Rattle.std.proofs.lemmas.List.{length-set}
 use Rattle.sub_stream.specs.declared.answer.MeasuredPacket.{MeasuredPacket}
 use Rattle.ide_port.specs.StreamSends.{IsSent}
@@ -100,7 +100,7 @@ lends-still xs i (Some k) x y lt is same = same-lent xs i k x y lt is same
 -- ---- no receiver waits
 
 pub none-found_stream : (side : Side) (limit : ℕ) (ss : List StreamPlan) (xs : List StreamEnd)
-    → AreStreamsOf side limit ss xs
+    → AreStreamsOfPlans side limit ss xs
     → (id : ℕ) (f : Found) → found_stream ss (map state_of xs) id ≡ Some f → NoneWaits f.state
 none-found_stream side limit [] [] h id f e u = absurd cc
 none-found_stream side limit [] (x ∷ xs) h id f e u = absurd h

@@ -160,8 +160,7 @@ state_is tx rx failed p (Held j n) a clear e =
     λ i. record {
       tx = tx;
       rx = (state_after (record { tx = tx; rx = rx; failed = failed }) p (Held j n)).rx;
-      failed =
-          (ap is_fail same ∙ sym clear) i;
+      failed = (ap is_fail same ∙ sym clear) i;
     }
 state_is tx rx failed p (Accepted j n unit) a clear e =
     let same : a ≡ answers.Accepted j n (length unit) = cc in

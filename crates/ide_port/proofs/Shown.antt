@@ -48,8 +48,7 @@ with_stream e id y = record e { states = changed_states e.plans e.states id y; d
 shown_same : (e : PortEnd) (k : KeyCall) (q : Place) (f : Found) → Waitless e → is_place q ≡ true
     → found_stream e.plans e.states q.stream ≡ Some f → slot_pair_at (with_stream e q.stream (after e k q f)) q
     ≡ option_map (slots_by k (unfinished_at e q)) (slot_pair_at e q)
-shown_same e k q f h here is =
-    rw (here, found_stream-changed_states e.plans e.states q.stream f (after e k q f) is, is)
+shown_same e k q f h here is = rw (here, found_stream-changed_states e.plans e.states q.stream f (after e k q f) is, is)
     (ap Some (moved-pair (sends_in e.name.side q.direction) (sub_from q.sub) k f.state (h.none q.stream f is)))
 
 shown_other : (e : PortEnd) (k : KeyCall) (p q : Place) (f : Found) → is_place q ≡ true

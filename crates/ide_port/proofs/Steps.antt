@@ -180,10 +180,9 @@ module _ (p : Inside) (e : PortEnd) (view : now p ≡ e) (kept : Keeps p) (c : P
       record { shows = grind (arith, nat_tests, out); moves = moves; slots = slots-step _ moves }
 
   pub stream_after_call-step : (place : ℕ) (u : SubKind) (x y : StreamEnd)
-      → IsLane p.plans c.place.stream c.place.sub place u
-      → x ≡ get_or p.streams.items place x → y ≡ called_end x c.place.direction u c.call
-      → IsCalled e (port_within p (slice_set p.streams.items place y) None) c
-      (Some (pair_in x c.place.direction u))
+      → IsLane p.plans c.place.stream c.place.sub place u → x ≡ get_or p.streams.items place x
+      → y ≡ called_end x c.place.direction u c.call
+      → IsCalled e (port_within p (slice_set p.streams.items place y) None) c (Some (pair_in x c.place.direction u))
   stream_after_call-step place u x y lane is after =
       let q = c.place in
       let k = there p kept q.stream place x lane.place_is is in

@@ -2,7 +2,7 @@
 use Rattle.ide_port.proofs.Terms.{◌≡◌, ◌≢◌, ℕ, suc, zero, ◌<◌, ◌≤◌, true, false, ◌==◌, List, [], ◌∷◌, length, map}
 use Rattle.ide_port.proofs.Terms.{get_or, Some, None, refl, sym, ap, subst, arith, slice_set, nat_tests, Side}
 use Rattle.ide_port.proofs.Terms.{StreamPlan, StreamState, no_stream, StreamEnd, reset_end, Found, found_stream}
-use Rattle.ide_port.proofs.Terms.{changed_states, IsStreamOf, AreStreamsOf, new_stream_ends}
+use Rattle.ide_port.proofs.Terms.{changed_states, IsStreamOfPlan, AreStreamsOfPlans, new_stream_ends}
 use Rattle.std.specs.List.{position_or_len}
 use Rattle.std.proofs.lemmas.List.Quantifiers.{position-Some}
 use Rattle.tlp_layout.specs.Choice.{plan_place}
@@ -52,10 +52,9 @@ absent ss xs id e = absent_from ss xs id (none_within ss id e)
 -- ---- all streams
 
 pub streams-new : (side : Side) (limit : ℕ) (ss : List StreamPlan)
-    → AreStreamsOf side limit ss (new_stream_ends side limit ss)
+    → AreStreamsOfPlans side limit ss (new_stream_ends side limit ss)
 streams-new side limit [] = tt
-streams-new side limit (s ∷ ss) =
-    (record { plan = refl; receivers = none-new }, streams-new side limit ss)
+streams-new side limit (s ∷ ss) = (record { plan = refl; receivers = none-new }, streams-new side limit ss)
 
 pub states-new : (side : Side) (limit : ℕ) (ss : List StreamPlan) → map state_of (new_stream_ends side limit ss)
     ≡ map (λ (s : StreamPlan). no_stream) ss
@@ -65,11 +64,11 @@ states-new side limit (s ∷ ss) = ap (λ xs. no_stream ∷ xs) (states-new side
 -- there are as many as plans, and a reset leaves streams of these plans, without keys
 pub record Resets (side : Side) (limit : ℕ) (ss : List StreamPlan) (xs : List StreamEnd) : Type 0 where
   pub same : length ss ≡ length xs
-  pub each : AreStreamsOf side limit ss (map reset_end xs)
+  pub each : AreStreamsOfPlans side limit ss (map reset_end xs)
   pub states : map state_of (map reset_end xs) ≡ map (λ (s : StreamPlan). no_stream) ss
 
 pub resets : (side : Side) (limit : ℕ) (ss : List StreamPlan) (xs : List StreamEnd)
-    → AreStreamsOf side limit ss xs → Resets side limit ss xs
+    → AreStreamsOfPlans side limit ss xs → Resets side limit ss xs
 resets side limit [] [] h = record { same = refl; each = tt; states = refl }
 resets side limit [] (x ∷ xs) h = absurd h
 resets side limit (s ∷ ss) [] h = absurd h
@@ -86,15 +85,16 @@ resets side limit (s ∷ ss) (x ∷ xs) h =
 pub record IsPlaced (side : Side) (limit : ℕ) (ss : List StreamPlan) (xs : List StreamEnd) (id place : ℕ)
     (x : StreamEnd) : Type 0 where
   pub plan : StreamPlan
-  pub of_plan : IsStreamOf side limit plan x
+  pub of_plan : IsStreamOfPlan side limit plan x
   pub is_found : found_stream ss (map state_of xs) id ≡ Some (record { plan = plan; state = x.state })
   pub change : (y : StreamEnd) → map state_of (slice_set xs place y)
       ≡ changed_states ss (map state_of xs) plan.id y.state
-  pub keeps : (y : StreamEnd) → IsStreamOf side limit plan y → AreStreamsOf side limit ss (slice_set xs place y)
+  pub keeps : (y : StreamEnd) → IsStreamOfPlan side limit plan y
+      → AreStreamsOfPlans side limit ss (slice_set xs place y)
 
 placed_at : (side : Side) (limit : ℕ) (ss : List StreamPlan) (xs : List StreamEnd) (id place : ℕ) (x : StreamEnd)
     (d : StreamPlan)
-    → AreStreamsOf side limit ss xs → place < length ss → ((get_or ss place d).id == id) ≡ true
+    → AreStreamsOfPlans side limit ss xs → place < length ss → ((get_or ss place d).id == id) ≡ true
     → ((k : ℕ) → k < place → ((get_or ss k d).id == id) ≡ false) → x ≡ get_or xs place x
     → IsPlaced side limit ss xs id place x
 placed_at side limit [] xs id place x d h lt at before is = absurd (omega (arith, lt))
@@ -102,7 +102,7 @@ placed_at side limit (s ∷ ss) [] id place x d h lt at before is = absurd h
 placed_at side limit (s ∷ ss) (z ∷ xs) id zero x d h lt at before is =
     record {
       plan = s;
-      of_plan = subst (λ (w : StreamEnd). IsStreamOf side limit s w) (sym is) h.0;
+      of_plan = subst (λ (w : StreamEnd). IsStreamOfPlan side limit s w) (sym is) h.0;
       is_found = rw at (ap (λ (w : StreamEnd). Some (let f : Found = record { plan = s; state = w.state } in f))
           (sym is));
       change = λ y. grind (arith, nat_tests);
@@ -122,14 +122,14 @@ placed_at side limit (s ∷ ss) (z ∷ xs) id (suc place) x d h lt at before is 
     }
 
 pub within : (side : Side) (limit : ℕ) (ss : List StreamPlan) (xs : List StreamEnd) (id place : ℕ)
-    → AreStreamsOf side limit ss xs → plan_place ss id ≡ Some place → place < length xs
+    → AreStreamsOfPlans side limit ss xs → plan_place ss id ≡ Some place → place < length xs
 within side limit [] xs id place h e = absurd cc
 within side limit (s ∷ ss) xs id place h e =
     let lt = (position-Some (λ (s : StreamPlan). s.id == id) (s ∷ ss) place s e).0 in
     omega (arith, lt, (resets side limit (s ∷ ss) xs h).same)
 
 pub placed : (side : Side) (limit : ℕ) (ss : List StreamPlan) (xs : List StreamEnd) (id place : ℕ) (x : StreamEnd)
-    → AreStreamsOf side limit ss xs
+    → AreStreamsOfPlans side limit ss xs
     → plan_place ss id ≡ Some place → x ≡ get_or xs place x → IsPlaced side limit ss xs id place x
 placed side limit [] xs id place x h e is = absurd cc
 placed side limit (s ∷ ss) xs id place x h e is =

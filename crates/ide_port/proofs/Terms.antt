@@ -1,12 +1,12 @@
 -- Words that several proofs take.
 pub use Rattle.key_messages.specs.declared.place.Place.{Place}
 pub use Rattle.key_messages.specs.{PlaceCall, SlotsAfter, place_call, shown_pair, slots_by}
-pub use Rattle.key_messages.specs.Calls.{go_answer_at, is_there, program_answer_at}
+pub use Rattle.key_messages.specs.Calls.{go_answer_of_slots, is_there, program_answer_at}
 pub use Rattle.ide_types.specs.declared.stream.StreamPlan.{StreamPlan}
 pub use Rattle.ide_port.specs.Calls.{called_port, called_states, has_open_unit, is_place, slot_pair_at, stream_at_place}
 pub use Rattle.ide_port.specs.Calls.{unfinished_at}
 pub use Rattle.ide_port.specs.Ends.{Found, PortEnd, changed_states, found_stream, reset_port}
-pub use Rattle.ide_port.specs.Kept.{AreStreamsOf, IsKept, IsStreamOf, NoneWaits, arrival_said, delivered_at}
+pub use Rattle.ide_port.specs.Kept.{AreStreamsOfPlans, IsKept, IsStreamOfPlan, NoneWaits, arrival_said, delivered_at}
 pub use Rattle.ide_port.specs.Kept.{is_waiting, place_and_sub, packets_lent, new_stream_ends, stream_of}
 pub use Rattle.ide_port.specs.declared.port.Port.TheInside.{Inside}
 pub use Rattle.ide_prefix.specs.Packet.{Packet, packet_bytes, sync_head}

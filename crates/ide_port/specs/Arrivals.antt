@@ -4,8 +4,7 @@ use Rattle.ide_prefix.specs.declared.fault.PacketFault.{PacketFault}
 use Rattle.ide_prefix.specs.Packet.{Packet}
 use Rattle.ide_prefix.specs.Reading.{CutValue, PlainTlp, IdePacket}
 use Rattle.spec_stream.specs.Stream.{PacketOutcome, Insecure as IsInsecure, NotKeyed as IsKeyless, Failed}
-use Rattle.spec_stream.specs.Stream.{Held as IsHeld}
-use Rattle.spec_stream.specs.Stream.{Accepted as IsAccepted, stream_outcome, state_after, unit_name}
+use Rattle.spec_stream.specs.Stream.{Held as IsHeld, Accepted as IsAccepted, stream_outcome, state_after, unit_name}
 use Rattle.stream_lanes.specs.{opened_if_accepted}
 use Rattle.ide_port.specs.declared.answer.Arrival.{Arrival}
 use Rattle.ide_port.specs.declared.answer.Arrival.TheVariants.{Malformed, Plain, Unknown, Insecure, NotKeyed, Fail}

@@ -39,14 +39,14 @@ stream_of side limit s x = record {
   delivered = x.delivered;
 }
 
-pub record IsStreamOf (side : Side) (limit : ℕ) (s : StreamPlan) (x : StreamEnd) : Type 0 where
+pub record IsStreamOfPlan (side : Side) (limit : ℕ) (s : StreamPlan) (x : StreamEnd) : Type 0 where
   pub plan : x ≡ stream_of side limit s x
   pub receivers : NoneWaits x.state
 
-abbrev pub AreStreamsOf : Side → ℕ → List StreamPlan → List StreamEnd → Type 0
-AreStreamsOf side limit [] [] = Unit {0}
-AreStreamsOf side limit (s ∷ ss) (x ∷ xs) = IsStreamOf side limit s x × AreStreamsOf side limit ss xs
-AreStreamsOf side limit ss xs = ⊥
+abbrev pub AreStreamsOfPlans : Side → ℕ → List StreamPlan → List StreamEnd → Type 0
+AreStreamsOfPlans side limit [] [] = Unit {0}
+AreStreamsOfPlans side limit (s ∷ ss) (x ∷ xs) = IsStreamOfPlan side limit s x × AreStreamsOfPlans side limit ss xs
+AreStreamsOfPlans side limit ss xs = ⊥
 
 abbrev pub new_stream_ends : Side → ℕ → List StreamPlan → List StreamEnd
 new_stream_ends side limit plans = map (λ (s : StreamPlan). new_end side s.id s.aggregation s.closed limit) plans
@@ -65,7 +65,7 @@ delivered_at xs (Some place) = packets_lent (slice_get xs place)
 -- the streams are those of the plans, and one of them lends
 pub record IsKept (side : Side) (limit : ℕ) (plans : List StreamPlan) (streams : List StreamEnd) (lent : Option ℕ)
     : Type 0 where
-  pub each : AreStreamsOf side limit plans streams
+  pub each : AreStreamsOfPlans side limit plans streams
   pub lends : (place : ℕ) → lent ≡ Some place → place < length streams
 
 -- ---- one stream

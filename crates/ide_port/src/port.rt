@@ -198,13 +198,13 @@ impl Port {
             }
             (Ok(view), Some(stream)) => {
                 let trusted = trusting.is_trusted(&view.head(), stream.id);
-                self.send_on(stream, tlp.bytes(), &view, more, trusted, out)
+                self.send_on_stream(stream, tlp.bytes(), &view, more, trusted, out)
             }
         }
     }
 
     // Sends a TLP on a stream.
-    fn send_on(
+    fn send_on_stream(
         &mut self,
         chosen: ChosenStream,
         bytes: &[u8],

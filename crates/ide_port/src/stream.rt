@@ -56,7 +56,7 @@ fn sends(side: Side, direction: Direction) -> bool
 }
 
 // The status of a stream, by whether it failed, and whether some or all of its sub-streams have a Live key.
-fn status_of(failed: bool, some: bool, all: bool) -> StreamStatus
+fn status_by_keys(failed: bool, some: bool, all: bool) -> StreamStatus
     ensures { result ≡ keyed_status failed some all }
 {
     match (failed, some, all) {
@@ -205,7 +205,7 @@ impl Stream {
     {
         let some = self.directions.tx.any_live() || self.directions.rx.any_live();
         let all = self.directions.tx.all_live() && self.directions.rx.all_live();
-        status_of(self.directions.failed, some, all)
+        status_by_keys(self.directions.failed, some, all)
     }
 
     /// The key set of the Live slot of a sender; `None` if none is Live.

@@ -15,8 +15,7 @@ lent_tag (Some t) = t.now
 
 -- the packet that a view shows: lent bytes are the bytes
 abbrev pub packet_of_view : PacketView → Packet
-packet_of_view v =
-    record { prefix = v.prefix; head = v.head.now; body = v.body.now; tag = lent_tag v.tag }
+packet_of_view v = record { prefix = v.prefix; head = v.head.now; body = v.body.now; tag = lent_tag v.tag }
 
 abbrev pub cut_value : Cut → CutValue
 cut_value Plain = PlainTlp

@@ -44,8 +44,7 @@ GoesOffInHead s fault = (f : TlpFault) × IsHeadFault (head_slice s) f × (fault
 -- after the prefix stands this header, or a sync packet's bytes
 abbrev pub IsInClear : List ℕ → Option HeadView → Type 0
 IsInClear s None = begins_sync (prefix_read s).sub (slice_index s 4) ≡ true
-IsInClear s (Some head) =
-    (begins_sync (prefix_read s).sub (slice_index s 4) ≡ false) × SpellsHead head (head_slice s)
+IsInClear s (Some head) = (begins_sync (prefix_read s).sub (slice_index s 4) ≡ false) × SpellsHead head (head_slice s)
 
 -- the length of that, and of the payload
 pub record SizesAre (s : List ℕ) (tlp : Option HeadView) (size wanted : ℕ) : Type 0 where

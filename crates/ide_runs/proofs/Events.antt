@@ -70,8 +70,7 @@ few_pieces text = omega (arith, length-slice_split (λ b. b == 10) text, count_b
 allowed_on : (plan : Plan) → FitsPlan plan → (events : List ScriptEvent) → AllByRecursion IsAllowedInScript events
     → AllByRecursion IsAllowed (map (event_of plan) events)
 allowed_on plan fits [] each = tt
-allowed_on plan fits (e ∷ events) each =
-    (events_are_allowed plan fits e each.0, allowed_on plan fits events each.1)
+allowed_on plan fits (e ∷ events) each = (events_are_allowed plan fits e each.0, allowed_on plan fits events each.1)
 
 pub events_allowed : (plan : Plan) → FitsPlan plan → (file : Text) → AreAllowed (events_on plan (script_of file))
 events_allowed plan fits file =

@@ -8,8 +8,8 @@ use Rattle.file_runs.specs.declared.ends.End.TheVariants as end
 use Rattle.file_runs.specs.declared.ends.Fault.{Fault}
 use Rattle.file_runs.specs.declared.ends.Fault.TheVariants as fault
 use Rattle.file_runs.specs.Front.{GaveIfTold, bytes_of}
-use Rattle.file_runs.specs.Gain.{Text, Gained}
-use Rattle.file_runs.specs.Gathering.{GainedAt, ReadAsFar, ReadAsFarOf}
+use Rattle.file_runs.specs.Gain.{Text, HasGained}
+use Rattle.file_runs.specs.Gathering.{HasGainedAtFault, ReadAsFar, ReadAsFarOfContents}
 use Rattle.file_runs.specs.Outcome.{Due, EndsDue, EndsToldOrBlind}
 use Rattle.file_runs.proofs.Joins.{joined}
 use Rattle.file_runs.proofs.FileNames.{asks_as, asks_more}
@@ -31,16 +31,15 @@ abbrev pub run_on : (topology script : Text) → Contents → Option Due
 run_on topology script contents = run_due (contents topology) (contents script)
 
 abbrev pub judge_on : (topology script verdicts : Text) → Contents → Option Due
-judge_on topology script verdicts contents =
-    judge_due (contents topology) (contents script) (contents verdicts)
+judge_on topology script verdicts contents = judge_due (contents topology) (contents script) (contents verdicts)
 
-held_is : (h0 h1 : Option Text) (text due : Text) → h0 ≡ Some [] → h1 ≡ Some text → Gained h0 h1 due → text ≡ due
+held_is : (h0 h1 : Option Text) (text due : Text) → h0 ≡ Some [] → h1 ≡ Some text → HasGained h0 h1 due → text ≡ due
 held_is h0 h1 text due none holds is =
     let there : Some text ≡ Some due = sym holds ∙ is ∙ ap (option_map (λ (t : Text). t ++ due)) none in
     cc
 
 due_told : (due : Option Due) (read write rest : Type 0) (s0 s1 : ℕ) (h0 h1 : Option Text) (e : End) (text : Text)
-    → h0 ≡ Some [] → h1 ≡ Some text → EndsDue due read write ((s1 ≡ s0) × rest) (Gained h0 h1) (Ok e)
+    → h0 ≡ Some [] → h1 ≡ Some text → EndsDue due read write ((s1 ≡ s0) × rest) (HasGained h0 h1) (Ok e)
     → (s1 ≡ s0) × (due ≡ Some (e, text))
 due_told None read write rest s0 s1 h0 h1 e text none holds ran = absurd ran
 due_told (Some (to, what)) read write rest s0 s1 h0 h1 e text none holds ran =
@@ -50,7 +49,7 @@ due_told (Some (to, what)) read write rest s0 s1 h0 h1 e text none holds ran =
 -- it came to this end, and its text is what the sink holds
 pub ran_to : (told : Option Contents) (due : Contents → Option Due) (read write rest : Type 0) (s0 s1 : ℕ)
     (h0 h1 : Option Text) (e : End) (text : Text) → h0 ≡ Some [] → h1 ≡ Some text
-    → EndsToldOrBlind told due read write ((s1 ≡ s0) × rest) (Gained h0 h1) (Ok e) → (s1 ≡ s0)
+    → EndsToldOrBlind told due read write ((s1 ≡ s0) × rest) (HasGained h0 h1) (Ok e) → (s1 ≡ s0)
     × IsDue told due (e, text)
 ran_to None due read write rest s0 s1 h0 h1 e text none holds ran = (ran.0, tt)
 ran_to (Some contents) due read write rest s0 s1 h0 h1 e text none holds ran =
@@ -60,7 +59,7 @@ ran_to (Some contents) due read write rest s0 s1 h0 h1 e text none holds ran =
 
 cut_due : (due other : Option Due) (read write0 quiet0 write quiet : Type 0) (gained : Text → Type 0) (h : Option Text)
     (e : Fault) → (write0 → ⊥) → (due ≡ None → other ≡ None) → EndsDue due read write0 quiet0 gained (Err e)
-    → EndsDue other read write quiet (Gained h h) (Err e)
+    → EndsDue other read write quiet (HasGained h h) (Err e)
 cut_due None other read write0 quiet0 write quiet gained h fault.Read never none ran = rw (none refl) (gained_nothing h)
 cut_due None other read write0 quiet0 write quiet gained h fault.Write never none ran = absurd ran
 cut_due None other read write0 quiet0 write quiet gained h fault.Memory never none ran =
@@ -70,8 +69,7 @@ cut_due (Some due) None read write0 quiet0 write quiet gained h fault.Write neve
 cut_due (Some due) None read write0 quiet0 write quiet gained h fault.Memory never none ran = gained_nothing h
 cut_due (Some due) (Some last) read write0 quiet0 write quiet gained h fault.Read never none ran =
     (ran.0, ([], (last.1, refl), inl refl, gained_nothing h))
-cut_due (Some due) (Some last) read write0 quiet0 write quiet gained h fault.Write never none ran =
-    absurd (never ran.0)
+cut_due (Some due) (Some last) read write0 quiet0 write quiet gained h fault.Write never none ran = absurd (never ran.0)
 cut_due (Some due) (Some last) read write0 quiet0 write quiet gained h fault.Memory never none ran =
     ([], (last.1, refl), gained_nothing h)
 
@@ -81,7 +79,7 @@ none_due verdicts due is = rw is refl
 pub cut_run : (told : Option Contents) (topology script verdicts : Text) (read write0 quiet0 write quiet : Type 0)
     (gained : Text → Type 0) (h : Option Text) (e : Fault) → (write0 → ⊥)
     → EndsToldOrBlind told (run_on topology script) read write0 quiet0 gained (Err e)
-    → EndsToldOrBlind told (judge_on topology script verdicts) read write quiet (Gained h h) (Err e)
+    → EndsToldOrBlind told (judge_on topology script verdicts) read write quiet (HasGained h h) (Err e)
 cut_run None topology script verdicts read write0 quiet0 write quiet gained h fault.Read never ran = ran
 cut_run None topology script verdicts read write0 quiet0 write quiet gained h fault.Write never ran = absurd (never ran)
 cut_run None topology script verdicts read write0 quiet0 write quiet gained h fault.Memory never ran = tt
@@ -136,7 +134,7 @@ pub given_run : (far : Contents → (given ahead : ℕ) → Type 0) (s0 s1 : She
     → NoLineOf (λ contents n. []) (λ contents n. []) s0.contents s0.given s1.given
 given_run far s0 s1 read = by_told s0.contents read
   where
-    by_told : (told : Option Contents) → ReadAsFarOf far told s0 s1
+    by_told : (told : Option Contents) → ReadAsFarOfContents far told s0 s1
         → NoLineOf (λ contents n. []) (λ contents n. []) told s0.given s1.given
     by_told None read = tt
     by_told (Some contents) (n, gave, there) = (n, refl, refl, gave)
@@ -158,7 +156,7 @@ given_both verdicts s0 s1 s2 same one two =
 
 pub wrote_nothing : (s0 s1 : ShelfSeen) (o0 o1 : SinkSeen) (r : Result End Fault)
     → NoLineOf (λ contents n. []) (λ contents n. []) s0.contents s0.given s1.given
-    → IfErr r (λ e. GainedAt e o0.held o1.held [])
+    → IfErr r (λ e. HasGainedAtFault e o0.held o1.held [])
     → IfErr r (λ e. WroteBy e (λ contents n. []) (λ contents n. []) s0 s1 o0 o1)
 wrote_nothing s0 s1 o0 o1 (Ok e) none gained = tt
 wrote_nothing s0 s1 o0 o1 (Err e) none gained = no_line_wrote_of e (λ contents n. []) (λ contents n. []) s0 s1 o0 o1
@@ -194,9 +192,10 @@ far_judged topology script verdicts text s0 s1 s2 (Ok e) same is one two =
     by_told s0.contents is one (subst (λ (told : Option Contents). GaveIfTold told verdicts s1.given s2.given) same two)
   where
     by_told : (told : Option Contents) → IsDue told (run_on topology script) (end.Done, text)
-        → ReadAsFarOf (λ contents. RunNoFurther (contents topology) (contents script)) told s0 s1
+        → ReadAsFarOfContents (λ contents. RunNoFurther (contents topology) (contents script)) told s0 s1
         → GaveIfTold told verdicts s1.given s2.given
-        → ReadAsFarOf (λ contents. JudgeNoFurther (contents topology) (contents script) (contents verdicts)) told s0 s2
+        → ReadAsFarOfContents (λ contents. JudgeNoFurther (contents topology) (contents script) (contents verdicts))
+        told s0 s2
     by_told None is one two = tt
     by_told (Some contents) is (n, gave, far) (m, le, more) = (
       n + m,
@@ -231,8 +230,9 @@ far_left topology script verdicts e text s0 s1 (Err f) other is one = tt
 far_left topology script verdicts e text s0 s1 (Ok x) other is one = by_told s0.contents is one
   where
     by_told : (told : Option Contents) → IsDue told (run_on topology script) (e, text)
-        → ReadAsFarOf (λ contents. RunNoFurther (contents topology) (contents script)) told s0 s1
-        → ReadAsFarOf (λ contents. JudgeNoFurther (contents topology) (contents script) (contents verdicts)) told s0 s1
+        → ReadAsFarOfContents (λ contents. RunNoFurther (contents topology) (contents script)) told s0 s1
+        → ReadAsFarOfContents (λ contents. JudgeNoFurther (contents topology) (contents script) (contents verdicts))
+        told s0 s1
     by_told None is one = tt
     by_told (Some contents) is (n, gave, far) = (
       n,

@@ -9,9 +9,9 @@ use Rattle.std.proofs.lemmas.Bool.Decides.{nat_tests}
 use Rattle.std.proofs.lemmas.List.{length-take-le, take_all}
 use Rattle.cli_files.specs.Outside.{Contents, Rose, ShelfSeen, SinkSeen}
 use Rattle.ide_types.specs.declared.plan.Plan.{Plan}
-use Rattle.file_runs.specs.Gain.{Text, Gained}
+use Rattle.file_runs.specs.Gain.{Text, HasGained}
 use Rattle.file_runs.specs.Front.{FrontIn, FrontIfTold, Gave, GaveAtMost, GaveIfTold, bytes_of}
-use Rattle.file_runs.specs.Gathering.{GainedAt, WroteEnded, WroteEndedIn, WroteEndedIfTold, open_line}
+use Rattle.file_runs.specs.Gathering.{HasGainedAtFault, WroteEnded, WroteEndedInFile, WroteEndedIfTold, open_line}
 use Rattle.file_runs.specs.Outcome.{Due, EndsToldOrBlind, Ran}
 use Rattle.file_runs.specs.declared.ends.Fault.TheVariants as fault
 use Rattle.file_runs.specs.declared.front.Unread.TheVariants as unread
@@ -21,37 +21,40 @@ use Rattle.file_runs.specs.declared.ends.Fault.{Fault}
 use Rattle.file_runs.proofs.WholeFiles.{IsDue, SameDue, stopped}
 use Rattle.file_runs.proofs.Joins.{gained_none, joined, some_gained}
 use Rattle.ide_runs.specs.declared.topologies.Loaded.{Loaded}
-use Rattle.ide_runs.specs.SoFar.{WroteBy, WroteByIn, WroteByIfTold, files_so_far, loaded_so_far, script_given}
+use Rattle.ide_runs.specs.SoFar.{WroteBy, WroteByLines, WroteByIfTold, files_so_far, loaded_so_far, script_given}
 use Rattle.ide_runs.specs.declared.topologies.Loaded.TheVariants.{Sound, Faulty, Long}
-use Rattle.ide_runs.specs.Loading.{GaveAllOf, Loads, LoadedIn, LoadedIfTold, LoadCut, topology_limit, loaded_within}
+use Rattle.ide_runs.specs.Loading.{GaveAllOf, Loads, IsLoadedInFile, IsLoadedIfTold, LoadCut, topology_limit}
+use Rattle.ide_runs.specs.Loading.{loaded_within_limit}
 use Rattle.ide_runs.specs.Topologies.{loaded_topology}
 use Rattle.ide_runs.specs.Reads.{RanPast}
 use Rattle.ide_runs.specs.Script.{due_of_files}
 
 -- one byte more than those that count tells what the whole file gives
 same_loaded : {L : Type 0} (long : L) (by : Text → L) (whole : Text) (b : Bool) → nat_lt topology_limit (length whole)
-    ≡ b → loaded_within long by (take 1048577 whole) ≡ loaded_within long by whole
+    ≡ b → loaded_within_limit long by (take 1048577 whole) ≡ loaded_within_limit long by whole
 same_loaded long by whole true over =
     let longer : nat_lt topology_limit (length (take 1048577 whole))
     ≡ true = let n = length-take-le 1048577 whole (grind (arith, nat_tests)) in grind (arith, nat_tests) in
     rw (over, longer) refl
-same_loaded long by whole false over = ap (loaded_within long by) (take_all 1048577 whole (grind (arith, nat_tests)))
+same_loaded long by whole false over = ap (loaded_within_limit long by)
+    (take_all 1048577 whole (grind (arith, nat_tests)))
 
 front_in : {L : Type 0} (long : L) (by : Text → L) (file : Option Text) (read : Text) (l : L)
-    → FrontIn 1048577 file read → l ≡ loaded_within long by read → LoadedIn (loaded_within long by) file l
+    → FrontIn 1048577 file read → l ≡ loaded_within_limit long by read
+    → IsLoadedInFile (loaded_within_limit long by) file l
 front_in long by None read l is e = absurd is
-front_in long by (Some whole) read l is e = e ∙ ap (loaded_within long by) is ∙ same_loaded long by whole
+front_in long by (Some whole) read l is e = e ∙ ap (loaded_within_limit long by) is ∙ same_loaded long by whole
     (nat_lt topology_limit (length whole)) refl
 
 front_of : {L : Type 0} (long : L) (by : Text → L) (told : Option Contents) (name read : Text) (l : L)
-    → FrontIfTold told name 1048577 read → l ≡ loaded_within long by read
-    → LoadedIfTold (loaded_within long by) told name l
+    → FrontIfTold told name 1048577 read → l ≡ loaded_within_limit long by read
+    → IsLoadedIfTold (loaded_within_limit long by) told name l
 front_of long by None name read l is e = tt
 front_of long by (Some contents) name read l is e = front_in long by (contents name) read l is e
 
 pub loads_front : {L : Type 0} (long : L) (by : Text → L) (told : Option Contents) (name read : Text)
-    (r : Result L Fault) → FrontIfTold told name 1048577 read → IfOk r (λ l. l ≡ loaded_within long by read)
-    → Loads (loaded_within long by) told name r
+    (r : Result L Fault) → FrontIfTold told name 1048577 read → IfOk r (λ l. l ≡ loaded_within_limit long by read)
+    → Loads (loaded_within_limit long by) told name r
 loads_front long by told name read (Ok l) is e = front_of long by told name read l is e
 loads_front long by told name read (Err f) is e = tt
 
@@ -106,13 +109,13 @@ ran_gave (Ok e) a b c few more = λ is.
 ran_gave (Err f) a b c few more = more
 
 -- what is due of what was loaded
-due_in : {L : Type 0} (by : Text → L) (due : L → Due) (file : Option Text) (l : L) → LoadedIn by file l
+due_in : {L : Type 0} (by : Text → L) (due : L → Due) (file : Option Text) (l : L) → IsLoadedInFile by file l
     → option_map (λ t. due (by t)) file ≡ Some (due l)
 due_in by due None l is = absurd is
 due_in by due (Some bytes) l is = ap (λ x. Some (due x)) (sym is)
 
 pub due_loaded : {L : Type 0} (by : Text → L) (due : L → Due) (told : Option Contents) (name : Text) (l : L)
-    → LoadedIfTold by told name l → IsDue told (λ contents. option_map (λ t. due (by t)) (contents name)) (due l)
+    → IsLoadedIfTold by told name l → IsDue told (λ contents. option_map (λ t. due (by t)) (contents name)) (due l)
 due_loaded by due None name l is = tt
 due_loaded by due (Some contents) name l is = due_in by due (contents name) l is
 
@@ -120,7 +123,7 @@ due_loaded by due (Some contents) name l is = due_in by due (contents name) l is
 pub cut_by_load : (told : Option Contents) (due : Contents → Option Due) (name : Text) (s0 s1 : ℕ)
     (write quiet : Type 0) (h : Option Text) (e : Fault)
     → ((contents : Contents) → contents name ≡ None → due contents ≡ None) → LoadCut s0 s1 told name e
-    → EndsToldOrBlind told due (Rose s0 s1) write quiet (Gained h h) (Err e)
+    → EndsToldOrBlind told due (Rose s0 s1) write quiet (HasGained h h) (Err e)
 cut_by_load told due name s0 s1 write quiet h fault.Read lacks c = stopped told due name s0 s1 write quiet h
     unread.Fault
     lacks c
@@ -131,13 +134,14 @@ cut_by_load told due name s0 s1 write quiet h fault.Memory lacks c = stopped tol
 -- ---- what is due, two ways
 
 due_there : (due : Plan → Text → Due) (topology script : Option Text) (plan : Plan)
-    → LoadedIn loaded_topology topology (Sound plan) → option_map (due plan) script ≡ due_of_files due topology script
+    → IsLoadedInFile loaded_topology topology (Sound plan) → option_map (due plan) script
+    ≡ due_of_files due topology script
 due_there due None script plan is = absurd is
 due_there due (Some bytes) script plan is = rw (← is) refl
 
 -- once a topology is loaded, what is due is the script's
 pub due_behind_load : (due : Plan → Text → Due) (told : Option Contents) (topology script : Text) (plan : Plan)
-    → LoadedIfTold loaded_topology told topology (Sound plan)
+    → IsLoadedIfTold loaded_topology told topology (Sound plan)
     → SameDue told (λ contents. option_map (due plan) (contents script))
     (λ contents. due_of_files due (contents topology) (contents script))
 due_behind_load due None topology script plan is = tt
@@ -190,7 +194,8 @@ no_line_at_first text lines (Some contents) given none =
     (0, (none contents).0, (none contents).1, (omega arith, omega arith))
 
 no_line_wrote_in : (e : Fault) (text lines : ℕ → Text) (s0 s1 : ShelfSeen) (o0 o1 : SinkSeen)
-    → NoLineIn text lines s0.given s1.given → GainedAt e o0.held o1.held [] → WroteByIn e text lines s0 s1 o0 o1
+    → NoLineIn text lines s0.given s1.given → HasGainedAtFault e o0.held o1.held []
+    → WroteByLines e text lines s0 s1 o0 o1
 no_line_wrote_in e text lines s0 s1 o0 o1 (n, no_text, no_bytes, gave) gained = record {
   given = n;
   ran = n;
@@ -198,11 +203,11 @@ no_line_wrote_in e text lines s0 s1 o0 o1 (n, no_text, no_bytes, gave) gained = 
   most = omega arith;
   all_but = omega arith;
   short = subst (λ (t : Text). length (open_line t) ≤ 20000) (sym no_bytes) (omega arith);
-  gained = subst (λ (t : Text). GainedAt e o0.held o1.held t) (sym no_text) gained;
+  gained = subst (λ (t : Text). HasGainedAtFault e o0.held o1.held t) (sym no_text) gained;
 }
 
 pub no_line_wrote_of : (e : Fault) (text lines : Contents → ℕ → Text) (s0 s1 : ShelfSeen) (o0 o1 : SinkSeen)
-    → NoLineOf text lines s0.contents s0.given s1.given → GainedAt e o0.held o1.held []
+    → NoLineOf text lines s0.contents s0.given s1.given → HasGainedAtFault e o0.held o1.held []
     → WroteBy e text lines s0 s1 o0 o1
 no_line_wrote_of e text lines s0 s1 o0 o1 none gained = by_told s0.contents none
   where
@@ -273,16 +278,15 @@ ended_by text name s0 s1 o0 o1 (Err e) wrote = by_told s0.contents wrote
       gave = wrote.gave;
       most = wrote.most;
       all_but = wrote.all_but;
-      short =
-          wrote.short;
+      short = wrote.short;
       gained = wrote.gained;
     }
 
 -- of the script after a topology that was wholly read
 run_ended_in : (due : Plan → Text → Text) (e : Fault) (topology script : Option Text) (plan : Plan)
-    (s0 s1 s2 : ShelfSeen) (o0 o1 : SinkSeen) → LoadedIn loaded_topology topology (Sound plan)
-    → Gave s0.given (length (bytes_of topology)) s1.given → WroteEndedIn e (due plan) (bytes_of script) s1 s2 o0 o1
-    → WroteByIn e (λ n. files_so_far due topology script n) (λ n. script_given topology script n) s0 s2 o0 o1
+    (s0 s1 s2 : ShelfSeen) (o0 o1 : SinkSeen) → IsLoadedInFile loaded_topology topology (Sound plan)
+    → Gave s0.given (length (bytes_of topology)) s1.given → WroteEndedInFile e (due plan) (bytes_of script) s1 s2 o0 o1
+    → WroteByLines e (λ n. files_so_far due topology script n) (λ n. script_given topology script n) s0 s2 o0 o1
 run_ended_in due e None script plan s0 s1 s2 o0 o1 is all wrote = absurd is
 run_ended_in due e (Some file) script plan s0 s1 s2 o0 o1 is all wrote =
     let ran = wrote.ran in
@@ -299,12 +303,13 @@ run_ended_in due e (Some file) script plan s0 s1 s2 o0 o1 is all wrote =
       most = omega (arith, wrote.most);
       all_but = omega (arith, wrote.all_but);
       short = subst (λ (t : Text). length (open_line t) ≤ 20000) bytes wrote.short;
-      gained = subst (λ (t : Text). GainedAt e o0.held o1.held t) text wrote.gained;
+      gained = subst (λ (t : Text). HasGainedAtFault e o0.held o1.held t) text wrote.gained;
     }
 
 pub run_ended : (due : Plan → Text → Text) (topology script : Text) (plan : Plan) (s0 s1 s2 : ShelfSeen)
     (o0 o1 : SinkSeen) (r : Result End Fault) → s1.contents ≡ s0.contents
-    → LoadedIfTold loaded_topology s0.contents topology (Sound plan) → GaveAllOf s0.contents topology s0.given s1.given
+    → IsLoadedIfTold loaded_topology s0.contents topology (Sound plan)
+    → GaveAllOf s0.contents topology s0.given s1.given
     → IfErr r (λ e. WroteEnded e (due plan) script s1 s2 o0 o1)
     → IfErr r (λ e. WroteBy e (λ contents n. files_so_far due (contents topology) (contents script) n)
     (λ contents n. script_given (contents topology) (contents script) n) s0 s2 o0 o1)
@@ -312,7 +317,7 @@ run_ended due topology script plan s0 s1 s2 o0 o1 (Ok e) same is all wrote = tt
 run_ended due topology script plan s0 s1 s2 o0 o1 (Err e) same is all wrote = by_told s0.contents is all
     (subst (λ (told : Option Contents). WroteEndedIfTold e (due plan) told script s1 s2 o0 o1) same wrote)
   where
-    by_told : (told : Option Contents) → LoadedIfTold loaded_topology told topology (Sound plan)
+    by_told : (told : Option Contents) → IsLoadedIfTold loaded_topology told topology (Sound plan)
         → GaveAllOf told topology s0.given s1.given → WroteEndedIfTold e (due plan) told script s1 s2 o0 o1
         → WroteByIfTold e (λ contents n. files_so_far due (contents topology) (contents script) n)
         (λ contents n. script_given (contents topology) (contents script) n) told s0 s2 o0 o1

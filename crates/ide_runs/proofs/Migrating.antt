@@ -14,12 +14,12 @@ use Rattle.file_runs.specs.declared.ends.Fault.{Fault}
 use Rattle.file_runs.specs.declared.ends.Fault.TheVariants as fault
 use Rattle.file_runs.specs.declared.front.Unread.{Unread}
 use Rattle.file_runs.specs.Front.{FrontIfTold, Gave, UnreadCause}
-use Rattle.file_runs.specs.Gain.{Text, Gained}
+use Rattle.file_runs.specs.Gain.{Text, HasGained}
 use Rattle.file_runs.proofs.WholeFiles.{fault_of, gained_nothing, ran_after, stopped}
 use Rattle.ide_runs.specs.declared.topologies.Loaded.TheVariants.{Sound, Long}
 use Rattle.ide_runs.specs.Loading.{topology_limit}
-use Rattle.ide_runs.specs.Migrating.{IsFailure, MigratedFor, MigratesFile, WritesMigrated}
-use Rattle.ide_runs.specs.Topologies.{by_plan, loaded_topology, migrate_due, migrated_as}
+use Rattle.ide_runs.specs.Migrating.{IsFailure, IsFileMigrated, MigratesFile, WritesMigrated}
+use Rattle.ide_runs.specs.Topologies.{by_plan, loaded_topology, migrate_due, migrated_as_text}
 use Rattle.ide_runs.proofs.Loads.{due_loaded, loads_front}
 
 sound_long : (plan : Plan) → Long ≡ Sound plan → ⊥
@@ -65,17 +65,17 @@ by_told (Some contents) name front text r read migrates = migrates_file contents
 
 pub migrated_file : (name front : Text) (s0 s1 : ShelfSeen) (o0 o1 : SinkSeen) (r : Result End Fault)
     → FrontIfTold s0.contents name 1048577 front → s1.faults ≡ s0.faults → WritesMigrated front o0 o1 r
-    → MigratedFor name s0 s1 o0 o1 r
+    → IsFileMigrated name s0 s1 o0 o1 r
 migrated_file name front s0 s1 o0 o1 r read quiet w =
     let text = w.migrated in
     let is = loads_front Long (λ b. by_plan (plan_of b)) s0.contents name front (Ok (loaded_topology front)) read refl
     in
-    let due_is = due_loaded loaded_topology (migrated_as text) s0.contents name (loaded_topology front) is in
+    let due_is = due_loaded loaded_topology (migrated_as_text text) s0.contents name (loaded_topology front) is in
     record {
       migrated = text;
       migrates = by_told s0.contents name front text r read w.migrates;
       ran = ran_after s0.contents (λ contents. option_map (migrate_due text) (contents name)) (migrate_due text front)
-          s0.faults s1.faults o0.faults o1.faults (Gained o0.held o1.held) r due_is quiet w.ran;
+          s0.faults s1.faults o0.faults o1.faults (HasGained o0.held o1.held) r due_is quiet w.ran;
     }
 
 -- ---- a file that could not be read
@@ -85,7 +85,7 @@ failed_migration None name f = tt
 failed_migration (Some contents) name f = λ bytes plan is sound. inr (refl, tt)
 
 pub stopped_migration : (name : Text) (s0 s1 : ShelfSeen) (o : SinkSeen) (e : Unread)
-    → UnreadCause s0.faults s1.faults s0.contents name e → MigratedFor name s0 s1 o o (Err (fault_of e))
+    → UnreadCause s0.faults s1.faults s0.contents name e → IsFileMigrated name s0 s1 o o (Err (fault_of e))
 stopped_migration name s0 s1 o e cause = record {
   migrated = [];
   migrates = failed_migration s0.contents name (fault_of e);

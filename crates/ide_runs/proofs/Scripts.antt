@@ -39,9 +39,8 @@ totals sealed accepted failed blocked = record
     { sealed = sealed; accepted = accepted; failed = failed; blocked = blocked }
 
 same_totals : (a b c d e f g i : ℕ) → a ≡ e → b ≡ f → c ≡ g → d ≡ i → totals a b c d ≡ totals e f g i
-same_totals a b c d e f g i ae bf cg di =
-    ap (λ (n : ℕ). totals n b c d) ae ∙ ap (λ (n : ℕ). totals e n c d) bf ∙ ap (λ (n : ℕ). totals e f n d) cg ∙ ap
-    (λ (n : ℕ). totals e f g n) di
+same_totals a b c d e f g i ae bf cg di = ap (λ (n : ℕ). totals n b c d) ae ∙ ap (λ (n : ℕ). totals e n c d) bf
+    ∙ ap (λ (n : ℕ). totals e f n d) cg ∙ ap (λ (n : ℕ). totals e f g n) di
 
 one_more : (f : Event × Verdict → ℕ) (x : Event × Verdict) (h : History) → sum_by f h + f x ≡ sum_by f (x ∷ h)
 one_more f x h = omega (arith, sum_by-cons f x h)

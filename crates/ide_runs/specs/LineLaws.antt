@@ -70,8 +70,7 @@ both_whole a b first (inr (lines, is)) =
 
 facts_whole : (xs : List Fact) → IsWholeLines (facts_text xs)
 facts_whole [] = inl refl
-facts_whole (x ∷ xs) =
-    both_whole (fact_line x) (facts_text xs) (whole_line [] (fact_word x ∷ [])) (facts_whole xs)
+facts_whole (x ∷ xs) = both_whole (fact_line x) (facts_text xs) (whole_line [] (fact_word x ∷ [])) (facts_whole xs)
 
 rule_whole : (rule : Text) → IsWholeLines (rule_line rule)
 rule_whole rule = whole_line [] (codes "rule" ∷ rule ∷ [])

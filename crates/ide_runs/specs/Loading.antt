@@ -11,20 +11,20 @@ abbrev pub topology_limit : ℕ
 topology_limit = 1048576
 
 -- what the bytes give, if they are no more than count
-abbrev pub loaded_within : {L : Type 0} → L → (Text → L) → Text → L
-loaded_within long by bytes = if nat_lt topology_limit (length bytes) then long else by bytes
+abbrev pub loaded_within_limit : {L : Type 0} → L → (Text → L) → Text → L
+loaded_within_limit long by bytes = if nat_lt topology_limit (length bytes) then long else by bytes
 
 -- if the contents are told, what was loaded is what the file gives
-abbrev pub LoadedIn : {L : Type 0} → (Text → L) → Option Text → L → Type 0
-LoadedIn by None l = ⊥
-LoadedIn by (Some bytes) l = l ≡ by bytes
+abbrev pub IsLoadedInFile : {L : Type 0} → (Text → L) → Option Text → L → Type 0
+IsLoadedInFile by None l = ⊥
+IsLoadedInFile by (Some bytes) l = l ≡ by bytes
 
-abbrev pub LoadedIfTold : {L : Type 0} → (Text → L) → Option Contents → Text → L → Type 0
-LoadedIfTold by None name l = Unit {0}
-LoadedIfTold by (Some contents) name l = LoadedIn by (contents name) l
+abbrev pub IsLoadedIfTold : {L : Type 0} → (Text → L) → Option Contents → Text → L → Type 0
+IsLoadedIfTold by None name l = Unit {0}
+IsLoadedIfTold by (Some contents) name l = IsLoadedInFile by (contents name) l
 
 abbrev pub Loads : {L : Type 0} → (Text → L) → Option Contents → Text → Result L Fault → Type 0
-Loads by told name (Ok l) = LoadedIfTold by told name l
+Loads by told name (Ok l) = IsLoadedIfTold by told name l
 Loads by told name (Err e) = Unit {0}
 
 -- a fault was counted, or the told contents lack the name; want of memory counts nothing

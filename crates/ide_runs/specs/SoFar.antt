@@ -7,7 +7,7 @@ use Rattle.script_events.specs.Words.{line_limit}
 use Rattle.file_runs.specs.Front.{Gave, bytes_of}
 use Rattle.file_runs.specs.declared.ends.Fault.{Fault}
 use Rattle.file_runs.specs.Gain.{Text}
-use Rattle.file_runs.specs.Gathering.{GainedAt, open_line, waiting_at}
+use Rattle.file_runs.specs.Gathering.{HasGainedAtFault, open_line, waiting_at}
 use Rattle.ide_runs.specs.declared.topologies.Loaded.{Loaded}
 use Rattle.ide_runs.specs.declared.topologies.Loaded.TheVariants.{Sound, Faulty, Long}
 use Rattle.ide_runs.specs.Script.{due_after, script_of_pieces}
@@ -41,7 +41,7 @@ run_so_far topology script n = files_so_far script_so_far topology script n
 
 -- Some number of bytes were given, and all but those that may wait were run: the line that has begun in those of them
 -- that are cut into lines is within its limit, and the sink gained the text that is due by then.
-pub record WroteByIn (e : Fault) (text lines : ℕ → Text) (shelf shelf_now : ShelfSeen) (sink sink_now : SinkSeen)
+pub record WroteByLines (e : Fault) (text lines : ℕ → Text) (shelf shelf_now : ShelfSeen) (sink sink_now : SinkSeen)
     : Type 0 where
   pub given : ℕ
   pub ran : ℕ
@@ -49,12 +49,13 @@ pub record WroteByIn (e : Fault) (text lines : ℕ → Text) (shelf shelf_now : 
   pub most : ran ≤ given
   pub all_but : given ≤ ran + waiting_at e shelf_now
   pub short : length (open_line (lines ran)) ≤ line_limit
-  pub gained : GainedAt e sink.held sink_now.held (text ran)
+  pub gained : HasGainedAtFault e sink.held sink_now.held (text ran)
 
 abbrev pub WroteByIfTold : Fault → (text lines : Contents → ℕ → Text) → Option Contents → ShelfSeen → ShelfSeen
     → SinkSeen → SinkSeen → Type 0
 WroteByIfTold e text lines None shelf shelf_now sink sink_now = Unit {0}
-WroteByIfTold e text lines (Some contents) shelf shelf_now sink sink_now = WroteByIn e (text contents) (lines contents)
+WroteByIfTold e text lines (Some contents) shelf shelf_now sink sink_now = WroteByLines e (text contents)
+    (lines contents)
     shelf shelf_now sink sink_now
 
 -- if the shelf tells its contents

@@ -10,7 +10,7 @@ use Rattle.file_runs.specs.Gain.{Text}
 use Rattle.file_runs.specs.Outcome.{Due}
 use Rattle.ide_runs.specs.declared.topologies.Loaded.{Loaded}
 use Rattle.ide_runs.specs.declared.topologies.Loaded.TheVariants.{Sound, Faulty, Long}
-use Rattle.ide_runs.specs.Loading.{loaded_within}
+use Rattle.ide_runs.specs.Loading.{loaded_within_limit}
 
 abbrev pub by_plan : Result Plan PlanFault → Loaded
 by_plan (Ok plan) = Sound plan
@@ -18,7 +18,7 @@ by_plan (Err fault) = Faulty fault
 
 -- a plan, the first fault of the bytes, or too many of them
 abbrev pub loaded_topology : Text → Loaded
-loaded_topology bytes = loaded_within Long (λ b. by_plan (plan_of b)) bytes
+loaded_topology bytes = loaded_within_limit Long (λ b. by_plan (plan_of b)) bytes
 
 -- the line of a fault
 abbrev pub plan_refusal : PlanFault → Text
@@ -34,13 +34,13 @@ abbrev pub check_due : Text → Due
 check_due file = report (loaded_topology file)
 
 -- the end and the text of a topology that is migrated, if this is the text in version 2
-abbrev pub migrated_as : Text → Loaded → Due
-migrated_as text (Sound plan) = (end.Done, text)
-migrated_as text (Faulty fault) = (end.Topology, plan_refusal fault)
-migrated_as text Long = (end.TooLong, [])
+abbrev pub migrated_as_text : Text → Loaded → Due
+migrated_as_text text (Sound plan) = (end.Done, text)
+migrated_as_text text (Faulty fault) = (end.Topology, plan_refusal fault)
+migrated_as_text text Long = (end.TooLong, [])
 
 abbrev pub migrate_due : Text → Text → Due
-migrate_due text file = migrated_as text (loaded_topology file)
+migrate_due text file = migrated_as_text text (loaded_topology file)
 
 -- a plan meets every bound and rule
 abbrev pub HasFitting : Loaded → Type 0

@@ -6,7 +6,7 @@ ghost use Rattle.file_runs.specs.Judging.{verdicts_limit};
 ghost use Rattle.file_runs.specs.Front.{AskedPieces};
 ghost use Rattle.file_runs.specs.Gathering.{ReadAsFar};
 ghost use Rattle.file_runs.specs.Lines.{file_limit};
-ghost use Rattle.file_runs.specs.Outcome.{RanOn};
+ghost use Rattle.file_runs.specs.Outcome.{RanOnShelf};
 ghost use Rattle.ide_runs.specs.Judge.{IsLeft, IsOneOf, JudgeNoFurther, JudgedPast, judge_due};
 ghost use Rattle.ide_runs.specs.Loading.{topology_limit};
 ghost use Rattle.ide_runs.specs.SoFar.{WroteBy};
@@ -41,7 +41,7 @@ pub fn judge<S: Shelf, O: Sink>(
 ) -> Result<End, Fault>
     ensures end { IfOk result (λ e. e ≢ End.Usage) }
     ensures present { IfOk result (λ e. e ≢ End.NoEvent) }
-    ensures due_outcome { RanOn (λ contents. judge_due (contents topology.now) (contents script.now)
+    ensures due_outcome { RanOnShelf (λ contents. judge_due (contents topology.now) (contents script.now)
         (contents verdicts.now)) (S.seen shelf.old) (S.seen shelf.new) (O.seen out.old) (O.seen out.new) result }
     ensures output_so_far { IfErr result (λ e. WroteBy e (λ contents n. []) (λ contents n. [])
         (S.seen shelf.old) (S.seen shelf.new) (O.seen out.old) (O.seen out.new)) }

@@ -6,7 +6,7 @@ ghost use Rattle.ide_types.specs.Fits.{FitsPlan};
 ghost use Rattle.file_runs.specs.Front.{AskedPieces, Gave, GaveAtMost, bytes_of};
 ghost use Rattle.file_runs.specs.Gathering.{NoFurther, ReadAsFar, WroteEnded};
 ghost use Rattle.file_runs.specs.Lines.{file_limit};
-ghost use Rattle.file_runs.specs.Outcome.{RanOn};
+ghost use Rattle.file_runs.specs.Outcome.{RanOnShelf};
 ghost use Rattle.script_events.specs.Parse.{line_meaning, IsLineAnswer};
 ghost use Rattle.script_events.specs.Spells.{IsAllowed, IsAllowedInScript};
 ghost use Rattle.event_verdicts.specs.Lines.{line_of};
@@ -300,7 +300,7 @@ fn run_script<S: Shelf, O: Sink>(
     ensures unjudged { IfOk result (λ e. e ≢ End.Differs) }
     ensures present { IfOk result (λ e. e ≢ End.NoEvent) }
     ensures same { (S.seen shelf.new).contents ≡ (S.seen shelf.old).contents }
-    ensures due_outcome { RanOn (λ contents. option_map (script_due plan) (contents script.now)) (S.seen shelf.old)
+    ensures due_outcome { RanOnShelf (λ contents. option_map (script_due plan) (contents script.now)) (S.seen shelf.old)
         (S.seen shelf.new) (O.seen out.old) (O.seen out.new) result }
     ensures output_so_far { IfErr result (λ e. WroteEnded e (script_so_far plan) script.now (S.seen shelf.old)
         (S.seen shelf.new) (O.seen out.old) (O.seen out.new)) }
@@ -338,8 +338,8 @@ pub fn run_files<S: Shelf, O: Sink>(
     ensures unjudged { IfOk result (λ e. e ≢ End.Differs) }
     ensures present { IfOk result (λ e. e ≢ End.NoEvent) }
     ensures same { (S.seen shelf.new).contents ≡ (S.seen shelf.old).contents }
-    ensures due_outcome { RanOn (λ contents. run_due (contents topology.now) (contents script.now)) (S.seen shelf.old)
-        (S.seen shelf.new) (O.seen out.old) (O.seen out.new) result }
+    ensures due_outcome { RanOnShelf (λ contents. run_due (contents topology.now) (contents script.now))
+        (S.seen shelf.old) (S.seen shelf.new) (O.seen out.old) (O.seen out.new) result }
     ensures output_so_far { IfErr result (λ e. WroteBy e (λ contents n. run_so_far (contents topology.now)
         (contents script.now) n) (λ contents n. script_given (contents topology.now) (contents script.now) n)
         (S.seen shelf.old) (S.seen shelf.new) (O.seen out.old) (O.seen out.new)) }

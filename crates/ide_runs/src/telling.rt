@@ -6,7 +6,7 @@ ghost use Rattle.ide_types.specs.Fits.{FitsPlan};
 ghost use Rattle.file_runs.specs.Front.{AskedPieces, Gave, GaveAtMost, bytes_of};
 ghost use Rattle.file_runs.specs.Gathering.{NoFurther, ReadAsFar, WroteEnded};
 ghost use Rattle.file_runs.specs.Lines.{file_limit};
-ghost use Rattle.file_runs.specs.Outcome.{RanOn};
+ghost use Rattle.file_runs.specs.Outcome.{RanOnShelf};
 ghost use Rattle.script_events.specs.Spells.{IsAllowed, IsAllowedInScript};
 ghost use Rattle.event_verdicts.specs.Lines.{line_of};
 ghost use Rattle.ide_runs.specs.LineLaws.{long_told, whole_told};
@@ -194,8 +194,8 @@ fn why_script<S: Shelf, O: Sink>(
     requires { FitsPlan plan }
     ensures end { IfOk result (λ e. e ≢ End.Usage) }
     ensures unjudged { IfOk result (λ e. e ≢ End.Differs) }
-    ensures due_outcome { RanOn (λ contents. option_map (told_due number plan) (contents script.now)) (S.seen shelf.old)
-        (S.seen shelf.new) (O.seen out.old) (O.seen out.new) result }
+    ensures due_outcome { RanOnShelf (λ contents. option_map (told_due number plan) (contents script.now))
+        (S.seen shelf.old) (S.seen shelf.new) (O.seen out.old) (O.seen out.new) result }
     ensures output_so_far { IfErr result (λ e. WroteEnded e (told_so_far number plan) script.now (S.seen shelf.old)
         (S.seen shelf.new) (O.seen out.old) (O.seen out.new)) }
     ensures reads_no_further { IfOk result (λ e. ReadAsFar (λ contents. NoFurther (ScriptGoesOn plan)
@@ -233,7 +233,7 @@ pub fn why<S: Shelf, O: Sink>(
 ) -> Result<End, Fault>
     ensures end { IfOk result (λ e. e ≢ End.Usage) }
     ensures unjudged { IfOk result (λ e. e ≢ End.Differs) }
-    ensures due_outcome { RanOn (λ contents. why_due number (contents topology.now) (contents script.now))
+    ensures due_outcome { RanOnShelf (λ contents. why_due number (contents topology.now) (contents script.now))
         (S.seen shelf.old) (S.seen shelf.new) (O.seen out.old) (O.seen out.new) result }
     ensures output_so_far { IfErr result (λ e. WroteBy e (λ contents n. files_so_far (told_so_far number)
         (contents topology.now) (contents script.now) n) (λ contents n. script_given (contents topology.now)

@@ -4,9 +4,9 @@ ghost use Rattle.std.specs.Prelude.{◌≡◌, ◌≢◌, ◌+◌, ◌<◌, ◌�
 ghost use Rattle.cli_files.specs.Outside.{AsksFor};
 ghost use Rattle.file_runs.specs.Front.{AskedPieces, Gave, GaveAtMost, GaveIfTold, bytes_of};
 ghost use Rattle.file_runs.specs.Gathering.{ReadAsFar};
-ghost use Rattle.file_runs.specs.Outcome.{Ran, RanOn};
+ghost use Rattle.file_runs.specs.Outcome.{Ran, RanOnShelf};
 ghost use Rattle.ide_runs.specs.Loading.{GaveAllOf, LoadCause, Loads, topology_limit};
-ghost use Rattle.ide_runs.specs.Migrating.{MigratedFor, WritesMigrated};
+ghost use Rattle.ide_runs.specs.Migrating.{IsFileMigrated, WritesMigrated};
 ghost use Rattle.ide_runs.specs.SoFar.{WroteBy};
 ghost use Rattle.ide_runs.specs.Topologies.{check_due, loaded_topology, plan_refusal as refusal_of};
 ghost use Rattle.ide_runs.specs.Topologies.{report as report_of, HasFitting};
@@ -121,7 +121,7 @@ pub fn check_topology<S: Shelf, O: Sink>(
     ensures end { IfOk result (λ e. e ≢ End.Usage) }
     ensures unjudged { IfOk result (λ e. e ≢ End.Differs) }
     ensures present { IfOk result (λ e. e ≢ End.NoEvent) }
-    ensures due_outcome { RanOn (λ contents. option_map check_due (contents topology.now)) (S.seen shelf.old)
+    ensures due_outcome { RanOnShelf (λ contents. option_map check_due (contents topology.now)) (S.seen shelf.old)
         (S.seen shelf.new) (O.seen out.old) (O.seen out.new) result }
     ensures output_so_far { IfErr result (λ e. WroteBy e (λ contents n. []) (λ contents n. [])
         (S.seen shelf.old) (S.seen shelf.new) (O.seen out.old) (O.seen out.new)) }
@@ -171,7 +171,7 @@ pub fn migrate_topology<S: Shelf, O: Sink>(
     ensures end { IfOk result (λ e. e ≢ End.Usage) }
     ensures unjudged { IfOk result (λ e. e ≢ End.Differs) }
     ensures present { IfOk result (λ e. e ≢ End.NoEvent) }
-    ensures due_outcome { MigratedFor topology.now (S.seen shelf.old) (S.seen shelf.new)
+    ensures due_outcome { IsFileMigrated topology.now (S.seen shelf.old) (S.seen shelf.new)
         (O.seen out.old) (O.seen out.new) result }
     ensures output_so_far { IfErr result (λ e. WroteBy e (λ contents n. []) (λ contents n. [])
         (S.seen shelf.old) (S.seen shelf.new) (O.seen out.old) (O.seen out.new)) }

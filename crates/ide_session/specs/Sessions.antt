@@ -47,8 +47,7 @@ pub record GaveText (due : Result (ScriptPast × Text) LineFault) (new : Running
 -- after whatever past the state follows, the meaning of a line gives the text that is due, and the state follows the
 -- past with it
 abbrev pub MeaningGave : RunningView → Option ScriptEvent → RunningView → Text → Type 0
-MeaningGave old asked new text =
-    (past : ScriptPast) → Follows old past → GaveText (by_meaning past (Ok asked)) new text
+MeaningGave old asked new text = (past : ScriptPast) → Follows old past → GaveText (by_meaning past (Ok asked)) new text
 
 -- The line was taken: after whatever past the session follows, its text is the one that is due, it is kept, and the
 -- session follows the past with it.
@@ -62,12 +61,12 @@ KeptGave (Some old) line (Some new) = TookLine old line new
 KeptGave _ line _ = ⊥
 
 -- what a session makes of the meaning of a line
-pub record Made (old : Going) (asked : Option ScriptEvent) (new : Going) : Type 0 where
+pub record HasMade (old : Going) (asked : Option ScriptEvent) (new : Going) : Type 0 where
   pub lines_are : new.lines ≡ old.lines + 1
   pub gave : MeaningGave old.running asked new.running new.text
 
 abbrev pub KeptMade : Option Going → Option ScriptEvent → Option Going → Type 0
-KeptMade (Some old) asked (Some new) = Made old asked new
+KeptMade (Some old) asked (Some new) = HasMade old asked new
 KeptMade _ asked _ = ⊥
 
 -- the line is not spelled, and the line of its fault is as said
@@ -201,8 +200,7 @@ TotalsSaid Memory running written buf = written ≡ 0
 TotalsSaid answer running written buf = (text : Text) × IsTotals running text × TextCame answer text written buf
 
 abbrev pub TotalsCame : Answer → Option Going → Option Going → ℕ → Text → Type 0
-TotalsCame answer old new written buf =
-    AsItWas (λ a s. TotalsSaid a s.running written buf) answer old new written
+TotalsCame answer old new written buf = AsItWas (λ a s. TotalsSaid a s.running written buf) answer old new written
 
 abbrev pub CloseCame : Answer → Option Going → Option Going → Type 0
 CloseCame answer None new = (answer ≡ Closed) × (new ≡ None)

@@ -58,7 +58,7 @@ fn begin(alloc: Global, plan: Plan, s: &mut Handle) -> Answer
 }
 
 // Opens a session, if the handle has none.
-fn begin_on(
+fn begin_on_handle(
     alloc: Global,
     s: &mut Handle,
     topology: &[u8],
@@ -100,7 +100,7 @@ pub extern "C" fn ide_open(
         (kept_session s.new.held.kept) written.new
         buf.new) result }
 {
-    begin_on(alloc, s, topology, buf, written).code()
+    begin_on_handle(alloc, s, topology, buf, written).code()
 }
 
 // ---- a line
@@ -143,7 +143,7 @@ fn step(
 }
 
 // Steps the session of a handle, if it has one.
-fn step_on(
+fn step_on_handle(
     alloc: Global,
     s: &mut Handle,
     line: &[u8],
@@ -178,7 +178,7 @@ pub extern "C" fn ide_step(
         written.new buf.new)
         result }
 {
-    step_on(alloc, s, line, buf, written).code()
+    step_on_handle(alloc, s, line, buf, written).code()
 }
 
 // ---- what a session tells
@@ -224,7 +224,7 @@ fn totals(session: &Session, buf: &mut [u8], written: &mut usize) -> Answer
 }
 
 // The same of a handle that may have a session.
-fn totals_of(alloc: Global, s: &mut Handle, buf: &mut [u8], written: &mut usize) -> Answer
+fn totals_of_handle(alloc: Global, s: &mut Handle, buf: &mut [u8], written: &mut usize) -> Answer
     ensures { TotalsCame result (kept_session s.old.held.kept) (kept_session s.new.held.kept) written.new buf.new }
 {
     *written = 0;
@@ -249,7 +249,7 @@ pub extern "C" fn ide_totals(
     ensures { AnswersWithCode (λ a. TotalsCame a (kept_session s.old.held.kept) (kept_session s.new.held.kept)
         written.new buf.new) result }
 {
-    totals_of(alloc, s, buf, written).code()
+    totals_of_handle(alloc, s, buf, written).code()
 }
 
 // ---- a session ends

@@ -18,7 +18,7 @@ use Rattle.ide_types.specs.declared.plan.LinkPlan.{LinkPlan}
 use Rattle.ide_types.specs.declared.plan.PeerPlan.{PeerPlan}
 use Rattle.ide_types.specs.declared.plan.Plan.{Plan}
 use Rattle.ide_types.specs.Plans.{has_stream_id, hop_has_id, link_has_id, links_have_id}
-use Rattle.ide_types.specs.Fits.{FitsPlan, FitsLink, FitsHopIf, FitsPeer}
+use Rattle.ide_types.specs.Fits.{FitsPlan, FitsLink, FitsHopIfAny, FitsPeer}
 use Rattle.ide_types.specs.Ends.{own_has_id, link_hop, peer_has_id, line_has, peer_link}
 use Rattle.ide_types.specs.Ends.{port_beside_end, peer_end, end_at}
 
@@ -50,7 +50,7 @@ link_fits : (plan : Plan) → FitsPlan plan → (i : ℕ) (l : LinkPlan) → sli
 link_fits plan fits i l is = all_at FitsLink plan.links i l fits.each_link is
 
 -- the streams of a link do not have the ID of its hop
-hop_apart : (streams : List StreamPlan) (o : Option HopPlan) (id : ℕ) → FitsHopIf streams o → hop_has_id o id ≡ true
+hop_apart : (streams : List StreamPlan) (o : Option HopPlan) (id : ℕ) → FitsHopIfAny streams o → hop_has_id o id ≡ true
     → has_stream_id streams id ≡ false
 hop_apart streams None id fits has = absurd (false_true has)
 hop_apart streams (Some o) id fits has = subst (λ n. has_stream_id streams n ≡ false) (eqb-true o.id id has)

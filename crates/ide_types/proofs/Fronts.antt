@@ -89,9 +89,8 @@ module _ {Spelled : List ℕ → Type 0} {size : List ℕ → ℕ} {fits : List 
 
   -- ---- what walks begins a spelling
 
-  goes_on : (s : List ℕ) → Walks size fits s →
-      ((b : ℕ) → Walks size fits (s ++ b ∷ []) → length s < size s → Begins Spelled (s ++ b ∷ []))
-      → Begins Spelled s
+  goes_on : (s : List ℕ) → Walks size fits s
+      → ((b : ℕ) → Walks size fits (s ++ b ∷ []) → length s < size s → Begins Spelled (s ++ b ∷ [])) → Begins Spelled s
   goes_on s w more = elim (cases_lt (length s) (size s)) [
     | inl lt ↦
         let b = g.next s w.fitting lt in

@@ -84,8 +84,8 @@ peer_end (p ∷ ps) n link id =
     else peer_end ps (n + 1) link id
 
 -- streams between devices end at devices alone
-abbrev pub peer_end_at : List PeerPlan → PortName → ℕ → PortName
-peer_end_at peers port id = by_side port.side
+abbrev pub peer_end_at_port : List PeerPlan → PortName → ℕ → PortName
+peer_end_at_port peers port id = by_side port.side
   where
     by_side : Side → PortName
     by_side Host = port
@@ -98,7 +98,7 @@ end_at_port plan port id =
     if nat_lt port.line 8 then
     if own_has_id (slice_get plan.links port.line) id then port
     else if hop_has_id (link_hop (slice_get plan.links port.line)) id then hop_end port.side port.line
-    else peer_end_at plan.peers port id
+    else peer_end_at_port plan.peers port id
     else port
 
 -- the same at the port of an end

@@ -79,9 +79,9 @@ pub record FitsHop (streams : List StreamPlan) (o : HopPlan) : Type 0 where
   pub classes : All (λ c. c ≤ 7) o.classes
   pub classes_apart : All (λ c. lists_class streams c ≡ false) o.classes
 
-abbrev pub FitsHopIf : List StreamPlan → Option HopPlan → Type 0
-FitsHopIf streams None = Unit {0}
-FitsHopIf streams (Some o) = FitsHop streams o
+abbrev pub FitsHopIfAny : List StreamPlan → Option HopPlan → Type 0
+FitsHopIfAny streams None = Unit {0}
+FitsHopIfAny streams (Some o) = FitsHop streams o
 
 pub record FitsLink (l : LinkPlan) : Type 0 where
   pub nonces : length l.nonces ≤ 1024
@@ -94,7 +94,7 @@ pub record FitsLink (l : LinkPlan) : Type 0 where
   pub classes_apart : AllPairs (λ s t. share_class s t ≡ false) l.streams
   pub each_interface : All (FitsInterface l.streams) l.interfaces
   pub requesters_differ : AllPairs (λ i j. i.requester ≢ j.requester) l.interfaces
-  pub hop : FitsHopIf l.streams l.hop
+  pub hop : FitsHopIfAny l.streams l.hop
 
 pub record FitsRegion (r : Region) : Type 0 where
   pub base : r.base % 4096 ≡ 0

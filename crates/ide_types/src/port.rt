@@ -1,6 +1,7 @@
 //! Ends of lines, by which ports are named.
 
-ghost use Rattle.std.specs.Prelude.{Some};
+ghost use Rattle.std.specs.Prelude.{◌≡◌, ◌==◌, Some};
+ghost use Rattle.std.specs.List.{list_any};
 ghost use Rattle.ide_types.specs.Names.{side_word, port_word};
 
 use std::fmt;
@@ -21,6 +22,13 @@ pub enum Side {
 pub struct PortName {
     pub side: Side,
     pub line: u8,
+}
+
+/// Whether one of these ends is of the line (this profile).
+pub fn has_end_of_line(ends: &[PortName], line: u8) -> bool
+    ensures { result ≡ list_any (λ e. e.line == line) ends.now }
+{
+    ends.iter().any(|end| end.line == line)
 }
 
 impl fmt::Display for Side {

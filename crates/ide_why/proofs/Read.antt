@@ -74,8 +74,7 @@ module _ (plan : Plan) (s : WholeLinks) (links : AreLinks plan s.links.ends s.li
         ≡ if_found q (λ q. stop_facts plan (ports_of plan (state_of_whole plan s)) line stream q
         (state_of_whole plan s).draws)
     stop_by line stream None = refl
-    stop_by line stream (Some q) =
-        ap (λ (fs : List Fact). manager_fact q ∷ fs)
+    stop_by line stream (Some q) = ap (λ (fs : List Fact). manager_fact q ∷ fs)
         (exchanges_are plan s line stream (state_of_whole plan s).draws op.Stop q)
 
     cleared_is : (end : PortName) (xs : List StreamPlan)
@@ -125,6 +124,5 @@ module _ (plan : Plan) (s : WholeLinks) (links : AreLinks plan s.links.ends s.li
     read_is (event.Access (ae.Answer link)) = answer_is plan s links whole h stood link
     read_is (event.Access (ae.Mmio interface bar offset len)) = shown_is plan s links h stood interface bar
     read_is (event.Forward link d) = forward_is plan s links whole h stood link d
-    read_is (event.Reset link ends) =
-        ap (λ (fs : List Fact). if has_link plan link then fs else []) (reset_is ends)
+    read_is (event.Reset link ends) = ap (λ (fs : List Fact). if has_link plan link then fs else []) (reset_is ends)
     read_is event.Absent = refl

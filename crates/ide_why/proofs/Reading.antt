@@ -50,8 +50,7 @@ module _ (plan : Plan) (s : WholeLinks) (links : AreLinks plan s.links.ends s.li
 
   pub stage_is : (line stream : ℕ) → op_named (named_stream s.links.keeper.keys.manager line stream)
       ≡ find_op plan (state_of_whole plan s) line stream
-  stage_is line stream =
-      sym (op_is plan s.links.ends s.links.keeper.keys s.links.packets.packets line stream links)
+  stage_is line stream = sym (op_is plan s.links.ends s.links.keeper.keys s.links.packets.packets line stream links)
 
   pub stage_none : (line stream : ℕ) → (nat_lt line 32 && nat_le stream 255) ≡ false
       → None ≡ find_op plan (state_of_whole plan s) line stream

@@ -10,7 +10,7 @@ use Rattle.join_interfaces.specs.Faces.{SeenAs}
 use Rattle.machine_whole.specs.Interfaces.{Face, find_face, with_requester}
 use Rattle.spec_interfaces.specs.Sites.{Site, sites}
 use Rattle.spec_interfaces.specs.Views.{Managed, bound_if}
-use Rattle.interface_host.specs.Facts.{interface_facts, reported_in}
+use Rattle.interface_host.specs.Facts.{interface_facts, reported_if_locked}
 use Rattle.interface_host.specs.Managers.{interface_of_requester}
 use Rattle.interface_host.specs.Views.{HostTdi, Seen, IsUnlocked, IsLocked, IsRunning, IsDoubt, IsBroken, floor_of}
 use Rattle.interface_host.specs.Views.{grant_by, is_requester, view_of}
@@ -52,7 +52,7 @@ known_is draw tdis (Some y) (Some f) is = face_is draw tdis y f is
 -- ---- an interface that is seen
 
 reported_is : (seen : Seen) (m : Managed) → SeenAs seen m
-    → reported_seen (reported_in seen) ≡ reported_facts m.view m.reported
+    → reported_seen (reported_if_locked seen) ≡ reported_facts m.view m.reported
 reported_is IsUnlocked m is = ap (λ (v : View). reported_facts v m.reported) (sym is)
 reported_is (IsLocked nonce reported) m is = (λ i. reported_facts (sym is.0 i) (sym is.2 i))
 reported_is (IsRunning floor) m is = ap (λ (v : View). reported_facts v m.reported) (sym is.0)

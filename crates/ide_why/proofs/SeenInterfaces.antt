@@ -31,7 +31,7 @@ use Rattle.why_facts.specs.declared.fact.InterfaceFact.TheVariants as face
 use Rattle.why_facts.specs.declared.fact.Fact.TheVariants as fact
 use Rattle.why_facts.specs.Forms.{asked_besides, bind_facts, draw_fact, draws_fact, face_facts, peer_facts, pool_of}
 use Rattle.why_facts.specs.Forms.{read_fact, state_fact, takes_facts, waiting_fact}
-use Rattle.why_facts.specs.Kept.{answer_facts_in, asked_face, asked_facts_in, completion_facts, first_tlp_facts}
+use Rattle.why_facts.specs.Kept.{answer_facts_in, asked_face, asked_facts_in_state, completion_facts, first_tlp_facts}
 use Rattle.why_facts.specs.Kept.{forward_facts_in, oldest_read_facts, reader_in}
 use Rattle.world.specs.{AreLinks, WorldStandsFor, WholeLinks, carried_on_link, peer_live, world_of}
 use Rattle.world.proofs.{live_is, peer_line_is}
@@ -109,8 +109,7 @@ module _ (plan : Plan) (s : WholeLinks) (links : AreLinks plan s.links.ends s.li
         (λ j. fact.Interface (face.Started (seen.started j)) ∷ draws_fact (st_is j).draws (pool_of plan) ∷ [])
     besides_are (ie.Report i loss) y f seen = refl
     besides_are (ie.State i loss) y f seen = refl
-    besides_are (ie.Bind i line stream loss) y f seen =
-        if_peer y f line stream _ _ seen (bind_is y f line stream seen)
+    besides_are (ie.Bind i line stream loss) y f seen = if_peer y f line stream _ _ seen (bind_is y f line stream seen)
     besides_are (ie.Unbind i line stream loss) y f seen =
         if_peer y f line stream _ _ seen (λ has. ap takes_facts (bindings_are y f seen))
     besides_are (ie.View i) y f seen = refl
@@ -129,14 +128,13 @@ module _ (plan : Plan) (s : WholeLinks) (links : AreLinks plan s.links.ends s.li
         (λ j. face_is stood.whole.draw (device_interface_read s) y f are j ++ are.reported j ++ besides_are e y f are j)
 
     number_asked : (e : InterfaceEvent) (n : Option ℕ) → asked_by_number plan s e n
-        ≡ asked_facts_in plan stood.whole e n
+        ≡ asked_facts_in_state plan stood.whole e n
     number_asked e None = refl
-    number_asked e (Some i) =
-        face_asked e (find_face (λ x. x.number == i) (sites plan) stood.whole.faces.list) (face_read s i)
-        (face_read_is plan s links h stood i)
+    number_asked e (Some i) = face_asked e (find_face (λ x. x.number == i) (sites plan) stood.whole.faces.list)
+        (face_read s i) (face_read_is plan s links h stood i)
 
     pub asked_is : (e : InterfaceEvent) → asked_by_number plan s e (number_in e)
-        ≡ asked_facts_in plan stood.whole e (number_in e)
+        ≡ asked_facts_in_state plan stood.whole e (number_in e)
     asked_is e = number_asked e (number_in e)
 
     -- ---- answers to reads

@@ -31,8 +31,8 @@ use Rattle.world.specs.{WholeLinks}
 use Rattle.why_facts.specs.declared.appends.places.Place.{Place}
 use Rattle.why_facts.specs.{is_last_seen, is_live_seen, key_place, open_seen, seen_place_at, set_seen}
 use Rattle.ide_why.specs.Facts.{exchanges_read, opens_read, opens_seen, refusal_facts, state_of_whole}
-use Rattle.ide_why.specs.Places.{first_refusing, if_refusing, is_refusing, place_or, refuses_seen, refusing_on}
-use Rattle.ide_why.specs.Places.{refusing_or, lane_sets}
+use Rattle.ide_why.specs.Places.{first_refusing, if_refusing, is_refusing, place_or, refuses_seen, refusing_on_line}
+use Rattle.ide_why.specs.Places.{refusing_or_next, lane_sets}
 use Rattle.ide_why.specs.Reading.{stream_read}
 
 -- ---- what refuses
@@ -99,14 +99,14 @@ module _ (plan : Plan) (s : WholeLinks) (o : Operation) (set : Bool) (first : �
   one_by false p next ks same = same
 
   one_is : (p : Place) (next : Option Place) (ks : List KeyPlace) → refusal_facts plan o next ≡ due ks
-      → refusal_facts plan o (refusing_or plan s o set first p next) ≡ due (key_place p ∷ ks)
+      → refusal_facts plan o (refusing_or_next plan s o set first p next) ≡ due (key_place p ∷ ks)
   one_is p next ks same =
       one_by (is_refusing plan s o set first p) p next ks same
       ∙ ap (λ (b : Bool). if b then refuses_fact plan (program_exchange o (key_place p)) (key_place p) ∷ [] else due ks)
       (test_is p)
 
   abbrev or_one : Side → ℕ → ℕ → Bool → SubKind → Option Place → Option Place
-  or_one side line stream upward u n = refusing_or plan s o set first (seen_place_at side line stream upward u) n
+  or_one side line stream upward u n = refusing_or_next plan s o set first (seen_place_at side line stream upward u) n
 
   abbrev kept : Side → ℕ → ℕ → Bool → SubKind → KeyPlace
   kept side line stream upward u = key_place (seen_place_at side line stream upward u)
@@ -167,11 +167,10 @@ module _ (plan : Plan) (s : WholeLinks) (o : Operation) (set : Bool) (first : �
       else place_or (first_refusing plan s o set first Host line stream)
       (first_refusing plan s o set first Device line stream)) ≡ due (told_places hosted line stream)
   told_by true line stream = six_are Device line stream
-  told_by false line stream =
-      twelve_are (first_refusing plan s o set first Device line stream) (places_of Device line stream) Host line stream
-      (six_are Device line stream)
+  told_by false line stream = twelve_are (first_refusing plan s o set first Device line stream)
+      (places_of Device line stream) Host line stream (six_are Device line stream)
 
-  pub told_is : (line stream : ℕ) → refusal_facts plan o (refusing_on plan s o set first line stream)
+  pub told_is : (line stream : ℕ) → refusal_facts plan o (refusing_on_line plan s o set first line stream)
       ≡ due (told_places (is_hosted line) line stream)
   told_is line stream = told_by (is_hosted line) line stream
 
@@ -180,7 +179,7 @@ module _ (plan : Plan) (s : WholeLinks) (o : Operation) (set : Bool) (first : �
 module _ (plan : Plan) (s : WholeLinks) (line stream next : ℕ) where
   abbrev left_as : Operation → ℕ → Bool → List Fact
   left_as o first set = fact.Operation (of.Exchanges first (last_exchange_of (is_hosted line) o))
-      ∷ refusal_facts plan o (refusing_on plan s o set first line stream)
+      ∷ refusal_facts plan o (refusing_on_line plan s o set first line stream)
 
   left_is : (o : Operation) (first : ℕ) (set : Bool)
       → left_as o first set ≡ fact.Operation (of.Exchanges first (last_exchange_of (is_hosted line) o))

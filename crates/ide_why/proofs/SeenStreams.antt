@@ -43,7 +43,5 @@ pub senders_are : (closed : Bool) (x : StreamState) (class : SubKind) → sender
 senders_are closed x Pr =
     (λ i. state_fact (stream_status x) ∷
     (sender_is closed x Pr i ++ sender_is closed x Npr i ++ sender_is closed x Cpl i))
-senders_are closed x Npr =
-    (λ i. state_fact (stream_status x) ∷ (sender_is closed x Npr i ++ sender_is closed x Pr i))
-senders_are closed x Cpl =
-    (λ i. state_fact (stream_status x) ∷ (sender_is closed x Cpl i ++ sender_is closed x Pr i))
+senders_are closed x Npr = (λ i. state_fact (stream_status x) ∷ (sender_is closed x Npr i ++ sender_is closed x Pr i))
+senders_are closed x Cpl = (λ i. state_fact (stream_status x) ∷ (sender_is closed x Cpl i ++ sender_is closed x Pr i))

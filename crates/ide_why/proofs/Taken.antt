@@ -58,8 +58,7 @@ module _ (plan : Plan) (s : WholeLinks) (end : PortName) (bytes : List ℕ) wher
       → stream_sends plan s end stream (header t) (stream_read plan s end stream)
       ≡ sending_facts plan s end (outgoing_at plan end bytes)
   unfolding outgoing_of
-  sent_on t stream ok is =
-      sym (ap (sending_facts plan s end) (on_read _ _ (read_of bytes) t stream ok is))
+  sent_on t stream ok is = sym (ap (sending_facts plan s end) (on_read _ _ (read_of bytes) t stream ok is))
 
   -- an end of the topology is there
   pub end_there : AreLinks plan s.links.ends s.links.keeper.keys → has_port plan end ≡ true
@@ -72,8 +71,7 @@ module _ (plan : Plan) (s : WholeLinks) (end : PortName) (bytes : List ℕ) wher
 module _ (plan : Plan) (s : WholeLinks) (end : PortName) where
   empty : (streams : List StreamPlan) → nat_lt 0 (length streams) ≡ false → streams ≡ []
   empty [] few = refl
-  empty (x ∷ xs) few =
-      let none : length (x ∷ xs) ≡ 0 = grind (arith, nat_tests, few) in absurd (omega (arith, none))
+  empty (x ∷ xs) few = let none : length (x ∷ xs) ≡ 0 = grind (arith, nat_tests, few) in absurd (omega (arith, none))
 
   second_of : (a b : Bool) → (a || b) ≡ false → b ≡ false
   second_of a b is = grind arith

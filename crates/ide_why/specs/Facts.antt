@@ -53,7 +53,7 @@ use Rattle.why_facts.specs.declared.appends.faces.FaceSeen.{FaceSeen}
 use Rattle.why_facts.specs.declared.appends.places.Place.{Place}
 use Rattle.why_facts.specs.{face_seen, is_live_seen, key_place, open_seen, receiver_seen, reported_seen}
 use Rattle.why_facts.specs.{sender_seen, senders_seen, set_seen}
-use Rattle.ide_why.specs.Places.{refusing_on}
+use Rattle.ide_why.specs.Places.{refusing_on_line}
 use Rattle.ide_why.specs.Reading.{bindings_read, face_read, held_read, owner_face, requester_read, statuses_read}
 use Rattle.ide_why.specs.Reading.{stream_read, device_interface_read}
 
@@ -67,8 +67,7 @@ known_read (Some f) = face_seen f
 -- ---- sends
 
 abbrev pub owner_facts : Plan → WholeLinks → PortName → HeadView → List Fact
-owner_facts plan s end head =
-    if sets_own_t plan end then known_read (owner_face s (owners_link plan end) head) else []
+owner_facts plan s end head = if sets_own_t plan end then known_read (owner_face s (owners_link plan end) head) else []
 
 abbrev pub stream_sends : Plan → WholeLinks → PortName → ℕ → HeadView → Option StreamFacts → List Fact
 stream_sends plan s end stream head None = []
@@ -79,8 +78,7 @@ stream_sends plan s end stream head (Some f) =
 abbrev pub sending_facts : Plan → WholeLinks → PortName → Outgoing → List Fact
 sending_facts plan s end (NoTlp f) = at_port plan end ∷ []
 sending_facts plan s end OnNone = at_port plan end ∷ []
-sending_facts plan s end (OnStream t stream) =
-    stream_sends plan s end stream (header t) (stream_read plan s end stream)
+sending_facts plan s end (OnStream t stream) = stream_sends plan s end stream (header t) (stream_read plan s end stream)
 
 abbrev pub sent_facts : Plan → WholeLinks → PortName → List ℕ → List Fact
 sent_facts plan s port bytes =
@@ -147,7 +145,7 @@ refusal_facts plan o (Some p) = refuses_fact plan (program_exchange o (key_place
 
 abbrev pub refusing_read : Plan → WholeLinks → Operation → Bool → ℕ → ℕ → ℕ → List Fact
 refusing_read plan s op.Stop set first line stream = []
-refusing_read plan s o set first line stream = refusal_facts plan o (refusing_on plan s o set first line stream)
+refusing_read plan s o set first line stream = refusal_facts plan o (refusing_on_line plan s o set first line stream)
 
 abbrev pub exchanges_read : Plan → WholeLinks → Operation → ℕ → ℕ → StreamStage → List Fact
 exchanges_read plan s o line stream q =
@@ -234,8 +232,7 @@ reader_read plan s (Some f) =
 
 abbrev pub oldest_read : Plan → WholeLinks → ℕ → List WaitingRead → List Fact
 oldest_read plan s link [] = []
-oldest_read plan s link (r ∷ rs) =
-    read_fact r.draw ∷ reader_read plan s (requester_read s link r.read.requester)
+oldest_read plan s link (r ∷ rs) = read_fact r.draw ∷ reader_read plan s (requester_read s link r.read.requester)
 
 abbrev pub answer_read : Plan → WholeLinks → ℕ → List Fact
 answer_read plan s link =

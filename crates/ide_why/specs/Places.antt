@@ -35,26 +35,26 @@ abbrev pub if_refusing : Bool → Place → Option Place → Option Place
 if_refusing b p next = if b then Some p else next
 
 -- it, if it does so, else the next one
-abbrev pub refusing_or : Plan → WholeLinks → Operation → Bool → ℕ → Place → Option Place → Option Place
-refusing_or plan s o set first p next = if_refusing (is_refusing plan s o set first p) p next
+abbrev pub refusing_or_next : Plan → WholeLinks → Operation → Bool → ℕ → Place → Option Place → Option Place
+refusing_or_next plan s o set first p next = if_refusing (is_refusing plan s o set first p) p next
 
 -- the first of the six places of a stream at an end
 abbrev pub first_refusing : Plan → WholeLinks → Operation → Bool → ℕ → Side → ℕ → ℕ → Option Place
 first_refusing plan s o set first side line stream =
-    refusing_or plan s o set first (seen_place_at side line stream false Pr)
-    (refusing_or plan s o set first (seen_place_at side line stream false Npr)
-    (refusing_or plan s o set first (seen_place_at side line stream false Cpl)
-    (refusing_or plan s o set first (seen_place_at side line stream true Pr)
-    (refusing_or plan s o set first (seen_place_at side line stream true Npr)
-    (refusing_or plan s o set first (seen_place_at side line stream true Cpl) None)))))
+    refusing_or_next plan s o set first (seen_place_at side line stream false Pr)
+    (refusing_or_next plan s o set first (seen_place_at side line stream false Npr)
+    (refusing_or_next plan s o set first (seen_place_at side line stream false Cpl)
+    (refusing_or_next plan s o set first (seen_place_at side line stream true Pr)
+    (refusing_or_next plan s o set first (seen_place_at side line stream true Npr)
+    (refusing_or_next plan s o set first (seen_place_at side line stream true Cpl) None)))))
 
 abbrev pub place_or : Option Place → Option Place → Option Place
 place_or None next = next
 place_or (Some p) next = Some p
 
 -- of those of a stream whose keys are given by messages
-abbrev pub refusing_on : Plan → WholeLinks → Operation → Bool → ℕ → ℕ → ℕ → Option Place
-refusing_on plan s o set first line stream =
+abbrev pub refusing_on_line : Plan → WholeLinks → Operation → Bool → ℕ → ℕ → ℕ → Option Place
+refusing_on_line plan s o set first line stream =
     if is_hosted line then first_refusing plan s o set first Device line stream
     else place_or (first_refusing plan s o set first Host line stream)
     (first_refusing plan s o set first Device line stream)

@@ -38,8 +38,7 @@ face_located s number (Some at) = face_of number (interface_of_ends s.links.ends
     (slice_get s.links.keeper.interfaces.interfaces number)
 
 abbrev pub face_read : WholeLinks → ℕ → Option FaceSeen
-face_read s number =
-    face_located s number (interface_named s.links.keeper.interfaces s.links.ends.links number)
+face_read s number = face_located s number (interface_named s.links.keeper.interfaces s.links.ends.links number)
 
 -- by its requester ID on a link
 abbrev pub requester_read : WholeLinks → ℕ → ℕ → Option FaceSeen
@@ -65,5 +64,4 @@ statuses_read s link = statuses_of_ends (slice_get s.links.ends.links link) (sli
 
 -- the packets of the next unit of a sub-stream that its receiver at an end holds in a key set
 abbrev pub held_read : Plan → WholeLinks → PortName → ℕ → SubKind → Bool → List Packet
-held_read plan s end stream u k =
-    option_map_or (held_by u k) (find plan (links_state plan s.links) end stream) []
+held_read plan s end stream u k = option_map_or (held_by u k) (find plan (links_state plan s.links) end stream) []

@@ -21,7 +21,7 @@ use why_facts::{
 
 impl Reader<'_> {
     // Appends the senders at the host's port that are in use in a key set.
-    fn push_opens_in(
+    fn push_opens_in_set(
         &self,
         facts: &mut Vec<Fact>,
         line: u8,
@@ -51,7 +51,7 @@ impl Reader<'_> {
     {
         match seen.stage {
             StageFacts::Up { set, .. } => {
-                self.push_opens_in(facts, seen.line, seen.stream, !set.is_one())
+                self.push_opens_in_set(facts, seen.line, seen.stream, !set.is_one())
             }
             _ => Ok(()),
         }

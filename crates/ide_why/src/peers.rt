@@ -15,7 +15,7 @@ use crate::reader::Reader;
 use ide_types::{FIRST_PEER_LINE, OutOfMemory};
 use interface_state::Interface;
 use why_facts::{
-    FaceSeen, Fact, InterfaceFact, ManagerState, OperationFact, manager_state, push_bar_of,
+    FaceSeen, Fact, InterfaceFact, ManagerState, OperationFact, manager_state, push_bar_if_there,
     push_draw, push_live, push_of_interface, push_of_operation, push_takes,
 };
 
@@ -146,7 +146,7 @@ impl Reader<'_> {
                     },
                 )?;
                 let bars = interface.bars();
-                push_bar_of(facts, &bars, bar)
+                push_bar_if_there(facts, &bars, bar)
             }
         }
     }

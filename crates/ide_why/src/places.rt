@@ -5,7 +5,7 @@ ghost use Rattle.spec_keys.specs.Operations.{work_of};
 ghost use Rattle.key_host.specs.Facts.{op_seen};
 ghost use Rattle.world.specs.{IsWorld};
 ghost use Rattle.ide_why.specs.Facts.{refusing_read};
-ghost use Rattle.ide_why.specs.Places.{first_refusing, is_refusing, refusing_on, sets_at};
+ghost use Rattle.ide_why.specs.Places.{first_refusing, is_refusing, refusing_on_line, sets_at};
 
 use crate::reader::{Reader, StageSeen};
 use event_verdicts::Operation;
@@ -99,7 +99,7 @@ impl Reader<'_> {
     }
 
     // The first of those of a stream whose keys are given by messages.
-    fn refusing_on(
+    fn refusing_on_line(
         &self,
         operation: Operation,
         set: bool,
@@ -108,7 +108,7 @@ impl Reader<'_> {
         stream: u8,
     ) -> Option<Place>
         requires { IsWorld self.now.plan.now self.now.links.now }
-        ensures { result ≡ refusing_on self.now.plan.now self.now.links.now operation set first line stream }
+        ensures { result ≡ refusing_on_line self.now.plan.now self.now.links.now operation set first line stream }
     {
         if line < 16 {
             return self.first_refusing(operation, set, first, Side::Device, line, stream);
@@ -137,7 +137,7 @@ impl Reader<'_> {
         }
         let set = key_set(operation, seen.stage);
         let first = first_exchange(operation, seen.stage);
-        match self.refusing_on(operation, set, first, seen.line, seen.stream) {
+        match self.refusing_on_line(operation, set, first, seen.line, seen.stream) {
             None => Ok(()),
             Some(place) => {
                 let end = PortName {

@@ -10,8 +10,8 @@ use Rattle.interface_state.specs.Kept.{kept_report}
 use Rattle.interface_state.specs.Machine.{DeviceTdi, lock_of, error_code, portion_of, is_answered}
 use Rattle.interface_host.specs.declared.step.Step.{Step}
 use Rattle.interface_host.specs.declared.step.Step.TheVariants as step
-use Rattle.interface_host.specs.Judging.{JudgedAnswer, if_same, is_portion, judged_nonce, portion_in, start_in, bind_in}
-use Rattle.interface_host.specs.Judging.{unbind_in, step_judged}
+use Rattle.interface_host.specs.Judging.{JudgedAnswer, if_same, is_portion, judged_nonce, portion_in_reply, start_in}
+use Rattle.interface_host.specs.Judging.{bind_in, unbind_in, step_judged}
 use Rattle.interface_host.specs.Views.{HostTdi, step_request}
 use Rattle.interface_ends.specs.declared.said.StreamSaid.{StreamSaid}
 use Rattle.interface_ends.specs.Replies.{DeviceTdis, NamedTdi, lock_reply, portion_reply, start_reply, bind_reply}
@@ -65,7 +65,7 @@ fits_read report offset size is some lt =
 
 part_read : (f : ℕ) (report : List ℕ) (offset size : ℕ) (b : Bool) → IsReport report → 1 ≤ size
     → ((size == 0) || nat_le (length report) offset) ≡ b
-    → portion_in size offset f (portion_reply f (portion_at report offset size b))
+    → portion_in_reply size offset f (portion_reply f (portion_at report offset size b))
     ≡ portion_due (portion_at report offset size b)
 part_read f report offset size true is some e = refl
 part_read f report offset size false is some e =
@@ -73,14 +73,14 @@ part_read f report offset size false is some e =
     same_function f _ ∙ (rw fits refl)
 
 report_read : (f : ℕ) (report : Option (List ℕ)) (offset size : ℕ) → IfSome report IsReport → 1 ≤ size
-    → portion_in size offset f (portion_reply f (portion_of report offset size))
+    → portion_in_reply size offset f (portion_reply f (portion_of report offset size))
     ≡ portion_due (portion_of report offset size)
 report_read f None offset size is some = refl
 report_read f (Some report) offset size is some = part_read f report offset size _ is some refl
 
 kept_read : (f : ℕ) (tdi : DeviceTdi) (lock : Option Lock) (offset size : ℕ)
     → IfSome lock (λ l. IsReport (kept_report tdi.plan l)) → 1 ≤ size
-    → portion_in size offset f (portion_reply f (portion_of (option_map (kept_report tdi.plan) lock) offset size))
+    → portion_in_reply size offset f (portion_reply f (portion_of (option_map (kept_report tdi.plan) lock) offset size))
     ≡ portion_due (portion_of (option_map (kept_report tdi.plan) lock) offset size)
 kept_read f tdi None offset size is some = refl
 kept_read f tdi (Some lock) offset size is some = report_read f (Some (kept_report tdi.plan lock)) offset size is some

@@ -15,12 +15,11 @@ use Rattle.interface_state.specs.declared.error_codes.ErrorCode.{ErrorCode}
 use Rattle.interface_state.specs.declared.states.TdiState.{TdiState}
 use Rattle.interface_state.specs.declared.states.TdiState.TheVariants.{ConfigUnlocked, ConfigLocked, Run, Error}
 use Rattle.interface_state.specs.Machine.{DeviceTdi, with_state, new_lock, interface_after_lock, lock_answer}
-use Rattle.interface_state.specs.Machine.{start_answer}
-use Rattle.interface_state.specs.Machine.{after_start}
-use Rattle.interface_state.specs.Machine.{bind_answer, is_answered, interface_after_bind, unbind_answer, unbound_with}
+use Rattle.interface_state.specs.Machine.{start_answer, after_start, bind_answer, is_answered, interface_after_bind}
+use Rattle.interface_state.specs.Machine.{unbind_answer, unbound_with}
 use Rattle.interface_state.proofs.Bound.{entered_same}
 use Rattle.interface_ends.specs.declared.said.StreamSaid.{StreamSaid}
-use Rattle.interface_ends.specs.Replies.{DeviceTdis, NamedTdi, named_interface, named_interface_in}
+use Rattle.interface_ends.specs.Replies.{DeviceTdis, NamedTdi, named_interface, named_interface_in_list}
 use Rattle.interface_ends.specs.Replies.{named_interface_if_there, interface_place, next_nonce, interface_call}
 use Rattle.interface_ends.specs.Replies.{interface_called, lock_reply, start_reply, bind_reply, unbind_reply}
 use Rattle.interface_ends.specs.Replies.{interface_reply, takes_nonce, used_after, interfaces_asked_by, named_reply}
@@ -36,7 +35,7 @@ at_place xs p (Some t) n g e =
     let same : (let k : NamedTdi = record { place = p; tdi = t } in k) ≡ n = cc in
     subst (λ (k : NamedTdi). slice_get xs k.place ≡ Some k.tdi) same g
 
-pub in_list : (xs : List DeviceTdi) (place : Option ℕ) (n : NamedTdi) → named_interface_in xs place ≡ Some n
+pub in_list : (xs : List DeviceTdi) (place : Option ℕ) (n : NamedTdi) → named_interface_in_list xs place ≡ Some n
     → slice_get xs n.place ≡ Some n.tdi
 in_list xs None n e = absurd cc
 in_list xs (Some p) n e = at_place xs p (slice_get xs p) n refl e
@@ -95,8 +94,7 @@ unchanged tdi (StartInterface function nonce) said drawn f code value e =
     record {
       same = ap (with_state tdi) (start_by tdi function f code value nonce said drawn tdi.state refl e)
           ∙ entered_same tdi;
-      kept =
-          refl;
+      kept = refl;
     }
 unchanged tdi (StopInterface function) said drawn f code value e = absurd cc
 unchanged tdi (BindP2p function stream) said drawn f code value e =
@@ -130,7 +128,7 @@ by_named d request said (Some n) f code value is e =
     (set_read d.interfaces n.place n.tdi there)
 
 by_request : (d : DeviceTdis) (said : StreamSaid) (function : ℕ) (r : Result RequestView ErrorCode) (f code value : ℕ)
-    → Rattle.interface_ends.specs.Replies.interface_reply_from d said function r ≡ reply.Error f code value
+    → Rattle.interface_ends.specs.Replies.interface_reply_from_request d said function r ≡ reply.Error f code value
     → Rattle.interface_ends.specs.Replies.interfaces_by d said r ≡ d
 by_request d said function (Err c) f code value e = refl
 by_request d said function (Ok request) f code value e = by_named d request said

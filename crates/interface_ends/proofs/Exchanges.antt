@@ -15,7 +15,7 @@ use Rattle.interface_ends.specs.declared.said.StreamSaid.{StreamSaid}
 use Rattle.interface_ends.specs.Replies.{DeviceTdis, NamedTdi, named_interface, next_nonce, interfaces_after_call}
 use Rattle.interface_ends.specs.Replies.{interfaces_asked_by, named_reply, request_checked, interfaces_after_answer}
 use Rattle.interface_ends.specs.Replies.{device_reply, answer_bytes, interface_reply, function_or_none, interfaces_by}
-use Rattle.interface_ends.specs.Replies.{interface_reply_from}
+use Rattle.interface_ends.specs.Replies.{interface_reply_from_request}
 use Rattle.interface_ends.specs.Exchanges.{judged_due, nonce_due, portion_due, start_judged, bind_judged, unbind_judged}
 use Rattle.interface_ends.specs.Exchanges.{ExchangesAreDue, RepliesAreNeverBad}
 use Rattle.interface_ends.proofs.Widths.{function_of, request_fits, reply_fits}
@@ -43,7 +43,7 @@ device d n r bytes said is found = ap (interfaces_by d said) is ∙ ap (interfac
 replied : (d : DeviceTdis) (n : NamedTdi) (r : RequestView) (bytes : List ℕ) (said : StreamSaid)
     → request_checked bytes ≡ Ok r → named_interface d (request_function r) ≡ Some n
     → device_reply d bytes said ≡ interface_reply n.tdi r said (next_nonce d)
-replied d n r bytes said is found = ap (interface_reply_from d said (function_or_none bytes)) is ∙ ap
+replied d n r bytes said is found = ap (interface_reply_from_request d said (function_or_none bytes)) is ∙ ap
     (named_reply d r said)
     found
 

@@ -189,15 +189,12 @@ pub operations_stated : ExchangesAreDue → OperationsAreStated
 operations_stated due op.Lock more portion draws said loss i d n short m = lock_stated due more portion draws said
     loss i d n m
 operations_stated due op.Report more portion draws said loss i d n short m = absurd short
-operations_stated due op.Start more portion draws said loss i d n short m =
-    alone due step.Start (suc (suc more)) portion draws said loss i d n tt m
-    (λ now e. subst (λ x. IsOver x.outcome) (sym e) (start_over 1 _ _))
-operations_stated due op.Halt more portion draws said loss i d n short m =
-    alone due step.Halt (suc (suc more)) portion draws said loss i d n tt m
-    (λ now e. subst (λ x. IsOver x.outcome) (sym e) (halt_over 1 _ _))
-operations_stated due op.State more portion draws said loss i d n short m =
-    alone due step.State (suc (suc more)) portion draws said loss i d n tt m
-    (λ now e. subst (λ x. IsOver x.outcome) (sym e) (state_over 1 _))
+operations_stated due op.Start more portion draws said loss i d n short m = alone due step.Start (suc (suc more))
+    portion draws said loss i d n tt m (λ now e. subst (λ x. IsOver x.outcome) (sym e) (start_over 1 _ _))
+operations_stated due op.Halt more portion draws said loss i d n short m = alone due step.Halt (suc (suc more)) portion
+    draws said loss i d n tt m (λ now e. subst (λ x. IsOver x.outcome) (sym e) (halt_over 1 _ _))
+operations_stated due op.State more portion draws said loss i d n short m = alone due step.State (suc (suc more))
+    portion draws said loss i d n tt m (λ now e. subst (λ x. IsOver x.outcome) (sym e) (state_over 1 _))
 operations_stated due (op.Bind peer) more portion draws said loss i d n short m =
     alone due (step.Bind peer) (suc (suc more)) portion draws said loss i d n short m
     (λ now e. subst (λ x. IsOver x.outcome) (sym e) (bind_over 1 _ _))

@@ -85,8 +85,7 @@ tested : (r : List ℕ) (portion off : ℕ) → 1 ≤ portion → off < length r
 tested r portion off some lt = grind (arith, nat_tests)
 
 interfaces_after_answer : (tdi : DeviceTdi) (lock : Option Lock) (l : Lock) (portion off : ℕ) → lock ≡ Some l
-    → 1 ≤ portion
-    → off < length (kept_report tdi.plan l)
+    → 1 ≤ portion → off < length (kept_report tdi.plan l)
     → portion_due (portion_of (option_map (kept_report tdi.plan) lock) off portion)
     ≡ Portion (part (kept_report tdi.plan l) portion off) (behind (kept_report tdi.plan l) portion off)
 interfaces_after_answer tdi lock l portion off is some lt =

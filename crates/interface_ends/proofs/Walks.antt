@@ -9,7 +9,7 @@ use Rattle.interface_host.specs.declared.operation.InterfaceOutcome.TheVariants 
 use Rattle.interface_host.specs.Steps.{next_step}
 use Rattle.interface_host.specs.Views.{HostTdi}
 use Rattle.interface_host.specs.Managers.{InterfaceManagerView, CurrentInterface, current_interface}
-use Rattle.interface_host.specs.Managers.{current_interface_in, current_by, interface_asking_after}
+use Rattle.interface_host.specs.Managers.{current_interface_in_list, current_by, interface_asking_after}
 use Rattle.interface_ends.specs.declared.said.StreamSaid.{StreamSaid}
 use Rattle.interface_ends.specs.Replies.{DeviceTdis}
 use Rattle.interface_ends.specs.Operations.{walked_once, walking_next, continued_walk, interface_walk}
@@ -29,8 +29,8 @@ stands_at xs a (Some i) c g e =
     let same : (let k : CurrentInterface = record { interface = i; asking = a } in k) ≡ c = cc in
     subst (λ (k : CurrentInterface). IsAskedNow xs (Some a) k) same (record { asked = refl; there = g })
 
-stands : (xs : List HostTdi) (asking : Option Asking) (c : CurrentInterface) → current_interface_in xs asking ≡ Some c
-    → IsAskedNow xs asking c
+stands : (xs : List HostTdi) (asking : Option Asking) (c : CurrentInterface)
+    → current_interface_in_list xs asking ≡ Some c → IsAskedNow xs asking c
 stands xs None c e = absurd cc
 stands xs (Some a) c e = stands_at xs a (slice_get xs a.place) c refl e
 
@@ -46,7 +46,7 @@ moved : (said : StreamSaid) (loss : Option Loss) (m : InterfaceManagerView) (d :
     → IsAskedNow m.interfaces m.asking c → (interface_exchanged said loss m d c).outcome ≡ outcome.Next
     → current_interface (interface_exchanged said loss m d c).manager ≡ Some (next_current said loss m d c)
 moved said loss m d c s next =
-    ap (λ o. current_interface_in (interface_exchanged said loss m d c).manager.interfaces
+    ap (λ o. current_interface_in_list (interface_exchanged said loss m d c).manager.interfaces
     (interface_asking_after c.asking o)) next
     ∙ ap (current_by (next_current said loss m d c).asking)
     (set_there m.interfaces c.asking.place c.interface _ s.there)

@@ -9,9 +9,8 @@ use Rattle.interface_state.specs.Kept.{kept_report}
 use Rattle.std.specs.Str.{bytes_eq}
 use Rattle.interface_state.specs.Bars.{any_overlap, bars_of}
 use Rattle.interface_state.specs.Machine.{DeviceTdi, is_unlocked, are_lock_flags, is_page, lock_of, state_code}
-use Rattle.interface_state.specs.Machine.{lock_answer}
-use Rattle.interface_state.specs.Machine.{portion_of, portion_answer, start_answer, is_locked, lock_flags, draw_answer}
-use Rattle.interface_state.specs.Machine.{bind_answer, is_answered, unbind_answer}
+use Rattle.interface_state.specs.Machine.{lock_answer, portion_of, portion_answer, start_answer, is_locked, lock_flags}
+use Rattle.interface_state.specs.Machine.{draw_answer, bind_answer, is_answered, unbind_answer}
 use Rattle.interface_state.specs.Bindings.{binds}
 use Rattle.interface_state.specs.RegisterValues.{has_bit}
 use Rattle.ide_types.specs.declared.binding.Binding.{Binding}
@@ -171,8 +170,7 @@ state_fits (Run lock) = omega arith
 state_fits Error = omega arith
 
 kept_fits : (tdi : DeviceTdi) → IfSome (lock_of tdi.state) (λ lock. IsReport (kept_report tdi.plan lock))
-    → (offset size : ℕ)
-    → PortionFits (portion_answer tdi offset size)
+    → (offset size : ℕ) → PortionFits (portion_answer tdi offset size)
 kept_fits tdi is offset size = kept_by tdi (lock_of tdi.state) is
   where
     kept_by : (t : DeviceTdi) (lock : Option Rattle.interface_state.specs.declared.states.Lock.Lock)

@@ -23,10 +23,9 @@ use Rattle.interface_state.specs.declared.error_codes.ErrorCode.TheVariants.{Ver
 use Rattle.interface_state.specs.declared.states.TdiState.{TdiState}
 use Rattle.interface_state.specs.declared.states.TdiState.TheVariants.{Run}
 use Rattle.interface_state.specs.Machine.{DeviceTdi, new_device_interface, error_code, state_code, lock_answer}
-use Rattle.interface_state.specs.Machine.{portion_answer}
-use Rattle.interface_state.specs.Machine.{start_answer, Call, LinkReset, StreamLeft, interface_after_call}
-use Rattle.interface_state.specs.Machine.{bound_link_stream}
-use Rattle.interface_state.specs.Machine.{bind_answer, is_answered, unbind_answer}
+use Rattle.interface_state.specs.Machine.{portion_answer, start_answer, Call, LinkReset, StreamLeft}
+use Rattle.interface_state.specs.Machine.{interface_after_call, bound_link_stream, bind_answer, is_answered}
+use Rattle.interface_state.specs.Machine.{unbind_answer}
 use Rattle.ide_types.specs.declared.binding.Binding.{Binding}
 use Rattle.interface_state.specs.Bindings.{binds}
 use Rattle.interface_ends.specs.declared.said.StreamSaid.{StreamSaid}
@@ -72,12 +71,12 @@ abbrev pub named_interface_if_there : ℕ → Option DeviceTdi → Option NamedT
 named_interface_if_there place None = None
 named_interface_if_there place (Some tdi) = Some (record { place = place; tdi = tdi })
 
-abbrev pub named_interface_in : List DeviceTdi → Option ℕ → Option NamedTdi
-named_interface_in interfaces None = None
-named_interface_in interfaces (Some place) = named_interface_if_there place (slice_get interfaces place)
+abbrev pub named_interface_in_list : List DeviceTdi → Option ℕ → Option NamedTdi
+named_interface_in_list interfaces None = None
+named_interface_in_list interfaces (Some place) = named_interface_if_there place (slice_get interfaces place)
 
 abbrev pub named_interface : DeviceTdis → ℕ → Option NamedTdi
-named_interface d function = named_interface_in d.interfaces (interface_place d function)
+named_interface d function = named_interface_in_list d.interfaces (interface_place d function)
 
 -- ---- the call of an interface that a request makes
 
@@ -209,15 +208,15 @@ abbrev pub interfaces_by : DeviceTdis → StreamSaid → Result RequestView Erro
 interfaces_by d said (Ok request) = asked_interfaces d request said
 interfaces_by d said (Err code) = d
 
-abbrev pub interface_reply_from : DeviceTdis → StreamSaid → ℕ → Result RequestView ErrorCode → Reply
-interface_reply_from d said function (Ok request) = request_reply d request said
-interface_reply_from d said function (Err code) = refused_reply function (error_code code)
+abbrev pub interface_reply_from_request : DeviceTdis → StreamSaid → ℕ → Result RequestView ErrorCode → Reply
+interface_reply_from_request d said function (Ok request) = request_reply d request said
+interface_reply_from_request d said function (Err code) = refused_reply function (error_code code)
 
 abbrev pub interfaces_after_answer : DeviceTdis → List ℕ → StreamSaid → DeviceTdis
 interfaces_after_answer d bytes said = interfaces_by d said (request_checked bytes)
 
 abbrev pub device_reply : DeviceTdis → List ℕ → StreamSaid → Reply
-device_reply d bytes said = interface_reply_from d said (function_or_none bytes) (request_checked bytes)
+device_reply d bytes said = interface_reply_from_request d said (function_or_none bytes) (request_checked bytes)
 
 abbrev pub answer_bytes : DeviceTdis → List ℕ → StreamSaid → List ℕ
 answer_bytes d bytes said = reply_spelling (device_reply d bytes said)
@@ -272,8 +271,7 @@ runs_bound stream (Run lock) bs = binds stream bs
 runs_bound stream state bs = false
 
 abbrev pub is_bound_owner : ℕ → ℕ → DeviceTdi → Bool
-is_bound_owner requester stream tdi =
-    (requester == tdi.plan.requester) && runs_bound stream tdi.state tdi.bindings
+is_bound_owner requester stream tdi = (requester == tdi.plan.requester) && runs_bound stream tdi.state tdi.bindings
 
 -- so it is at an end of a stream between two devices, if the interface is bound to it
 abbrev pub interfaces_set_peer_t : DeviceTdis → ℕ → ℕ → Bool

@@ -203,7 +203,7 @@ impl DeviceInterfaces {
     }
 
     // Answers a request to the interface at this place.
-    fn answer_at(
+    fn answer_at_place(
         &mut self,
         place: usize,
         request: RequestView,
@@ -235,7 +235,7 @@ impl DeviceInterfaces {
     {
         let function = request_function(request);
         match self.place(function) {
-            Some(place) => self.answer_at(place, request, said, reply),
+            Some(place) => self.answer_at_place(place, request, said, reply),
             None => append(
                 &refused(function, ErrorCode::InvalidInterface.code()),
                 reply,

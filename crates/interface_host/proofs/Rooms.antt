@@ -7,9 +7,8 @@ use Rattle.tdisp_codec.specs.Replies.{DeviceInterfaceState, StartInterface, Stop
 use Rattle.interface_host.specs.declared.step.Step.{Step}
 use Rattle.interface_host.specs.declared.step.Step.TheVariants as step
 use Rattle.interface_host.specs.Judging.{JudgedAnswer, Passed, Nonce, State, Bad, HasRoom, is_portion, if_portion}
-use Rattle.interface_host.specs.Judging.{version_in}
-use Rattle.interface_host.specs.Judging.{capabilities_in, judged_nonce, portion_in, start_in, halt_in, state_in}
-use Rattle.interface_host.specs.Judging.{bind_in, unbind_in, step_judged, interface_reply_judged}
+use Rattle.interface_host.specs.Judging.{version_in, capabilities_in, judged_nonce, portion_in_reply, start_in, halt_in}
+use Rattle.interface_host.specs.Judging.{state_in, bind_in, unbind_in, step_judged, interface_reply_judged}
 
 fitting : (asked read : ℕ) (bytes : List ℕ) (remainder : ℕ) (fits : Bool)
     → is_portion asked read (length bytes) remainder ≡ fits → HasRoom read (if_portion fits bytes remainder)
@@ -117,7 +116,7 @@ unbind_room read function (BindP2p back) = tt
 unbind_room read function (UnbindP2p back) = chosen read (back == function) Passed tt
 unbind_room read function (Error back code value) = tt
 
-portion_room : (asked read function : ℕ) (r : Reply) → HasRoom read (portion_in asked read function r)
+portion_room : (asked read function : ℕ) (r : Reply) → HasRoom read (portion_in_reply asked read function r)
 portion_room asked read function (Version back versions) = tt
 portion_room asked read function (Capabilities back d q l w t a) = tt
 portion_room asked read function (LockInterface back nonce) = tt

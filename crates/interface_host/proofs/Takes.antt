@@ -8,7 +8,7 @@ use Rattle.interface_host.specs.Steps.{Read, exchange_number}
 use Rattle.interface_host.specs.Judging.{JudgedAnswer, interface_judged}
 use Rattle.interface_host.specs.Views.{HostTdi, taken_interface, interface_outcome}
 use Rattle.interface_host.specs.Managers.{InterfaceManagerView, CurrentInterface, current_interface}
-use Rattle.interface_host.specs.Managers.{current_interface_in, current_by, judged_now, outcome_by}
+use Rattle.interface_host.specs.Managers.{current_interface_in_list, current_by, judged_now, outcome_by}
 use Rattle.interface_host.specs.Managers.{interface_asking_after, report_after_reply, taken_interface_manager}
 
 abbrev pub asked_as : Asking → HostTdi → CurrentInterface
@@ -21,10 +21,10 @@ at_place a (x ∷ xs) zero i is some = ap (λ y. Some (asked_as a y)) (sym is)
 at_place a (x ∷ xs) (suc p) i is some = at_place a xs p i is some
 
 asked_in : (xs : List HostTdi) (asking : Option Asking) (a : Asking) (i : HostTdi) → asking ≡ Some a → i
-    ≡ get_or xs a.place i → IsSome (current_interface_in xs asking)
-    → current_interface_in xs asking ≡ Some (asked_as a i)
+    ≡ get_or xs a.place i → IsSome (current_interface_in_list xs asking)
+    → current_interface_in_list xs asking ≡ Some (asked_as a i)
 asked_in xs asking a i asked is some = rw asked
-    (at_place a xs a.place i is (subst (λ x. IsSome (current_interface_in xs x)) asked some))
+    (at_place a xs a.place i is (subst (λ x. IsSome (current_interface_in_list xs x)) asked some))
 
 -- the exchange that is asked, by what is read of the fields
 pub asked_now : (m : InterfaceManagerView) (a : Asking) (i : HostTdi) → m.asking ≡ Some a

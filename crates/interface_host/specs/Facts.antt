@@ -4,9 +4,9 @@ use Rattle.interface_host.specs.declared.facts.InterfaceFacts.{InterfaceFacts}
 use Rattle.interface_host.specs.Views.{HostTdi, Seen, IsLocked, floor_of, view_of}
 
 -- of a lock alone
-abbrev pub reported_in : Seen → Option Bool
-reported_in (IsLocked nonce reported) = Some reported
-reported_in s = None
+abbrev pub reported_if_locked : Seen → Option Bool
+reported_if_locked (IsLocked nonce reported) = Some reported
+reported_if_locked s = None
 
 abbrev pub interface_facts : HostTdi → InterfaceFacts
 interface_facts i = record {
@@ -16,6 +16,6 @@ interface_facts i = record {
   draw = i.draw;
   needs = i.needs;
   started = i.was_started;
-  reported = reported_in i.seen;
+  reported = reported_if_locked i.seen;
   floor = floor_of i.seen;
 }

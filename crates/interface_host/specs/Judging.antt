@@ -55,16 +55,15 @@ judged_nonce function reply = error_judged reply
 
 -- a portion has 1 to the asked number of bytes; with what was read before and what follows it, at most 1,140
 abbrev pub is_portion : ℕ → ℕ → ℕ → ℕ → Bool
-is_portion asked read size remainder =
-    (nat_le 1 size && nat_le size asked) && nat_le (read + size + remainder) 1140
+is_portion asked read size remainder = (nat_le 1 size && nat_le size asked) && nat_le (read + size + remainder) 1140
 
 abbrev pub if_portion : Bool → List ℕ → ℕ → JudgedAnswer
 if_portion fits bytes remainder = if fits then Portion bytes remainder else Bad
 
-abbrev pub portion_in : ℕ → ℕ → ℕ → Reply → JudgedAnswer
-portion_in asked read function (DeviceInterfaceReport back remainder bytes) =
+abbrev pub portion_in_reply : ℕ → ℕ → ℕ → Reply → JudgedAnswer
+portion_in_reply asked read function (DeviceInterfaceReport back remainder bytes) =
     if_same function back (if_portion (is_portion asked read (length bytes) remainder) bytes remainder)
-portion_in asked read function reply = error_judged reply
+portion_in_reply asked read function reply = error_judged reply
 
 abbrev pub start_in : ℕ → Reply → JudgedAnswer
 start_in function (StartInterface back) = if_same function back Passed
@@ -92,7 +91,7 @@ abbrev pub step_judged : Step → ℕ → ℕ → ℕ → Reply → JudgedAnswer
 step_judged step.Version function asked read reply = version_in function reply
 step_judged step.Capabilities function asked read reply = capabilities_in function reply
 step_judged step.Lock function asked read reply = judged_nonce function reply
-step_judged step.Report function asked read reply = portion_in asked read function reply
+step_judged step.Report function asked read reply = portion_in_reply asked read function reply
 step_judged step.Start function asked read reply = start_in function reply
 step_judged step.Halt function asked read reply = halt_in function reply
 step_judged step.State function asked read reply = state_in function reply

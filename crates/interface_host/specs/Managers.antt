@@ -53,12 +53,12 @@ abbrev pub current_by : Asking → Option HostTdi → Option CurrentInterface
 current_by asking None = None
 current_by asking (Some i) = Some (record { interface = i; asking = asking })
 
-abbrev pub current_interface_in : List HostTdi → Option Asking → Option CurrentInterface
-current_interface_in interfaces None = None
-current_interface_in interfaces (Some asking) = current_by asking (slice_get interfaces asking.place)
+abbrev pub current_interface_in_list : List HostTdi → Option Asking → Option CurrentInterface
+current_interface_in_list interfaces None = None
+current_interface_in_list interfaces (Some asking) = current_by asking (slice_get interfaces asking.place)
 
 abbrev pub current_interface : InterfaceManagerView → Option CurrentInterface
-current_interface m = current_interface_in m.interfaces m.asking
+current_interface m = current_interface_in_list m.interfaces m.asking
 
 abbrev pub current_exchange : InterfaceManagerView → CurrentInterface → ℕ
 current_exchange m c = exchange_number c.asking.step m.read

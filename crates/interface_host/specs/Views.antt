@@ -256,8 +256,7 @@ lock_outcome exchange (Nonce nonce) = outcome.Done (shown.Nonce nonce)
 lock_outcome exchange judged = refused_outcome exchange judged
 
 abbrev pub report_outcome : ℕ → JudgedAnswer → InterfaceOutcome
-report_outcome exchange (Portion bytes remainder) =
-    if remainder == 0 then outcome.Done shown.Report else outcome.Next
+report_outcome exchange (Portion bytes remainder) = if remainder == 0 then outcome.Done shown.Report else outcome.Next
 report_outcome exchange judged = refused_outcome exchange judged
 
 abbrev pub start_outcome : ℕ → ℕ → JudgedAnswer → InterfaceOutcome

@@ -423,7 +423,7 @@ impl HostInterface {
             draw: self.draw,
             needs: self.needs,
             started: self.was_started,
-            reported: self.managed.reported_in(),
+            reported: self.managed.reported_if_locked(),
             floor: self.managed.floor(),
         }
     }

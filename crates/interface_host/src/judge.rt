@@ -2,7 +2,8 @@
 
 ghost use Rattle.std.specs.Prelude.{◌≡◌, ◌+◌, ◌≤◌, length};
 ghost use Rattle.tdisp_codec.specs.Replies.{reply_shown, reply_answer, reply_reading};
-ghost use Rattle.interface_host.specs.Judging.{answer_shown, if_same, error_judged, is_portion, if_portion, portion_in};
+ghost use Rattle.interface_host.specs.Judging.{answer_shown, if_same, error_judged, is_portion, if_portion};
+ghost use Rattle.interface_host.specs.Judging.{portion_in_reply};
 ghost use Rattle.interface_host.specs.Judging.{step_judged, interface_reply_judged, interface_judged, HasRoom};
 
 use crate::step::Step;
@@ -63,7 +64,7 @@ fn if_portion<'a>(fits: bool, bytes: &'a [u8], remainder: u16) -> Answer<'a>
 
 fn portion<'a>(asked: u16, read: usize, function: u32, reply: ReplyView<'a>) -> Answer<'a>
     requires { read ≤ 1140 }
-    ensures { answer_shown result ≡ portion_in asked read function (reply_shown reply.entry) }
+    ensures { answer_shown result ≡ portion_in_reply asked read function (reply_shown reply.entry) }
 {
     match reply {
         ReplyView::DeviceInterfaceReport {

@@ -1,7 +1,7 @@
 //! The views of an interface, each as its own value.
 
 ghost use Rattle.std.specs.Prelude.{◌≡◌};
-ghost use Rattle.interface_host.specs.Facts.{reported_in};
+ghost use Rattle.interface_host.specs.Facts.{reported_if_locked};
 ghost use Rattle.interface_host.specs.Judging.{answer_shown};
 ghost use Rattle.interface_host.specs.Views.{seen_of_managed, IsUnlocked, seen_after_lock, reported_view, started_view};
 ghost use Rattle.interface_host.specs.Views.{compared_view, seen_after_step, broken_view};
@@ -151,8 +151,8 @@ impl ManagedTdi {
 
 impl ManagedTdi {
     /// Whether the report of a lock was read; `None` if it is no lock.
-    pub(crate) fn reported_in(&self) -> Option<bool>
-        ensures { result ≡ reported_in (seen_of_managed self.now) }
+    pub(crate) fn reported_if_locked(&self) -> Option<bool>
+        ensures { result ≡ reported_if_locked (seen_of_managed self.now) }
     {
         match self {
             ManagedTdi::Locked(tdi) => Some(tdi.is_reported()),

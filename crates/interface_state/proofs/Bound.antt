@@ -48,8 +48,7 @@ left_few state next bs few = grind (arith, nat_tests)
 
 pub left_bound : (state next : TdiState) (bs : List Binding) → IsBound state bs
     → IsBound next (bindings_left state next bs)
-left_bound state next bs b =
-    record { locked = left_none state next bs b.locked; few = left_few state next bs b.few }
+left_bound state next bs b = record { locked = left_none state next bs b.locked; few = left_few state next bs b.few }
 
 -- ---- a stream that is bound, or no longer bound
 

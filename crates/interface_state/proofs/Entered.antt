@@ -10,11 +10,10 @@ use Rattle.interface_state.specs.declared.states.TdiState.TheVariants.{ConfigUnl
 use Rattle.interface_state.specs.RegisterValues.{has_bit, changes_listed}
 use Rattle.interface_state.specs.Bars.{any_overlap, bars_of}
 use Rattle.interface_state.specs.Machine.{lock_of, DeviceTdi, is_unlocked, lock_flags, are_lock_flags, is_page}
-use Rattle.interface_state.specs.Machine.{nonce_answer}
-use Rattle.interface_state.specs.Machine.{lock_answer, new_lock, interface_after_lock, after_start, after_change}
-use Rattle.interface_state.specs.Machine.{LockInterface, StartInterface, StopInterface, WriteRegister, LevelReset}
-use Rattle.interface_state.specs.Machine.{FirmwareUpdate, StreamLeft, LinkReset, BindStream, UnbindStream, bind_answer}
-use Rattle.interface_state.specs.Machine.{unbind_answer}
+use Rattle.interface_state.specs.Machine.{nonce_answer, lock_answer, new_lock, interface_after_lock, after_start}
+use Rattle.interface_state.specs.Machine.{after_change, LockInterface, StartInterface, StopInterface, WriteRegister}
+use Rattle.interface_state.specs.Machine.{LevelReset, FirmwareUpdate, StreamLeft, LinkReset, BindStream, UnbindStream}
+use Rattle.interface_state.specs.Machine.{bind_answer, unbind_answer}
 use Rattle.interface_state.proofs.Bound.{bound_state, unbound_state}
 use Rattle.interface_state.specs.Laws.{EntersLock, LockIsEntered, EntersRun, RunIsEntered}
 
@@ -115,8 +114,7 @@ run_is_entered tdi (StartInterface nonce) lock e = started_run tdi tdi.state non
 run_is_entered tdi StopInterface lock e = cc
 run_is_entered tdi (BindStream stream live) lock e =
     inl (sym (bound_state tdi stream (bind_answer tdi stream live)) ∙ e)
-run_is_entered tdi (UnbindStream stream) lock e =
-    inl (sym (unbound_state tdi stream (unbind_answer tdi stream)) ∙ e)
+run_is_entered tdi (UnbindStream stream) lock e = inl (sym (unbound_state tdi stream (unbind_answer tdi stream)) ∙ e)
 run_is_entered tdi (WriteRegister register value) lock e =
     inl (stood (changes_listed (lock_flags tdi.state) tdi.registers register value) tdi.state (Run lock) lock refl e)
 run_is_entered tdi LevelReset lock e = inl (stood true tdi.state (Run lock) lock refl e)

@@ -62,8 +62,7 @@ started_fits (Run lock) nonce fits = fits
 started_fits Error nonce fits = tt
 
 locked_fits : (tdi : DeviceTdi) (lock : Lock) (answer : Result (List ℕ) ℕ) → FitsWidths tdi
-    → FitsRegisters lock.registers
-    → FitsWidths (interface_after_lock tdi lock answer)
+    → FitsRegisters lock.registers → FitsWidths (interface_after_lock tdi lock answer)
 locked_fits tdi lock (Ok nonce) fits kept = record { registers = fits.registers; locked = kept }
 locked_fits tdi lock (Err code) fits kept = fits
 

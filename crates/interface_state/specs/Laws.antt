@@ -14,8 +14,7 @@ use Rattle.interface_state.specs.RegisterValues.{changes_listed}
 use Rattle.interface_state.specs.Bars.{bar_end, bars_overlap, any_overlap}
 use Rattle.interface_state.specs.Kept.{interface_report, kept_report, IsShortReport}
 use Rattle.interface_state.specs.Machine.{DeviceTdi, new_device_interface, KeepsListed, lock_of, after_write, Call}
-use Rattle.interface_state.specs.Machine.{LockInterface}
-use Rattle.interface_state.specs.Machine.{StartInterface, WriteRegister, interface_after_call}
+use Rattle.interface_state.specs.Machine.{LockInterface, StartInterface, WriteRegister, interface_after_call}
 use Rattle.interface_state.specs.Held.{FitsTdi, FitsShown, IsBound}
 
 -- a write changes the listed part exactly if it is a listed change
@@ -53,8 +52,7 @@ FitsCall call = Unit {0}
 pub record WidthsAreKept : Type 0 where
   pub first : (plan : InterfacePlan) → FitsRegisters (planned_registers plan) → FitsWidths (new_device_interface plan)
   pub later : (tdi : DeviceTdi) (call : Call) → FitsRegisters (planned_registers tdi.plan) → FitsWidths tdi
-      → FitsCall call
-      → FitsWidths (interface_after_call tdi call)
+      → FitsCall call → FitsWidths (interface_after_call tdi call)
 
 -- a byte of a BAR's range
 abbrev pub HasByte : BarPlan → ℕ → Type 0

@@ -20,17 +20,16 @@ pub use Rattle.interface_state.specs.Bars.{reported_range, reported_ranges}
 pub use Rattle.interface_state.specs.Kept.{interface_info, interface_report, interface_report_bytes, kept_report}
 pub use Rattle.interface_state.specs.Kept.{IsShortReport}
 pub use Rattle.interface_state.specs.Machine.{error_code, state_code, DeviceTdi, new_device_interface, with_state}
-pub use Rattle.interface_state.specs.Machine.{is_unlocked, lock_of}
-pub use Rattle.interface_state.specs.Machine.{bound_link_stream, lock_flags, KeepsListed, are_lock_flags, is_page}
-pub use Rattle.interface_state.specs.Machine.{nonce_answer, lock_answer, new_lock, interface_after_lock}
-pub use Rattle.interface_state.specs.Machine.{locked_interface, portion_of, portion_shown, portion_answer, start_answer}
-pub use Rattle.interface_state.specs.Machine.{after_start, after_failure, after_change, after_write, level_reset}
-pub use Rattle.interface_state.specs.Machine.{firmware_updated, Call, LockInterface, StartInterface, StopInterface}
-pub use Rattle.interface_state.specs.Machine.{WriteRegister, LevelReset, FirmwareUpdate, StreamLeft, LinkReset}
-pub use Rattle.interface_state.specs.Machine.{BindStream, UnbindStream, interface_after_call, is_locked, bindings_left}
-pub use Rattle.interface_state.specs.Machine.{draw_answer, bindings_after, bind_answer, is_answered}
-pub use Rattle.interface_state.specs.Machine.{interface_after_bind, bound_interface, unbind_answer, unbound_with}
-pub use Rattle.interface_state.specs.Machine.{interface_after_unbind, own_binding, all_bindings}
+pub use Rattle.interface_state.specs.Machine.{is_unlocked, lock_of, bound_link_stream, lock_flags, KeepsListed}
+pub use Rattle.interface_state.specs.Machine.{are_lock_flags, is_page, nonce_answer, lock_answer, new_lock}
+pub use Rattle.interface_state.specs.Machine.{interface_after_lock, locked_interface, portion_of, portion_shown}
+pub use Rattle.interface_state.specs.Machine.{portion_answer, start_answer, after_start, after_failure, after_change}
+pub use Rattle.interface_state.specs.Machine.{after_write, level_reset, firmware_updated, Call, LockInterface}
+pub use Rattle.interface_state.specs.Machine.{StartInterface, StopInterface, WriteRegister, LevelReset, FirmwareUpdate}
+pub use Rattle.interface_state.specs.Machine.{StreamLeft, LinkReset, BindStream, UnbindStream, interface_after_call}
+pub use Rattle.interface_state.specs.Machine.{is_locked, bindings_left, draw_answer, bindings_after, bind_answer}
+pub use Rattle.interface_state.specs.Machine.{is_answered, interface_after_bind, bound_interface, unbind_answer}
+pub use Rattle.interface_state.specs.Machine.{unbound_with, interface_after_unbind, own_binding, all_bindings}
 pub use Rattle.interface_state.specs.Bindings.{is_binding_on, binds, without, floor_on}
 pub use Rattle.interface_state.specs.Held.{FitsTdi, FitsShown, IsBound}
 pub use Rattle.interface_state.specs.Laws.{ChangesAreListed, ChangeIsError, HasByte, OverlapIsShared, OverlapsArePairs}

@@ -205,8 +205,7 @@ firmware_updated state = after_change (has_bit 0 (lock_flags state)) state
 -- streams between two devices
 abbrev pub draw_answer : List Binding → Option ℕ → Result ℕ ℕ
 draw_answer bs None = Err (error_code InvalidDeviceConfiguration)
-draw_answer bs (Some draw) =
-    if nat_lt (length bs) 8 then Ok draw else Err (error_code InvalidDeviceConfiguration)
+draw_answer bs (Some draw) = if nat_lt (length bs) 8 then Ok draw else Err (error_code InvalidDeviceConfiguration)
 
 -- `live` is the draw that is Live where the device receives posted requests on the stream, if that is between this
 -- device and another, and Secure here

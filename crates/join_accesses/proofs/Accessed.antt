@@ -29,7 +29,7 @@ use Rattle.tlp_layout.specs.Outgoing.{outgoing_of, stream_taken}
 use Rattle.spec_interfaces.specs.Sites.{Site, sites, site_of_requester, site_at}
 use Rattle.spec_interfaces.specs.Floors.{place_of, interfaces_before}
 use Rattle.machine_whole.specs.Interfaces.{Face, grant_of}
-use Rattle.spec_links.specs.Guarded.{mmio_if, mmio_shown, mmio_by}
+use Rattle.spec_links.specs.Guarded.{mmio_if, mmio_shown, mmio_by_happenings}
 use Rattle.machine_ports.specs.Replies.{completion_by, site_completion, completion_first}
 use Rattle.join_world.specs.{host_stream, interface_named, InterfacesView, IsLink, judged_bound}
 use Rattle.join_world.specs.{LinkEnds, mmio_at, reader_of, reads_at, completion_with_bytes, reply_at_ends}
@@ -94,9 +94,8 @@ held_interfaces_before [] [] link many each = refl
 held_interfaces_before [] (p ∷ ls) link many each = absurd (omega (arith, many))
 held_interfaces_before (l ∷ ends) [] link many each = absurd (omega (arith, many))
 held_interfaces_before (l ∷ ends) (p ∷ ls) zero many each = refl
-held_interfaces_before (l ∷ ends) (p ∷ ls) (suc link) many each =
-    λ i. each 0 l p refl refl i
-    + held_interfaces_before ends ls link (omega (arith, many)) (λ k. each (suc k)) i
+held_interfaces_before (l ∷ ends) (p ∷ ls) (suc link) many each = λ i. each 0 l p refl refl i + held_interfaces_before
+    ends ls link (omega (arith, many)) (λ k. each (suc k)) i
 
 pub laid_there : (ls : List LinkPlan) (link : ℕ) (p : LinkPlan) → slice_get ls link ≡ Some p
     → planned_on ls link ≡ p.interfaces
@@ -396,8 +395,7 @@ module _ (plan : Plan) (ends : List LinkEnds) (m : InterfacesView) (memory : Mem
           → reply_oldest m l link memory rs ≡ completion_first plan (grant_of plan w.faces) (completion_from_memory w)
           link rs
       first_is link l [] is = refl
-      first_is link l (r ∷ rs) is =
-          ap (reply_numbered m l link memory r) (reader_is link r.read.requester)
+      first_is link l (r ∷ rs) is = ap (reply_numbered m l link memory r) (reader_is link r.read.requester)
           ∙ numbered_is link l r (site_of_requester plan link r.read.requester) is
 
       pub reply_is : (link : ℕ)
@@ -454,7 +452,8 @@ module _ (plan : Plan) (ends : List LinkEnds) (m : InterfacesView) (memory : Mem
           (bytes_from (byte_shown (w.accesses.happened x.link) n bar) offset len)) (place_is i x p is)
 
       pub shows_is : (i bar offset len : ℕ)
-          → shown_by (interface_named m ends i) bar offset len ≡ mmio_by plan w.accesses.happened i bar offset len
+          → shown_by (interface_named m ends i) bar offset len
+          ≡ mmio_by_happenings plan w.accesses.happened i bar offset len
       shows_is i bar offset len = ⊎_elim
           (λ lt.
           let x = get_there (sites plan) i lt in

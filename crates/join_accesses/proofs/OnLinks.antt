@@ -24,8 +24,7 @@ pub list_same : {A : Type 0} (xs ys : List A) → ((k : ℕ) → slice_get xs k 
 list_same [] [] same = refl
 list_same [] (y ∷ ys) same = absurd (none-some y (same 0))
 list_same (x ∷ xs) [] same = absurd (none-some x (sym (same 0)))
-list_same (x ∷ xs) (y ∷ ys) same =
-    λ i. same_Some x y (same 0) i ∷ list_same xs ys (λ k. same (suc k)) i
+list_same (x ∷ xs) (y ∷ ys) same = λ i. same_Some x y (same 0) i ∷ list_same xs ys (λ k. same (suc k)) i
 
 pub get_drop : {A : Type 0} (n : ℕ) (xs : List A) (k : ℕ) → slice_get (drop n xs) k ≡ slice_get xs (n + k)
 get_drop zero xs k = let same : k ≡ 0 + k = omega arith in ap (slice_get xs) same
@@ -150,8 +149,7 @@ on_link_at plan link k ys many lt =
 
 pub on_link_past : {A : Type 0} (plan : Plan) (link k : ℕ) (ys : List A) → length ys ≡ length (sites plan)
     → length (planned_on plan.links link) ≤ k → slice_get (on_link link (sites plan) ys) k ≡ None
-on_link_past plan link k ys many le =
-    ap (λ zs. slice_get zs k) (on_link_is plan link ys many)
+on_link_past plan link k ys many le = ap (λ zs. slice_get zs k) (on_link_is plan link ys many)
     ∙ get_past (length (planned_on plan.links link)) (drop (interfaces_before plan.links link) ys) k le
 
 -- ---- one is changed

@@ -28,7 +28,7 @@ use Rattle.spec_interfaces.specs.Sites.{Site}
 use Rattle.machine_whole.specs.Interfaces.{Face}
 unfoldable use Rattle.spec_links.specs.Ports.{port_of}
 use Rattle.spec_links.specs.Ports.{is_device_port}
-use Rattle.spec_links.specs.Guarded.{happens_by, stored_each}
+use Rattle.spec_links.specs.Guarded.{happens_by_packets, stored_each}
 use Rattle.spec_links.specs.Hops.{HopTlp, is_forward_on}
 use Rattle.spec_links.specs.Memory.{plain_of}
 use Rattle.spec_links.specs.Sent.{is_answer_on, reads_by}
@@ -62,8 +62,7 @@ pub reads_rest : (plan : Plan) (e : Event) (w : Verdict) (link : ℕ) (rs : List
     → rs ≡ waiting_reads_after plan [] e w link rs
 reads_rest plan e (v.Accepted port unit effects) link rs is =
     sym (none_joins ((port_of plan port).line == link) unit.draw effects rs)
-reads_rest plan e (v.Sealed ds) link rs is =
-    sym (ap (λ (b : Bool). if b then drop 1 rs else rs) (no_answer link e is))
+reads_rest plan e (v.Sealed ds) link rs is = sym (ap (λ (b : Bool). if b then drop 1 rs else rs) (no_answer link e is))
 reads_rest plan e (v.Access (av.Dropped i c)) link rs is =
     sym (ap (λ (b : Bool). if b then drop 1 rs else rs) (no_answer link e is))
 reads_rest plan (event.Reset k ends) (v.Reset l) link rs is = absurd cc
@@ -93,8 +92,7 @@ no_forward link d e is = refl
 pub hops_rest : (e : Event) (w : Verdict) (link : ℕ) (d : Direction) (xs : List HopTlp) → touches_hops e ≡ false
     → xs ≡ waiting_next [] link d e w xs
 hops_rest e (v.Accepted port unit effects) link d xs is = sym (if_added _ xs)
-hops_rest e (v.Sealed ds) link d xs is =
-    sym (ap (λ (b : Bool). if b then drop 1 xs else xs) (no_forward link d e is))
+hops_rest e (v.Sealed ds) link d xs is = sym (ap (λ (b : Bool). if b then drop 1 xs else xs) (no_forward link d e is))
 hops_rest (event.Reset k ends) (v.Reset l) link d xs is = absurd cc
 hops_rest e w link d xs is = refl
 
@@ -108,7 +106,7 @@ touches_memory (event.Interface (ie.Flr i)) = true
 touches_memory e = false
 
 pub none_stored : (plan : Plan) (statuses : ℕ → List InterfaceStatus) (e : Event) (port : PortName) (unit : UnitName)
-    (effects : List Effect) (link : ℕ) → [] ≡ happens_by plan statuses [] e (v.Accepted port unit effects) link
+    (effects : List Effect) (link : ℕ) → [] ≡ happens_by_packets plan statuses [] e (v.Accepted port unit effects) link
 none_stored plan statuses e port unit effects link =
     by ((port_of plan port).line == link) (is_device_port plan (port_of plan port))
   where
@@ -119,9 +117,8 @@ none_stored plan statuses e port unit effects link =
     by false b = refl
 
 pub memory_rests : (plan : Plan) (statuses : ℕ → List InterfaceStatus) (e : Event) (w : Verdict) (link : ℕ)
-    → touches_memory e ≡ false → [] ≡ happens_by plan statuses [] e w link
-memory_rests plan statuses e (v.Accepted port unit effects) link is =
-    none_stored plan statuses e port unit effects link
+    → touches_memory e ≡ false → [] ≡ happens_by_packets plan statuses [] e w link
+memory_rests plan statuses e (v.Accepted port unit effects) link is = none_stored plan statuses e port unit effects link
 memory_rests plan statuses (event.Reset l ends) (v.Reset k) link is = absurd cc
 memory_rests plan statuses (event.Interface (ie.Halt i loss)) w link is = absurd cc
 memory_rests plan statuses (event.Interface (ie.Flr i)) w link is = absurd cc
@@ -236,6 +233,5 @@ floors_started base (suc k) loss draw (y ∷ xs) (p ∷ fs) (q ∷ gs) (n ∷ ns
 pub floors_unnamed : (i : ℕ) (loss : Option Loss) (draw : Site → ℕ) (xs : List Site) (fs gs : List Face) (ns : List ℕ)
     → ((j : ℕ) (y : Site) → slice_get xs j ≡ Some y → (i == y.number) ≡ false) → AreMany xs fs gs ns
     → floors_after (event.Interface (ie.Start i loss)) draw xs fs gs ns ≡ ns
-floors_unnamed i loss draw xs fs gs ns other many =
-    floors_stay (event.Interface (ie.Start i loss)) draw xs fs gs ns
+floors_unnamed i loss draw xs fs gs ns other many = floors_stay (event.Interface (ie.Start i loss)) draw xs fs gs ns
     (λ j z ran runs floor there. unnamed i z.number (not ran && runs) (draw z) floor (other j z there)) many

@@ -75,9 +75,8 @@ beside_is plan s w links each whole =
 pub answers_are : (plan : Plan) (s : WholeLinks) (w : Whole) → InterfaceOperationsJoin
     → AreLinks plan s.links.ends s.links.keeper.keys → IsWholeState (world_of plan s) w → (e : InterfaceEvent)
     → answer_of_links s.links e ≡ Some ((beside_of plan w).answer e)
-answers_are plan s w joins links whole =
-    answer_is plan s.links.ends s.links.keeper s.links.packets.packets s.links.trusted.contents w joins links
-    whole.beside whole.drawn whole.links
+answers_are plan s w joins links whole = answer_is plan s.links.ends s.links.keeper s.links.packets.packets
+    s.links.trusted.contents w joins links whole.beside whole.drawn whole.links
 
 pub is_answered : (plan : Plan) (s : WholeLinks) (w : Whole) → InterfaceOperationsJoin
     → AreLinks plan s.links.ends s.links.keeper.keys

@@ -33,7 +33,7 @@ use Rattle.spec_interfaces.specs.Floors.{interfaces_before, place_of}
 use Rattle.spec_interfaces.proofs.Floors.{planned_on}
 use Rattle.spec_interfaces.specs.Sites.{Site, site_at, sites}
 use Rattle.machine_whole.specs.Interfaces.{Face}
-use Rattle.spec_links.specs.Guarded.{happens_by, happens_if, halted_at, reset_at}
+use Rattle.spec_links.specs.Guarded.{happens_by_packets, happens_if, halted_at, reset_at}
 use Rattle.ide_port.specs.{receiving_draw_in}
 use Rattle.link_stores.specs.declared.link.LinkAccesses.{LinkAccesses}
 use Rattle.machine_ports.specs.Machine.{BesidePorts, LinkState, Stepped, reset_state}
@@ -85,8 +85,7 @@ before_grows [] link other lt = omega arith
 before_grows (l ∷ ls) zero zero lt = absurd (omega (arith, lt))
 before_grows (l ∷ ls) zero (suc other) lt = omega arith
 before_grows (l ∷ ls) (suc link) zero lt = absurd (omega (arith, lt))
-before_grows (l ∷ ls) (suc link) (suc other) lt =
-    omega (arith, before_grows ls link other (omega (arith, lt)))
+before_grows (l ∷ ls) (suc link) (suc other) lt = omega (arith, before_grows ls link other (omega (arith, lt)))
 
 cases_apart : (a b : ℕ) → (a == b) ≡ false → (a < b) ⊎ (b < a)
 cases_apart a b other = ⊎_elim (λ lt. inl lt)
@@ -146,7 +145,7 @@ module _ (plan : Plan) (old new : WholeLinks) (w : Whole) (verdict : Verdict)
       → ((link : ℕ) → floors_then link (on_link link (sites plan) w.accesses.floors)
       ≡ on_link link (sites plan)
       (floors_after e (device_draw_at plan w.links) (sites plan) w.faces.list (faces_now e) w.accesses.floors))
-      → ((link : ℕ) → happens link ≡ happens_by plan statuses (ended_unit plan w e) e verdict link)
+      → ((link : ℕ) → happens link ≡ happens_by_packets plan statuses (ended_unit plan w e) e verdict link)
       → ((link : ℕ) (d : Direction) (xs : List HopTlp) → link < 8 → carried_then link d xs
       ≡ waiting_next (unit_tlps plan (ended_unit plan w e) verdict) link d e verdict xs) → AreAfter e
   turned e reads_then floors_then happens carried_then after turn reads floors same carried = record {
@@ -184,8 +183,7 @@ module _ (plan : Plan) (old new : WholeLinks) (w : Whole) (verdict : Verdict)
   hops_turn : (e : Event) → ended_unit plan w e ≡ [] → (link : ℕ) (d : Direction) (xs : List HopTlp) → link < 8
       → carried_after_event e verdict link d xs
       ≡ waiting_next (unit_tlps plan (ended_unit plan w e) verdict) link d e verdict xs
-  hops_turn e none link d xs lt =
-      ap (λ (new : List HopTlp). waiting_next new link d e verdict xs)
+  hops_turn e none link d xs lt = ap (λ (new : List HopTlp). waiting_next new link d e verdict xs)
       (sym (no_unit plan verdict) ∙ ap (λ (ps : List Packet). unit_tlps plan ps verdict) (sym none))
 
   -- ---- what leaves all of it
@@ -198,7 +196,7 @@ module _ (plan : Plan) (old new : WholeLinks) (w : Whole) (verdict : Verdict)
       ∙ ap (λ (ps : List Packet). waiting_reads_after plan ps e verdict link rs) (sym none))
       (floors_kept e after floors)
       (λ link. memory_rests plan statuses e verdict link memory
-      ∙ ap (λ (ps : List Packet). happens_by plan statuses ps e verdict link) (sym none))
+      ∙ ap (λ (ps : List Packet). happens_by_packets plan statuses ps e verdict link) (sym none))
       (hops_kept e none hops)
 
   -- ---- arrivals
@@ -212,7 +210,7 @@ module _ (plan : Plan) (old new : WholeLinks) (w : Whole) (verdict : Verdict)
       turned e _ same_floors _ _ after (sides.turn h both.links stands)
       (λ link rs. ap (λ (ps : List Packet). waiting_reads_after plan ps e verdict link rs) units)
       (floors_kept e after floors)
-      (λ link. (λ i. happens_by plan
+      (λ link. (λ i. happens_by_packets plan
       (λ l. statuses_are plan old.links.ends.links old.links.keeper.interfaces old.links.trusted.contents w
       both.whole.beside both.links.fits both.links.many old.accesses many before l i) (units i) e verdict link))
       (λ link d xs lt.
@@ -250,7 +248,7 @@ module _ (plan : Plan) (old new : WholeLinks) (w : Whole) (verdict : Verdict)
       (carried_after_event e verdict) after
       turn (λ l rs. refl) (floors_kept e after refl)
       (λ l. ap (λ (u : Verdict). reset_happens u l) says ∙ (by (link == l)
-      ∙ sym (ap (λ (u : Verdict). happens_by plan statuses [] e u l) says)))
+      ∙ sym (ap (λ (u : Verdict). happens_by_packets plan statuses [] e u l) says)))
       (hops_turn e refl)
     where
       by : (b : Bool) → (if b then Some AllReset ∷ [] else []) ≡ happens_if b AllReset
@@ -265,7 +263,7 @@ module _ (plan : Plan) (old new : WholeLinks) (w : Whole) (verdict : Verdict)
       (carried_after_event e verdict) after
       turn (λ l rs. refl) (floors_kept e after refl)
       (λ l. ap (λ (u : Verdict). reset_happens u l) says
-      ∙ sym (ap (λ (u : Verdict). happens_by plan statuses [] e u l) says))
+      ∙ sym (ap (λ (u : Verdict). happens_by_packets plan statuses [] e u l) says))
       (hops_turn e refl)
 
   -- ---- one interface
@@ -302,22 +300,19 @@ module _ (plan : Plan) (old new : WholeLinks) (w : Whole) (verdict : Verdict)
 
     place_now : (i : ℕ) (x : Site) → slice_get (sites plan) i ≡ Some x
         → (p : IsPlaced plan new.links.ends.links new.links.keeper.interfaces whole_now i x) → p.place ≡ place_of plan x
-    place_now i x at p =
-        place_is plan new.links.ends.links new.links.keeper.interfaces new.links.trusted.contents whole_now after
-        both.links_after.fits both.links_after.many i x p at
+    place_now i x at p = place_is plan new.links.ends.links new.links.keeper.interfaces new.links.trusted.contents
+        whole_now after both.links_after.fits both.links_after.many i x p at
 
     bars_now : (i : ℕ) (x : Site) → slice_get (sites plan) i ≡ Some x
         → (p : IsPlaced plan new.links.ends.links new.links.keeper.interfaces whole_now i x)
         → bars_named new.links i ≡ x.plan.bars
-    bars_now i x at p =
-        ap (λ (o : Option DeviceTdi). option_map_or (λ (t : DeviceTdi). t.plan.bars) o []) (named_now i x at p)
-        ∙ ap (λ y. y.bars) p.keeps.layout
+    bars_now i x at p = ap (λ (o : Option DeviceTdi). option_map_or (λ (t : DeviceTdi). t.plan.bars) o [])
+        (named_now i x at p) ∙ ap (λ y. y.bars) p.keeps.layout
 
     nowhere_now : (i : ℕ) → length (sites plan) ≤ i
         → interface_named new.links.keeper.interfaces new.links.ends.links i ≡ None
-    nowhere_now i le =
-        interface_absent plan new.links.ends.links new.links.keeper.interfaces new.links.trusted.contents whole_now i
-        after le
+    nowhere_now i le = interface_absent plan new.links.ends.links new.links.keeper.interfaces new.links.trusted.contents
+        whole_now i after le
 
   -- ---- the memory of one interface
 
@@ -347,7 +342,7 @@ module _ (plan : Plan) (old new : WholeLinks) (w : Whole) (verdict : Verdict)
           ∙ (sym (there x) ∙ sym (ap by_site (site_found plan i x is)))))
 
   halt_happens : (i : ℕ) (loss : Option Loss) (w' : Verdict) (link : ℕ) → halted_at plan w' link (site_at plan i)
-      ≡ happens_by plan statuses [] (event.Interface (ie.Halt i loss)) w' link
+      ≡ happens_by_packets plan statuses [] (event.Interface (ie.Halt i loss)) w' link
   halt_happens i loss (v.Accepted port unit effects) link =
       by (site_at plan i) ∙ none_stored plan statuses (event.Interface (ie.Halt i loss)) port unit effects link
     where
@@ -357,7 +352,8 @@ module _ (plan : Plan) (old new : WholeLinks) (w : Whole) (verdict : Verdict)
   halt_happens i loss w' link = refl
 
   flr_happens : (i : ℕ) (w' : Verdict) (link : ℕ)
-      → reset_at plan w' link (site_at plan i) ≡ happens_by plan statuses [] (event.Interface (ie.Flr i)) w' link
+      → reset_at plan w' link (site_at plan i) ≡ happens_by_packets plan statuses [] (event.Interface (ie.Flr i)) w'
+      link
   flr_happens i (v.Accepted port unit effects) link =
       by (site_at plan i) ∙ none_stored plan statuses (event.Interface (ie.Flr i)) port unit effects link
     where
@@ -489,8 +485,7 @@ module _ (plan : Plan) (old new : WholeLinks) (w : Whole) (verdict : Verdict)
         draw_at : (c : Bool) (link : ℕ) → (x.link == link) ≡ c → (floors : List ℕ)
             → (if c then slice_set floors q.place (device_draw new.links i x.link) else floors)
             ≡ (if c then slice_set floors q.place (device_draw_at plan w.links x) else floors)
-        draw_at c link is floors =
-            ap (λ (d : ℕ). if c then slice_set floors q.place d else floors) draw_is
+        draw_at c link is floors = ap (λ (d : ℕ). if c then slice_set floors q.place d else floors) draw_is
 
         floors_there : (link : ℕ) → floors_started old.links new.links i link
             (on_link link (sites plan) w.accesses.floors) ≡ on_link link (sites plan) floors_machine
@@ -582,8 +577,7 @@ module _ (plan : Plan) (old new : WholeLinks) (w : Whole) (verdict : Verdict)
   accesses_are (event.Cut n len) h stands after step sides = arrived (event.Cut n len) h after refl stands sides
   accesses_are (event.Arrive port bytes) h stands after step sides =
       arrived (event.Arrive port bytes) h after refl stands sides
-  accesses_are (event.Dump n) h stands after step sides =
-      kept (event.Dump n) after refl refl refl refl refl sides
+  accesses_are (event.Dump n) h stands after step sides = kept (event.Dump n) after refl refl refl refl refl sides
   accesses_are (event.Establish link stream loss) h stands after step sides =
       kept (event.Establish link stream loss) after refl refl refl refl refl sides
   accesses_are (event.Refresh link stream loss) h stands after step sides =

@@ -4,7 +4,7 @@ pub use Rattle.join_ends.proofs.Turns.{TurnsHere, RestsAt, turn_at, stays_all}
 use Rattle.join_ends.proofs.Turns.{set_twice}
 use Rattle.join_arrivals.proofs.Arrivals.{effects_at, end_of}
 use Rattle.join_ends.specs.{InterfacesView, KeeperView, LinkEnds, EndsView, port_on, waiting_reads_after, unit_in}
-use Rattle.join_ends.specs.{AreLinks, state_of, Arrives, ArrivesAt, Comes, Leaves, link_statuses, unit_tlps}
+use Rattle.join_ends.specs.{AreLinks, state_of, Arrives, ArrivesAtEnd, Comes, Leaves, link_statuses, unit_tlps}
 use Rattle.join_ends.proofs.{set_there}
 use Rattle.ide_types.specs.declared.plan.Region.{Region}
 use Rattle.machine_ports.specs.Machine.{LinkPacket, LinkState}
@@ -65,7 +65,7 @@ use Rattle.spec_links.specs.Ports.{at_switch, is_device_port, port_of}
 use Rattle.spec_links.specs.Packets.{received_in}
 use Rattle.spec_links.specs.Hops.{entering_end}
 use Rattle.spec_links.specs.Sent.{read_in, reads_by}
-use Rattle.spec_links.specs.Guarded.{asked_happens, happens_by, stored_each, unit_happenings, stored_packet}
+use Rattle.spec_links.specs.Guarded.{asked_happens, happens_by_packets, stored_each, unit_happenings, stored_packet}
 
 -- ---- pages that are taken first
 
@@ -101,7 +101,7 @@ on_err (Err e) p = p
 pub brings_spared : (m : InterfacesView) (end port : PortName) (bytes : List ℕ) (verdict : Verdict) (old : EndsView)
     (c mid : MemoryContents) (xs : List LinkAccesses) (a b : LinkAccesses) (new : EndsView) (d : MemoryContents)
     (ys : List LinkAccesses) → mid ≡ c → slice_get xs port.line ≡ Some a → IsSpared a b
-    → ArrivesAt old (slice_set xs port.line b) mid.regions (grants_in m) end port bytes verdict mid d new ys
+    → ArrivesAtEnd old (slice_set xs port.line b) mid.regions (grants_in m) end port bytes verdict mid d new ys
     → (is_some (port_on old end) ≡ false → Leaves verdict old mid (slice_set xs port.line b) new d ys)
     → d.regions ≡ mid.regions → Brings m end port bytes verdict old c xs new d ys
 brings_spared m end port bytes verdict old c mid xs a b new d ys same is spared arrives absent regions =
@@ -208,7 +208,7 @@ IsQuiet plan e = (w : Verdict) (k : ℕ) → asked_happens plan e w k ≡ []
 module _ (plan : Plan) (statuses : ℕ → List InterfaceStatus) (ps : List Packet) (e : Event) (quiet : IsQuiet plan e)
     (end port : PortName) (at : port_of plan end ≡ port) (effects : UnitName → List Effect) where
   abbrev happens : Arrival → ℕ → List (Option Happened)
-  happens answer k = happens_by plan statuses ps e (arrival_verdict end port answer effects) k
+  happens answer k = happens_by_packets plan statuses ps e (arrival_verdict end port answer effects) k
 
   abbrev stored_by_unit : UnitName → List (Option Happened)
   stored_by_unit unit = unit_happenings (statuses port.line) plan end unit ps
@@ -262,13 +262,11 @@ module _ (xs : List InterfaceStatus) (plan : Plan) (end port : PortName) (at : p
 
   -- the end is at a device's port, or at a host's
   device_there : port.side ≡ Device → is_device_port plan (port_of plan end) ≡ true
-  device_there device =
-      ap (λ (q : PortName). is_device_port plan q) at
+  device_there device = ap (λ (q : PortName). is_device_port plan q) at
       ∙ (λ i. not (apart i) && (sent_direction (device i) == 1))
 
   host_there : port.side ≡ Host → is_device_port plan (port_of plan end) ≡ false
-  host_there host =
-      ap (λ (q : PortName). is_device_port plan q) at
+  host_there host = ap (λ (q : PortName). is_device_port plan q) at
       ∙ (λ i. not (apart i) && (sent_direction (host i) == 1))
 
   stores_open : port.side ≡ Device → OpensAs plan end (λ unit ps. unit_happenings xs plan end unit ps)
@@ -383,9 +381,8 @@ module _ (plan : Plan) (ends : EndsView) (k : KeeperView) (packets : List LinkPa
 
   reads_agree : of_unit answer (λ unit. reads_by unit.draw (effects unit) ended)
       ≡ of_unit answer (λ unit. reads_by unit.draw (effects unit) delivered)
-  reads_agree =
-      agrees (λ unit ps. reads_by unit.draw (effects unit) ps) (λ unit ps. reads_by unit.draw (effects unit) ps)
-      (λ unit ps. reads_opened unit.draw (effects unit) _ _ 0 ps)
+  reads_agree = agrees (λ unit ps. reads_by unit.draw (effects unit) ps)
+      (λ unit ps. reads_by unit.draw (effects unit) ps) (λ unit ps. reads_opened unit.draw (effects unit) _ _ 0 ps)
 
   statuses_are : statuses port.line ≡ link_statuses l a
   statuses_are = (λ i. statuses_of_ends (l_is i) (a_is i))
@@ -416,7 +413,7 @@ module _ (plan : Plan) (ends : EndsView) (k : KeeperView) (packets : List LinkPa
       ≡ a.guarded.sizes → MmioLeads a.guarded
       (of_unit answer (λ unit. map (packet_stored (link_statuses l a) port unit) delivered)) a'.guarded → a'.carried
       ≡ a.carried → TurnsHere (waiting_reads_after plan ended e says port.line) (same_floors port.line)
-      (happens_by plan statuses ended e says port.line) (carried_next new e says port.line) a a'
+      (happens_by_packets plan statuses ended e says port.line) (carried_next new e says port.line) a a'
   turns_here new a' reads floors sizes stored carried = record {
     reads_are = reads ∙ ap (λ (ws : List WaitingRead). a.reads ++ ws) (sym reads_agree)
         ∙ sym (reads_here plan ended e end port at effects answer a.reads);
@@ -437,7 +434,7 @@ module _ (plan : Plan) (ends : EndsView) (k : KeeperView) (packets : List LinkPa
   }
 
   rests_there : (new : List HopTlp) (i : ℕ) → (port.line == i) ≡ false
-      → RestsAt (waiting_reads_after plan ended e says) same_floors (happens_by plan statuses ended e says)
+      → RestsAt (waiting_reads_after plan ended e says) same_floors (happens_by_packets plan statuses ended e says)
       (carried_next new e says) i
   rests_there new i other = record {
     reads_rest = λ ws. reads_there plan ended e end port at effects answer i ws other;
@@ -458,7 +455,8 @@ pub arrival_turns : (plan : Plan) (ends new : EndsView) (k : KeeperView) (packet
     → PortsStandFor plan (state_of plan ends k packets) h
     → (let ps = unit_in plan (state_of plan ends k packets) (Some (record { port = end; bytes = bytes })) in
     AccessesTurn (waiting_reads_after plan ps e verdict) same_floors
-    (happens_by plan (policy_in m ends xs).statuses ps e verdict) (carried_next (unit_tlps plan ps verdict) e verdict)
+    (happens_by_packets plan (policy_in m ends xs).statuses ps e verdict)
+    (carried_next (unit_tlps plan ps verdict) e verdict)
     xs zs)
 arrival_turns plan ends new k packets m c d xs zs h end port here l a bytes verdict here_is l_is a_is at apart no_way
     brought e quiet links stands =
@@ -469,10 +467,10 @@ arrival_turns plan ends new k packets m c d xs zs h end port here l a bytes verd
     (λ unit. effects_at c.regions m port l a unit (take_step here (cut_of bytes)).port.delivered) in
     let tlps : List HopTlp = unit_tlps plan ps says in
     subst (λ (ws : List LinkAccesses). AccessesTurn (waiting_reads_after plan ps e verdict) same_floors
-    (happens_by plan statuses ps e verdict) (carried_next (unit_tlps plan ps verdict) e verdict) xs ws)
+    (happens_by_packets plan statuses ps e verdict) (carried_next (unit_tlps plan ps verdict) e verdict) xs ws)
     (sym x.accesses_are)
     (subst (λ (w : Verdict). AccessesTurn (waiting_reads_after plan ps e w) same_floors
-    (happens_by plan statuses ps e w) (carried_next (unit_tlps plan ps w) e w) xs
+    (happens_by_packets plan statuses ps e w) (carried_next (unit_tlps plan ps w) e w) xs
     (slice_set xs port.line x.access)) (sym x.came.verdict_is)
     (turn_at _ _ _ _ xs port.line a x.access a_is
     (turns_here plan ends k packets m c.regions xs h end port here l a links stands here_is l_is a_is at apart no_way e

@@ -66,8 +66,7 @@ Opens b end effects = (unit : UnitName) (key iv : List ℕ) (n : ℕ) (ps : List
 
 module _ (plan : Plan) (policy : Policy) (port : PortName) (unit : UnitName) (apart : at_switch plan port ≡ false) where
   abbrev effect_at : ℕ → Packet → Effect
-  effect_at waiting p =
-      packet_effect plan.memory policy.grants (policy.statuses port.line) waiting port unit p
+  effect_at waiting p = packet_effect plan.memory policy.grants (policy.statuses port.line) waiting port unit p
 
   same_host : (waiting : ℕ) (p : Packet) (r : Result HeadView TlpFault)
       → head_effect plan.memory policy.grants port.line waiting unit p.prefix.t r

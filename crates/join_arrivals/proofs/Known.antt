@@ -57,8 +57,7 @@ kept_one : (xs : List (SealedPacket × Packet)) (i : ℕ) (y : LinkPacket)
     → slice_get (map (λ (x : SealedPacket × Packet). kept_packet x.0.port x.1) xs) i ≡ Some y
     → (x : SealedPacket × Packet) × (slice_get xs i ≡ Some x) × (x.0.port ≡ y.port)
 kept_one [] i y is = absurd (none-some y is)
-kept_one (x ∷ xs) zero y is =
-    (x, refl, ap (λ (z : LinkPacket). z.port) (same_Some (kept_packet x.0.port x.1) y is))
+kept_one (x ∷ xs) zero y is = (x, refl, ap (λ (z : LinkPacket). z.port) (same_Some (kept_packet x.0.port x.1) y is))
 kept_one (x ∷ xs) (suc i) y is = kept_one xs i y is
 
 seat : (packets : List LinkPacket) (n : ℕ) (y : LinkPacket) → packet_numbered packets n ≡ Some y

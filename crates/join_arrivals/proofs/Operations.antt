@@ -95,7 +95,7 @@ named_as : (m : ManagerView) (line id : ℕ) (n : Named) → named_stream m line
 named_as m line id n is =
     let s : IsNamed m line id n = named_stands m line id n is in
     let same : n ≡ at_place line id n.place n.stream.op n.stream.keys =
-    (λ i. record n { stream = record n.stream { line = s.link_is i; id = s.id_is i } }) in
+    (λ i. record n { stream = record n.stream { line = s.line_is i; id = s.id_is i } }) in
     is ∙ ap (λ (y : Named). Some y) same
 
 -- an unfinished operation of such a line is at one of its exchanges
@@ -136,7 +136,7 @@ module _ (plan : Plan) (ends : EndsView) (k : KeeperView) (packets : List LinkPa
         (reach_of operation (verdict_due plan st operation n.stream.op line id loss)) x y s.op k'.pool.draws
     pool : k'.pool ≡ pool_by (work_of operation n.stream.op k.pool.draws)
         (reach_of operation (verdict_due plan st operation n.stream.op line id loss)) k.pool
-    link_is : s.line ≡ n.stream.line
+    line_is : s.line ≡ n.stream.line
     id_is : s.id ≡ n.stream.id
     kept : StreamKept plan s
 
@@ -160,7 +160,7 @@ module _ (plan : Plan) (ends : EndsView) (k : KeeperView) (packets : List LinkPa
         links = keeper_kept plan v' k after k'
             (ap (λ (vs : List StreamView). map name_of vs) gives.streams
             ∙ names_set k.manager.streams n.place n.stream gives.s gives.named_is.read
-            (λ i. (gives.link_is i, gives.id_is i)))
+            (λ i. (gives.line_is i, gives.id_is i)))
             (subst (λ (vs : List StreamView). (i : ℕ) (z : StreamView) → slice_get vs i ≡ Some z → StreamKept plan z)
             (sym gives.streams)
             (each_set (λ i z. StreamKept plan z) k.manager.streams n.place gives.s gives.kept after.kept))
@@ -277,10 +277,10 @@ module _ (plan : Plan) (ends : EndsView) (k : KeeperView) (packets : List LinkPa
               draws_is = ap (λ (p : Pool). p.draws) same ∙ j.draws_is;
             };
             pool = same;
-            link_is = j.link_is;
+            line_is = j.line_is;
             id_is = j.id_is;
             kept = subst (λ (b : Bool). KeptBy b plan walk.ends.keeper)
-                (sym (ap (λ (m : ℕ). is_hosted m) j.link_is ∙ hosted)) j.keys_are;
+                (sym (ap (λ (m : ℕ). is_hosted m) j.line_is ∙ hosted)) j.keys_are;
           };
           keeps = record {
             host = port_operated l.host l'.host id walk.ends.host walked.stands.host;
@@ -360,10 +360,10 @@ module _ (plan : Plan) (ends : EndsView) (k : KeeperView) (packets : List LinkPa
               draws_is = ap (λ (p : Pool). p.draws) same ∙ j.draws_is;
             };
             pool = same;
-            link_is = j.link_is;
+            line_is = j.line_is;
             id_is = j.id_is;
             kept = subst (λ (b : Bool). KeptBy b plan walk.ends.keeper)
-                (sym (ap (λ (m : ℕ). is_hosted m) j.link_is ∙ paired)) j.keys_are;
+                (sym (ap (λ (m : ℕ). is_hosted m) j.line_is ∙ paired)) j.keys_are;
           };
           keeps = record {
             near_side = walked.stands.near_stays;
@@ -586,9 +586,7 @@ module _ (plan : Plan) (ends : EndsView) (k : KeeperView) (packets : List LinkPa
       )
 
       by : PlaceIs line → Comes ends'
-      by (AtLink place hosted) =
-          let m = moved (Link line) place in on_link joins place hosted m.0 m.1
-      by (AtNear i line_is place hosted) =
-          let m = moved (Near i) place in on_near joins i line_is place hosted m.0 m.1
+      by (AtLink place hosted) = let m = moved (Link line) place in on_link joins place hosted m.0 m.1
+      by (AtNear i line_is place hosted) = let m = moved (Near i) place in on_near joins i line_is place hosted m.0 m.1
       by (AtPair i line_is place paired late) =
           let m = moved (Pair i) place in on_pair pairs i line_is place paired late m.0 m.1

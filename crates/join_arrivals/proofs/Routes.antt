@@ -21,8 +21,8 @@ use Rattle.ide_types.specs.declared.plan.HopPlan.{HopPlan}
 use Rattle.ide_types.specs.declared.plan.PeerPlan.{PeerPlan}
 use Rattle.ide_types.specs.declared.stream.StreamPlan.{StreamPlan}
 use Rattle.ide_types.specs.Plans.{hop_has_id}
-use Rattle.ide_types.specs.Ends.{own_has_id, link_hop, port_beside_end, peer_link, hop_end, peer_end_at, end_at_port}
-use Rattle.ide_types.specs.Ends.{end_at}
+use Rattle.ide_types.specs.Ends.{own_has_id, link_hop, port_beside_end, peer_link, hop_end, peer_end_at_port}
+use Rattle.ide_types.specs.Ends.{end_at_port, end_at}
 unfoldable use Rattle.ide_types.specs.Ends.{peer_end}
 use Rattle.ide_types.specs.Fits.{FitsPlan, FitsPeer}
 use Rattle.ide_types.proofs.EndsFound.{all_at}
@@ -69,8 +69,7 @@ module _ (plan : Plan) (fits : FitsPlan plan) where
       by true b c a_is b_is c_is is = OfLink (ltb-true line (length plan.links) is) (ltb-true line 8 a_is)
       by false true c a_is b_is c_is is =
           NearHop (line - 8) (grind (arith, nat_tests)) (grind (arith, nat_tests)) (hop_within plan.links (line - 8) is)
-      by false false true a_is b_is c_is is =
-          FarHop (line - 16) (grind (arith, nat_tests)) (grind (arith, nat_tests))
+      by false false true a_is b_is c_is is = FarHop (line - 16) (grind (arith, nat_tests)) (grind (arith, nat_tests))
           (hop_within plan.links (line - 16) is)
       by false false false a_is b_is c_is is =
           let f = there plan.peers (line - 24) (ltb-true (line - 24) (length plan.peers) is) in
@@ -289,8 +288,7 @@ module _ (plan : Plan) (fits : FitsPlan plan) where
           subst (λ (line : ℕ). StandsAt (end_of end.side line)) (sym at) (near_at end.side i low less)
       by (FarHop i at low less) =
           subst (λ (line : ℕ). StandsAt (end_of end.side line)) (sym at) (far_at end.side i low less)
-      by (Between n at) =
-          subst (λ (line : ℕ). StandsAt (end_of end.side line)) (sym at.at)
+      by (Between n at) = subst (λ (line : ℕ). StandsAt (end_of end.side line)) (sym at.at)
           (between_at end.side n at.plan_of at.there)
 
   -- ---- the end that bytes meet is there
@@ -326,8 +324,7 @@ module _ (plan : Plan) (fits : FitsPlan plan) where
           else peer_end ps (n + 1) link id) ≡ Some e → (k : ℕ) × (e.line ≡ 24 + (n + k)) × (k < length (p ∷ ps))
       by true b later is = here (host_port (peer_line n)) refl is
       by false true later is = here (device_port (peer_line n)) refl is
-      by false false later is =
-          let f = later is in (suc f.0, omega (arith, f.1), omega (arith, f.2))
+      by false false later is = let f = later is in (suc f.0, omega (arith, f.1), omega (arith, f.2))
 
   found_there : (q : PortName) (id : ℕ) → has_port plan q ≡ true → (o : Option PortName)
       → peer_end plan.peers 0 q.line id ≡ o → has_port plan (unwrap_or o q) ≡ true
@@ -338,10 +335,9 @@ module _ (plan : Plan) (fits : FitsPlan plan) where
       subst (λ (line : ℕ). has_line plan line ≡ true) (sym at) (peer_there f.0 f.2)
 
   peers_there : (side : Side) (line id : ℕ) → has_port plan (end_of side line) ≡ true
-      → has_port plan (peer_end_at plan.peers (end_of side line) id) ≡ true
+      → has_port plan (peer_end_at_port plan.peers (end_of side line) id) ≡ true
   peers_there Host line id itself = itself
-  peers_there Device line id itself =
-      found_there (end_of Device line) id itself (peer_end plan.peers 0 line id) refl
+  peers_there Device line id itself = found_there (end_of Device line) id itself (peer_end plan.peers 0 line id) refl
 
   at_link_there : (q : PortName) (id : ℕ) → IsLinkPort q → has_port plan (end_at_port plan q id) ≡ true
   at_link_there q id at =
@@ -352,15 +348,15 @@ module _ (plan : Plan) (fits : FitsPlan plan) where
       itself = link_there q.line at.less
 
       by : (a b : Bool) → hop_has_id (link_hop (slice_get plan.links q.line)) id ≡ b
-          → has_port plan (if a then q else if b then hop_end q.side q.line else peer_end_at plan.peers q id) ≡ true
+          → has_port plan (if a then q else if b then hop_end q.side q.line else peer_end_at_port plan.peers q id)
+          ≡ true
       by true b is = itself
       by false true is = hop_there q.side q.line id at.low is
       by false false is = peers_there q.side q.line id itself
 
   on_way_there : (q : PortName) (id : ℕ) → 8 ≤ q.line → has_port plan q ≡ true → has_port plan (end_at_port plan q id)
       ≡ true
-  on_way_there q id least itself =
-      let high : nat_lt q.line 8 ≡ false = grind (arith, nat_tests) in rw high itself
+  on_way_there q id least itself = let high : nat_lt q.line 8 ≡ false = grind (arith, nat_tests) in rw high itself
 
   port_there : (end : PortName) → has_port plan end ≡ true → StandsAt end → has_port plan (port_of plan end) ≡ true
   port_there end is (Apart at) = link_there (port_of plan end).line at.port.less
@@ -368,12 +364,10 @@ module _ (plan : Plan) (fits : FitsPlan plan) where
 
   met_there : (end : PortName) (id : ℕ) → has_port plan end ≡ true → StandsAt end → has_port plan (end_at plan end id)
       ≡ true
-  met_there end id is (Apart at) =
-      subst (λ (q : PortName). has_port plan (end_at_port plan q id) ≡ true) (sym at.at_is)
+  met_there end id is (Apart at) = subst (λ (q : PortName). has_port plan (end_at_port plan q id) ≡ true) (sym at.at_is)
       (at_link_there (port_of plan end) id at.port)
-  met_there end id is (OnWay link d at) =
-      subst (λ (q : PortName). has_port plan (end_at_port plan q id) ≡ true) (sym (at.at_is ∙ at.port_is))
-      (on_way_there end id at.line.0 is)
+  met_there end id is (OnWay link d at) = subst (λ (q : PortName). has_port plan (end_at_port plan q id) ≡ true)
+      (sym (at.at_is ∙ at.port_is)) (on_way_there end id at.line.0 is)
 
   pub reached_there : (end : PortName) (bytes : List ℕ) → has_port plan end ≡ true
       → has_port plan (end_reached plan end bytes) ≡ true
@@ -438,9 +432,7 @@ module _ (plan : Plan) (fits : FitsPlan plan) where
       low = grind (arith, nat_tests)
 
       by : (b : Bool) → nat_lt line 16 ≡ b → aggregation_of plan line id ≡ 1
-      by true is =
-          ap (λ (ss : List StreamPlan). option_map_or (λ (s : StreamPlan). s.aggregation) (with_id ss id) 1)
+      by true is = ap (λ (ss : List StreamPlan). option_map_or (λ (s : StreamPlan). s.aggregation) (with_id ss id) 1)
           (row_near plan line high is) ∙ aggregation_in plan.links (line - 8) id
-      by false is =
-          ap (λ (ss : List StreamPlan). option_map_or (λ (s : StreamPlan). s.aggregation) (with_id ss id) 1)
+      by false is = ap (λ (ss : List StreamPlan). option_map_or (λ (s : StreamPlan). s.aggregation) (with_id ss id) 1)
           (row_far plan line high is low) ∙ aggregation_in plan.links (line - 16) id

@@ -41,8 +41,7 @@ module _ (plan : Plan) (h : History) (cause : CauseLaw plan h) (port : PortName)
       → live_in (rx_slot plan h port s k) ≡ Some y → HoldsNone y
   slot_none s Off y one is = absurd (none-some y is)
   slot_none s (Loaded j) y one is = absurd (none-some y is)
-  slot_none s (On j) y one is =
-      subst HoldsNone (same_Some (receiving_key plan h port s j) y is) (key_none s j one)
+  slot_none s (On j) y one is = subst HoldsNone (same_Some (receiving_key plan h port s j) y is) (key_none s j one)
 
   slots_none : (s : SubStream) (keys : Keys) (k : Bool) (y : LiveKey) → aggregation_of plan s.line s.stream ≡ 1
       → live_in (slot_in_set (rx_slots plan h port s keys) k) ≡ Some y → HoldsNone y

@@ -8,7 +8,7 @@ use Rattle.trusted_memory.specs.{MemoryContents}
 use Rattle.spec_links.specs.Memory.{Policy}
 pub use Rattle.join_ends.specs.Turns.{reads_at, floors_at, sizes_at, mmio_at, carried_on_link, AreLeftBy, AccessesTurn}
 pub use Rattle.join_ends.specs.Turns.{AccessesStay, same_reads, same_floors, same_carried, nothing_happens}
-use Rattle.join_ends.specs.{EndsView, LinkEnds, InterfacesView, port_on, link_statuses, ArrivesAt}
+use Rattle.join_ends.specs.{EndsView, LinkEnds, InterfacesView, port_on, link_statuses, ArrivesAtEnd}
 use Rattle.link_stores.specs.declared.link.LinkAccesses.{LinkAccesses}
 use Rattle.arrival_verdicts.specs.Verdicts.{grants_in}
 
@@ -33,6 +33,6 @@ policy_in m ends xs = record {
 pub record Brings (m : InterfacesView) (end port : PortName) (bytes : List ℕ) (verdict : Verdict) (old : EndsView)
     (c : MemoryContents) (xs : List LinkAccesses) (new : EndsView) (d : MemoryContents) (ys : List LinkAccesses) :
     Type 0 where
-  pub arrives : ArrivesAt old xs c.regions (grants_in m) end port bytes verdict c d new ys
+  pub arrives : ArrivesAtEnd old xs c.regions (grants_in m) end port bytes verdict c d new ys
   pub regions : d.regions ≡ c.regions
   pub absent : is_some (port_on old end) ≡ false → (verdict ≡ Nothing) × (new ≡ old) × (d ≡ c) × AccessesStay xs ys

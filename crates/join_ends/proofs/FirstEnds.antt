@@ -49,13 +49,11 @@ ports_links limit from (l ∷ ls) =
 
 ports_near : (limit line : ℕ) (rows : Rows) → ports_in (near_from limit line rows) ≡ first_ports rows
 ports_near limit line [] = refl
-ports_near limit line (r ∷ rows) =
-    let more = ports_near limit (line + 1) rows in λ i. first_ports (r ∷ []) ++ more i
+ports_near limit line (r ∷ rows) = let more = ports_near limit (line + 1) rows in λ i. first_ports (r ∷ []) ++ more i
 
 ports_pairs : (limit line : ℕ) (rows : Rows) → pair_ports (pairs_from limit line rows) ≡ first_ports rows
 ports_pairs limit line [] = refl
-ports_pairs limit line (r ∷ rows) =
-    let more = ports_pairs limit (line + 1) rows in λ i. first_ports (r ∷ []) ++ more i
+ports_pairs limit line (r ∷ rows) = let more = ports_pairs limit (line + 1) rows in λ i. first_ports (r ∷ []) ++ more i
 
 rows_first : (plan : Plan) → rows_of (new_all_ends plan) ≡ first_ports (streams_by_line plan)
 unfolding streams_by_line

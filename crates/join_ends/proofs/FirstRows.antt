@@ -30,8 +30,7 @@ empty_rows n = replicate n []
 
 taken_rows : (n k : ℕ) (rows : Rows) → length rows ≤ n → n ≤ k → take n (rows ++ empty_rows k)
     ≡ rows ++ empty_rows (n - length rows)
-taken_rows n k [] few most =
-    let all : n ≡ n - 0 = omega arith in take-replicate n k no_row most ∙ ap empty_rows all
+taken_rows n k [] few most = let all : n ≡ n - 0 = omega arith in take-replicate n k no_row most ∙ ap empty_rows all
 taken_rows zero k (r ∷ rows) few most = absurd (omega arith)
 taken_rows (suc n) k (r ∷ rows) few most =
     let left : n - length rows ≡ suc n - suc (length rows) = omega arith in

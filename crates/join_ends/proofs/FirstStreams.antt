@@ -39,8 +39,7 @@ names_one line (s ∷ ss) = ap (λ (ns : List (ℕ × ℕ)). (line, s.id) ∷ ns
 
 pub names_first : (line : ℕ) (rows : Rows) → map name_of (rows_from line rows) ≡ names_from_line line rows
 names_first line [] = refl
-names_first line (ss ∷ rows) =
-    map-append name_of (new_streams line ss) (rows_from (line + 1) rows)
+names_first line (ss ∷ rows) = map-append name_of (new_streams line ss) (rows_from (line + 1) rows)
     ∙ (λ i. names_one line ss i ++ names_first (line + 1) rows i)
 
 -- ---- each stream is new
@@ -77,6 +76,5 @@ ports_taken (suc n) (r ∷ rows) = let more = ports_taken n rows in λ i. first_
 -- two rows of states for each of eight rows of streams
 pub ports_eight : (rows : Rows) → first_ports (in_eight rows) ≡ take 16 (first_ports rows ++ replicate 16 [])
 unfolding twice
-ports_eight rows =
-    ports_taken 8 (rows ++ empty_rows 8)
-    ∙ ap (λ (ps : List (List StreamState)). take 16 ps) (ports_both rows (empty_rows 8))
+ports_eight rows = ports_taken 8 (rows ++ empty_rows 8) ∙ ap (λ (ps : List (List StreamState)). take 16 ps)
+    (ports_both rows (empty_rows 8))

@@ -20,9 +20,8 @@ apart_names from line (s ∷ ss) rest differs more = (differs, apart_names from 
 -- no later link has a stream of an earlier one
 apart_from : (links : List (List StreamPlan)) (from line : ℕ) → line < from → Apart line (names_from_line from links)
 apart_from [] from line lt = tt
-apart_from (ss ∷ links) from line lt =
-    apart_names from line ss (names_from_line (from + 1) links) (grind (arith, nat_tests, lt))
-    (apart_from links (from + 1) line (omega (arith, lt)))
+apart_from (ss ∷ links) from line lt = apart_names from line ss (names_from_line (from + 1) links)
+    (grind (arith, nat_tests, lt)) (apart_from links (from + 1) line (omega (arith, lt)))
 
 pub behind_names : (line : ℕ) (ss : List StreamPlan) (vs : List StreamView) (rest : List (ℕ × ℕ)) → map name_of vs
     ≡ names_of line ss ++ rest → map name_of (views_after ss vs) ≡ rest
@@ -49,8 +48,7 @@ first_other line other (s ∷ ss) (v ∷ vs) rest id apart names =
 first_here : (line : ℕ) (ss : List StreamPlan) (vs : List StreamView) (rest : List (ℕ × ℕ)) (id : ℕ)
     → map name_of vs ≡ names_of line ss ++ rest → Apart line rest
     → option_map (λ (v : StreamView). v.op) (first_named line id vs) ≡ machine.found_by_id ss (line_ops ss vs) id
-first_here line [] vs rest id names apart =
-    ap (λ (o : Option StreamView). option_map (λ (v : StreamView). v.op) o)
+first_here line [] vs rest id names apart = ap (λ (o : Option StreamView). option_map (λ (v : StreamView). v.op) o)
     (none_named line id vs (subst (λ (ns : List (ℕ × ℕ)). Apart line ns) (sym names) apart))
 first_here line (s ∷ ss) [] rest id names apart = absurd cc
 first_here line (s ∷ ss) (v ∷ vs) rest id names apart =

@@ -172,8 +172,7 @@ module _ (plan : Plan) (k : KeeperView) (packets : List LinkPacket) (line id : �
 
     pub both_kept : x ≡ f.state → y ≡ g.state
         → state_of plan v k packets ≡ state_of plan (with_both v line near' far') k packets
-    both_kept x_is y_is =
-        kept_side v Host near near' f x links both.near_there both.near_found both.near_has x_is
+    both_kept x_is y_is = kept_side v Host near near' f x links both.near_there both.near_found both.near_has x_is
         ∙ kept_side v1 Device far far' g y links1 far_still both.far_found both.far_has y_is
 
 -- ---- the state after it

@@ -274,8 +274,7 @@ all_rows plan (e ∷ es) v k links =
     ∙ ap (λ (rows : List (List StreamState)). machine.all_rows_cleared plan es rows) (cleared_rows plan v k e links)
 
 unlocked_rows : (v : EndsView) (link : ℕ) → rows_of (unlocked_link v link) ≡ rows_of v
-unlocked_rows v link =
-    ap (λ (rows : List (List StreamState)). in_sixteen rows ++ ports_in v.near ++ pair_ports v.pairs)
+unlocked_rows v link = ap (λ (rows : List (List StreamState)). in_sixteen rows ++ ports_in v.near ++ pair_ports v.pairs)
     (ports_seen v.links link unlocked_ends (λ l. refl) (λ l. refl))
 
 -- ---- the operations after a reset
@@ -376,9 +375,8 @@ keeper_reset ends k = record k { manager = reset_manager ends k.manager }
 
 pub links_reset : (plan : Plan) (link : ℕ) (ends : List PortName) (v : EndsView) (k : KeeperView) → AreLinks plan v k
     → AreLinks plan (reset_all link ends v) (keeper_reset ends k)
-links_reset plan link ends v k links =
-    keeper_kept plan (reset_all link ends v) k (reset_keeps plan link ends v k links) (keeper_reset ends k)
-    (reset_names ends k.manager.streams) (reset_kept plan ends k.manager.streams links.kept) refl
+links_reset plan link ends v k links = keeper_kept plan (reset_all link ends v) k (reset_keeps plan link ends v k links)
+    (keeper_reset ends k) (reset_names ends k.manager.streams) (reset_kept plan ends k.manager.streams links.kept) refl
 
 pub state_reset : (plan : Plan) (v : EndsView) (k : KeeperView) (packets : List LinkPacket) (link : ℕ)
     (ends : List PortName) → AreLinks plan v k → state_of plan (reset_all link ends v) (keeper_reset ends k) packets

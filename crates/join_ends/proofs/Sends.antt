@@ -110,8 +110,7 @@ module _ (plan : Plan) (ends : EndsView) (k : KeeperView) (packets : List LinkPa
   st = state_of plan ends k packets
 
   state_same : (e' : PortEnd) → e'.states ≡ e.states → st ≡ state_of plan (with_port_on ends end e') k (packets ++ [])
-  state_same e' same =
-      state_kept plan ends k packets wired_is end e is e' same
+  state_same e' same = state_kept plan ends k packets wired_is end e is e' same
       ∙ ap (λ (ps : List LinkPacket). state_of plan (with_port_on ends end e') k ps) (sym (append-nil packets))
 
   answered_as : (t : Tlp) (more trusted : Bool) (id : ℕ) (f : Found) (r : Option Verdict)

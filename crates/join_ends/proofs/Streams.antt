@@ -218,8 +218,7 @@ unnamed plan v k packets line stream links is =
         → is_some (named_stream k.manager line stream) ≡ d → None ≡ name_if (a && b && c && d) line stream
         → machine.found_by_id (streams_of plan line) os stream ≡ None
     by_tests false b c d late less there names none = gone (past_lines plan v k line links late)
-    by_tests true false c d late less there names none =
-        none_with (streams_of plan line) os stream
+    by_tests true false c d late less there names none = none_with (streams_of plan line) os stream
         (unplanned plan line stream links.fits (grind (arith, nat_tests, less)))
     by_tests true true false d late less there names none = gone (no_port (port_on v (host_port line)) there)
     by_tests true true true false late less there names none =

@@ -43,8 +43,7 @@ pub record RestsAt (reads : ℕ → List WaitingRead → List WaitingRead) (floo
   pub carried_rest : (d : Direction) (ts : List HopTlp) → carried k d ts ≡ ts
 
 not_same : (i k : ℕ) → (i == k) ≡ false → i ≡ k → ⊥
-not_same i k other same =
-    let no : true ≡ false = sym (same-true i) ∙ ap (λ (n : ℕ). i == n) same ∙ other in absurd cc
+not_same i k other same = let no : true ≡ false = sym (same-true i) ∙ ap (λ (n : ℕ). i == n) same ∙ other in absurd cc
 
 pub get_other : {A : Type 0} (xs : List A) (i k : ℕ) (y : A) → (i ≡ k → ⊥) → slice_get (slice_set xs i y) k
     ≡ slice_get xs k

@@ -159,8 +159,7 @@ module _ (x : Site) (draw drawn portion place : ℕ) (said : StreamSaid) (ps : P
       (stated_alone (step.Bind peer) portion drawn said loss (host_of x draw seen m) d there))
 
   allowed : (seen : Seen) (up : StreamStatus) → IsKey (nonce_of seen) → Allowed seen up
-  allowed seen status.Secure key =
-      fresh seen (nat_lt (ps.draw peer.line peer.id) (managed_as_seen seen m).needs) key
+  allowed seen status.Secure key = fresh seen (nat_lt (ps.draw peer.line peer.id) (managed_as_seen seen m).needs) key
   allowed seen status.Idle key = refused seen _ _ key refl refl refl
   allowed seen status.Partial key = refused seen _ _ key refl refl refl
   allowed seen status.Insecure key = refused seen _ _ key refl refl refl
@@ -170,10 +169,8 @@ module _ (x : Site) (draw drawn portion place : ℕ) (said : StreamSaid) (ps : P
       (begun_walk (bind_refusal (op_status (ps.op peer.line peer.id))
       (ps.draw peer.line peer.id) (managed_as_seen seen m).needs seen) (host_of x draw seen m) read d
       (stated_alone (step.Bind peer) portion drawn said loss (host_of x draw seen m) d there))
-  by_view (IsLocked nonce reported) key =
-      allowed (IsLocked nonce reported) (op_status (ps.op peer.line peer.id)) key
-  by_view (IsRunning floor) key =
-      allowed (IsRunning floor) (op_status (ps.op peer.line peer.id)) key
+  by_view (IsLocked nonce reported) key = allowed (IsLocked nonce reported) (op_status (ps.op peer.line peer.id)) key
+  by_view (IsRunning floor) key = allowed (IsRunning floor) (op_status (ps.op peer.line peer.id)) key
   by_view IsUnlocked key = refused IsUnlocked _ _ key refl refl refl
   by_view IsDoubt key = refused IsDoubt _ _ key refl refl refl
   by_view IsBroken key = refused IsBroken _ _ key refl refl refl

@@ -72,8 +72,7 @@ told_seen IsBroken m = refl
 -- the machine keeps what the view says
 pub told_is : (seen : Seen) (m : Managed) → SeenAs seen m → managed_as_seen seen m ≡ m
 told_is IsUnlocked m e = λ k. record m { view = sym e k }
-told_is (IsLocked nonce reported) m e =
-    λ k. record m { view = sym e.0 k; nonce = sym e.1 k; reported = sym e.2 k }
+told_is (IsLocked nonce reported) m e = λ k. record m { view = sym e.0 k; nonce = sym e.1 k; reported = sym e.2 k }
 told_is (IsRunning floor) m e = λ k. record m { view = sym e.0 k; floor = sym e.1 k }
 told_is IsDoubt m e = λ k. record m { view = sym e k }
 told_is IsBroken m e = λ k. record m { view = sym e k }
@@ -135,8 +134,7 @@ pub record Comes (x : Site) (st : AskedState) (place : ℕ) (o : InterfaceOperat
     (due : Verdict) (w : WalkedInterface) : Type 0 where
   pub verdict : outcome_verdict x.number loss (read_in o w.read) w.outcome ≡ Some due
   pub device : w.device ≡ device_behind x st place o loss d due
-  pub managed : IsManaged st.draw x w.interface
-      (on_operation st.drawn (op_event o x.number loss) due st.managed)
+  pub managed : IsManaged st.draw x w.interface (on_operation st.drawn (op_event o x.number loss) due st.managed)
 
 -- what an operation gives that is refused before its first exchange
 abbrev pub refused_walk : InterfaceRefusal → HostTdi → Read → DeviceTdis → WalkedInterface

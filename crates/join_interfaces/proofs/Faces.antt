@@ -13,10 +13,8 @@ use Rattle.interface_state.specs.declared.states.Lock.{Lock}
 use Rattle.interface_state.specs.declared.states.TdiState.{TdiState}
 use Rattle.interface_state.specs.declared.states.TdiState.TheVariants.{ConfigUnlocked, ConfigLocked, Run, Error}
 use Rattle.interface_state.specs.Machine.{DeviceTdi, Call, StartInterface, StopInterface, bound_link_stream}
-use Rattle.interface_state.specs.Machine.{after_start}
-use Rattle.interface_state.specs.Machine.{interface_after_call, interface_after_lock, new_lock, BindStream}
-use Rattle.interface_state.specs.Machine.{UnbindStream}
-use Rattle.interface_state.specs.Machine.{bind_answer, interface_after_bind, unbind_answer, unbound_with}
+use Rattle.interface_state.specs.Machine.{after_start, interface_after_call, interface_after_lock, new_lock, BindStream}
+use Rattle.interface_state.specs.Machine.{UnbindStream, bind_answer, interface_after_bind, unbind_answer, unbound_with}
 use Rattle.spec_interfaces.specs.Sites.{Site}
 use Rattle.spec_interfaces.specs.Views.{is_number, number_in, on_operation}
 use Rattle.spec_interfaces.specs.Devices.{Around, interface_asked, interface_if_called, lock_call}
@@ -92,8 +90,7 @@ start_bound p Error nonce is = is
 
 pub asked_bound : (a : Around) (x : Site) (o : InterfaceOperation) (loss : Option Loss) (w : Verdict) (tdi : DeviceTdi)
     → IsBound x.plan tdi → IsBound x.plan (interface_asked a x (op_event o x.number loss) w tdi)
-asked_bound a x op.Lock loss w tdi is =
-    called_bound x.plan (carries w 3) (lock_call a x) tdi is
+asked_bound a x op.Lock loss w tdi is = called_bound x.plan (carries w 3) (lock_call a x) tdi is
     (lock_bound x.plan x.plan.flags x.plan.offset tdi (lock_answer_at a x tdi) is)
 asked_bound a x op.Report loss w tdi is = is
 asked_bound a x op.Start loss w tdi is =
@@ -102,9 +99,7 @@ asked_bound a x op.Start loss w tdi is =
 asked_bound a x op.Halt loss w tdi is =
     called_bound x.plan (carries w 1) StopInterface tdi is (record { layout = is.layout; bound = tt })
 asked_bound a x op.State loss w tdi is = is
-asked_bound a x (op.Bind peer) loss w tdi is =
-    called_bound x.plan (carries w 1) (BindStream peer.id (a.live peer.id)) tdi is
-    (bind_bound x.plan tdi peer.id (bind_answer tdi peer.id (a.live peer.id)) is)
-asked_bound a x (op.Unbind peer) loss w tdi is =
-    called_bound x.plan (carries w 1) (UnbindStream peer.id) tdi is
+asked_bound a x (op.Bind peer) loss w tdi is = called_bound x.plan (carries w 1) (BindStream peer.id (a.live peer.id))
+    tdi is (bind_bound x.plan tdi peer.id (bind_answer tdi peer.id (a.live peer.id)) is)
+asked_bound a x (op.Unbind peer) loss w tdi is = called_bound x.plan (carries w 1) (UnbindStream peer.id) tdi is
     (unbind_bound x.plan tdi peer.id (unbind_answer tdi peer.id) is)

@@ -187,8 +187,7 @@ face_of tdi seen m = record { tdi = tdi; managed = managed_as_seen seen m }
 
 abbrev ended_at : ℕ → ℕ → InterfaceOperation → StreamStatus → ℕ → StreamSaid → Option Loss → InterfaceManagerView
     → DeviceTdis → HostTdi → Ended
-ended_at fuel number o host draws said loss m d i =
-    unless_refused (interface_refusal_of o host i) m d
+ended_at fuel number o host draws said loss m d i = unless_refused (interface_refusal_of o host i) m d
     (manager_walk fuel said loss (interface_unless (interface_refusal_of o host i) m (asking_at m number o draws)) d)
 
 joined_by : Laws → (fuel : ℕ) (plan : Plan) (s : Streams) (used : ℕ → ℕ) (x : Site) (place : ℕ) (o : InterfaceOperation)

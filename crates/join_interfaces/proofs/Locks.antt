@@ -19,8 +19,7 @@ use Rattle.spec_interfaces.specs.Exchanges.{carries}
 use Rattle.spec_interfaces.specs.Due.{AskedState, verdict_of_lock, lock_due}
 use Rattle.interface_state.specs.declared.states.Lock.{Lock}
 use Rattle.interface_state.specs.Machine.{DeviceTdi, Call, interface_after_call, interface_after_lock, new_lock}
-use Rattle.interface_state.specs.Machine.{lock_answer}
-use Rattle.interface_state.specs.Machine.{nonce_answer, is_unlocked, are_lock_flags, is_page, error_code}
+use Rattle.interface_state.specs.Machine.{lock_answer, nonce_answer, is_unlocked, are_lock_flags, is_page, error_code}
 use Rattle.interface_state.specs.declared.error_codes.ErrorCode.TheVariants.{InvalidRequest, InvalidInterfaceState}
 use Rattle.interface_state.specs.declared.error_codes.ErrorCode.TheVariants.{InvalidDeviceConfiguration}
 use Rattle.interface_state.specs.Bars.{bars_of, any_overlap}
@@ -85,8 +84,7 @@ lock_managed : (x : Site) (draw draws : ℕ) (m : Managed) (l : Option Lost) (r 
     → IsManaged draw x
     (taken_interface step.Lock draws (judgment_if_carried l (nonce_due r)) (host_of x draw IsUnlocked m))
     (on_lock (managed_as_seen IsUnlocked m) (by_loss l 3 (verdict_of_lock x r)))
-lock_managed x draw draws m None (Ok nonce) key =
-    managed_of x draw (IsLocked nonce false) _ (refl, refl, refl) key
+lock_managed x draw draws m None (Ok nonce) key = managed_of x draw (IsLocked nonce false) _ (refl, refl, refl) key
 lock_managed x draw draws m None (Err code) key = managed_of x draw IsUnlocked _ refl no_key
 lock_managed x draw draws m (Some Request) r key = managed_of x draw IsDoubt _ refl no_key
 lock_managed x draw draws m (Some Reply) r key = managed_of x draw IsDoubt _ refl no_key
@@ -163,12 +161,10 @@ module _ (x : Site) (draw drawn portion place : ℕ) (said : StreamSaid) (ps : P
 
   -- a refusal
   refused : (seen : Seen) (host : StreamStatus) (due : Verdict) (r : InterfaceRefusal)
-      → slice_set d.interfaces place tdi
-      ≡ d.interfaces → IsKey (nonce_of seen)
-      → carries due 3 ≡ false → on_lock (managed_as_seen seen m) due ≡ managed_as_seen seen m
+      → slice_set d.interfaces place tdi ≡ d.interfaces → IsKey (nonce_of seen) → carries due 3 ≡ false
+      → on_lock (managed_as_seen seen m) due ≡ managed_as_seen seen m
       → outcome_verdict x.number loss [] (outcome.Refused r) ≡ Some due
-      → Comes x (state_asked seen host) place op.Lock loss d due
-      (refused_walk r (host_of x draw seen m) read d)
+      → Comes x (state_asked seen host) place op.Lock loss d due (refused_walk r (host_of x draw seen m) read d)
   refused seen host due r same key none kept is =
       quiet x (state_asked seen host) place op.Lock loss d due _ _ _ same
       (ap (λ b. interface_if_called b (lock_call (state_asked seen host).around x) tdi) none)

@@ -93,6 +93,5 @@ number_by l w false = refl
 pub number_lost : (loss : Option Loss) (c : ℕ) (w : Verdict) → Some (unless_lost loss c w)
     ≡ by_number loss (lost_exchange_within loss 1 c) w
 number_lost None c w = refl
-number_lost (Some l) c w =
-    ap (λ b. Some (if b then lost_at l.lost l.exchange else w)) (within l.exchange c)
+number_lost (Some l) c w = ap (λ b. Some (if b then lost_at l.lost l.exchange else w)) (within l.exchange c)
     ∙ number_by l w (nat_le 1 l.exchange && nat_lt l.exchange (1 + c))

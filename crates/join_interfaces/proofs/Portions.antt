@@ -36,6 +36,5 @@ count_by more size len false test least some rest =
 
 pub counted : (more size len : ℕ) → 1 ≤ size → 1 ≤ len → len ≤ more → portion_count more size len ≡ portions size len
 counted zero size len least some le = absurd (omega arith)
-counted (suc more) size len least some le =
-    count_by more size len (nat_le len size) refl least some
+counted (suc more) size len least some le = count_by more size len (nat_le len size) refl least some
     (λ lt. counted more size (len - size) least (omega arith) (omega arith))

@@ -16,7 +16,7 @@ use Rattle.event_verdicts.specs.declared.verdict.Verdict.TheVariants as v
 use Rattle.spec_keys.specs.Due.{lost_message, lost_at}
 use Rattle.spec_interfaces.specs.Sites.{Site}
 use Rattle.spec_interfaces.specs.Views.{Managed, on_report}
-use Rattle.spec_interfaces.specs.Due.{AskedState, reported_as, report_due, portions}
+use Rattle.spec_interfaces.specs.Due.{AskedState, report_verdict, report_due, portions}
 use Rattle.interface_state.specs.Kept.{kept_report}
 use Rattle.interface_state.specs.Machine.{DeviceTdi, lock_of, portion_of}
 use Rattle.interface_host.specs.declared.operation.InterfaceOperation.TheVariants as op
@@ -84,10 +84,8 @@ key_reported IsBroken key = key
 lost_kept : (l : Option Lost) (n : ℕ) (m : Managed) (due : Verdict) → Some due ≡ option_map (λ k. lost_at k n) l
     → on_report m due ≡ m
 lost_kept None n m due is = absurd (none-some due (sym is))
-lost_kept (Some Request) n m due is =
-    subst (λ w. on_report m w ≡ m) (same_Some (v.LostRequest n) due (sym is)) refl
-lost_kept (Some Reply) n m due is =
-    subst (λ w. on_report m w ≡ m) (same_Some (v.LostReply n) due (sym is)) refl
+lost_kept (Some Request) n m due is = subst (λ w. on_report m w ≡ m) (same_Some (v.LostRequest n) due (sym is)) refl
+lost_kept (Some Reply) n m due is = subst (λ w. on_report m w ≡ m) (same_Some (v.LostReply n) due (sym is)) refl
 
 read_verdict : (x : Site) (loss : Option Loss) (report bytes : List ℕ) (lost : Option ℕ)
     → (lost ≡ None → bytes ≡ report) → outcome_verdict x.number loss bytes (read_outcome lost)
@@ -122,9 +120,8 @@ module _ (x : Site) (plan : Plan) (draw drawn portion place : ℕ) (said : Strea
   -- what the exchanges give, by the report that the lock kept
   abbrev pub IsWalk : Seen → Option (List ℕ) → WalkedInterface → Type 0
   IsWalk seen None w = w ≡ stated_alone step.Report portion drawn said loss (host_of x draw seen m) d there
-  IsWalk seen (Some report) w =
-      ReportIsRead (lost_exchange_within loss 1 (portions plan.portion (length report))) report (host_of x draw seen m)
-      d w
+  IsWalk seen (Some report) w = ReportIsRead (lost_exchange_within loss 1 (portions plan.portion (length report)))
+      report (host_of x draw seen m) d w
 
   -- no report: the device answers so
   unread : (seen : Seen) (host : StreamStatus) → slice_set d.interfaces place tdi ≡ d.interfaces
@@ -149,16 +146,16 @@ module _ (x : Site) (plan : Plan) (draw drawn portion place : ℕ) (said : Strea
   walked : (seen : Seen) (host : StreamStatus) (o : Option (List ℕ)) (w : WalkedInterface)
       → slice_set d.interfaces place tdi ≡ d.interfaces → IsKey (nonce_of seen)
       → option_map (kept_report tdi.plan) (lock_of tdi.state) ≡ o → IsWalk seen o w
-      → Comes x (state_asked seen host) place op.Report loss d (reported_as plan x loss o) w
+      → Comes x (state_asked seen host) place op.Report loss d (report_verdict plan x loss o) w
   walked seen host None w same key is walk =
-      subst (λ k. Comes x (state_asked seen host) place op.Report loss d (reported_as plan x loss None) k) (sym walk)
+      subst (λ k. Comes x (state_asked seen host) place op.Report loss d (report_verdict plan x loss None) k) (sym walk)
       (subst (λ k. Comes x (state_asked seen host) place op.Report loss d k
       (stated_alone step.Report portion drawn said loss (host_of x draw seen m) d there))
       (sym (once_lost loss (v.RefusedDevice 1 4))) (unread seen host same key is))
   walked seen host (Some report) w same key is walk =
       let lost = lost_exchange_within loss 1 (portions plan.portion (length report)) in
       let done = v.Interface (iv.Reported x.number report) in
-      let due = reported_as plan x loss (Some report) in
+      let due = report_verdict plan x loss (Some report) in
       let due_is : Some due ≡ by_number loss lost done
       = number_lost loss (portions plan.portion (length report)) done in
       record {
@@ -172,12 +169,10 @@ module _ (x : Site) (plan : Plan) (draw drawn portion place : ℕ) (said : Strea
   refused : (seen : Seen) (host : StreamStatus) (due : Verdict) (r : InterfaceRefusal)
       → slice_set d.interfaces place tdi ≡ d.interfaces → IsKey (nonce_of seen)
       → on_report (managed_as_seen seen m) due ≡ managed_as_seen seen m
-      → outcome_verdict x.number loss read.bytes (outcome.Refused r)
-      ≡ Some due
+      → outcome_verdict x.number loss read.bytes (outcome.Refused r) ≡ Some due
       → Comes x (state_asked seen host) place op.Report loss d due (refused_walk r (host_of x draw seen m) read d)
-  refused seen host due r same key kept is =
-      quiet x (state_asked seen host) place op.Report loss d due _ _ _ same refl refl kept
-      (managed_of x draw seen _ (told_seen seen m) key) is
+  refused seen host due r same key kept is = quiet x (state_asked seen host) place op.Report loss d due _ _ _ same refl
+      refl kept (managed_of x draw seen _ (told_seen seen m) key) is
 
   pub report_comes : (seen : Seen) (host : StreamStatus) (w : WalkedInterface) → slice_set d.interfaces place tdi
       ≡ d.interfaces
@@ -188,11 +183,11 @@ module _ (x : Site) (plan : Plan) (draw drawn portion place : ℕ) (said : Strea
   report_comes IsUnlocked host w same key layout walk = refused IsUnlocked host _ _ same key refl refl
   report_comes (IsLocked nonce is_reported) host w same key layout walk =
       subst (λ p. Comes x (state_asked (IsLocked nonce is_reported) host) place op.Report loss d
-      (reported_as plan x loss (option_map (kept_report p) (lock_of tdi.state))) w) layout
+      (report_verdict plan x loss (option_map (kept_report p) (lock_of tdi.state))) w) layout
       (walked (IsLocked nonce is_reported) host _ w same key refl walk)
   report_comes (IsRunning floor) host w same key layout walk =
       subst (λ p. Comes x (state_asked (IsRunning floor) host) place op.Report loss d
-      (reported_as plan x loss (option_map (kept_report p) (lock_of tdi.state))) w) layout
+      (report_verdict plan x loss (option_map (kept_report p) (lock_of tdi.state))) w) layout
       (walked (IsRunning floor) host _ w same key refl walk)
   report_comes IsDoubt host w same key layout walk = refused IsDoubt host _ _ same key refl refl
   report_comes IsBroken host w same key layout walk = refused IsBroken host _ _ same key refl refl

@@ -77,8 +77,7 @@ sub_by false false d p x y z one two three = three
 
 sub_live : (d : SealedPacket) (p : Packet) (u : SubKind) (x : TxSub) → any_live x.slots ≡ true
     → any_live (sealed_sub d p u x).slots ≡ true
-sub_live d p u x is =
-    sub_by (is_same_sub d.sub u) (is_same_sub d.sub Pr) d p _ _ x (sealed_live d.m p x.slots is) is is
+sub_live d p u x is = sub_by (is_same_sub d.sub u) (is_same_sub d.sub Pr) d p _ _ x (sealed_live d.m p x.slots is) is is
 
 -- each sub-stream has a Live key
 record AllSend (tx : Three TxSub) : Type 0 where
@@ -200,8 +199,7 @@ if_kept plan st false r w kept q n is = is
 pub sends_kept : (plan : Plan) (beside : BesidePorts) (st : LinkState) (port : PortName) (bytes : List ℕ)
     (more trusted : Bool) → StaySecure plan st (step_of plan beside st (Send port bytes more trusted)).1
 unfolding step_of
-sends_kept plan beside st port bytes more trusted =
-    if_kept plan st (may_send plan port) _ v.Nothing
+sends_kept plan beside st port bytes more trusted = if_kept plan st (may_send plan port) _ v.Nothing
     (bytes_kept plan beside st (sealing_end plan port bytes) bytes more trusted)
 
 -- an answer to a read is a send, or leaves the ports as they are
@@ -248,9 +246,8 @@ live_kept : (plan : Plan) (old new : LinkState) (o : Option PortName) (stream : 
     → is_some (option_and_then (λ e. live_draw_at_end plan old e stream) o) ≡ true
     → is_some (option_and_then (λ e. live_draw_at_end plan new e stream) o) ≡ true
 live_kept plan old new None stream kept is = is
-live_kept plan old new (Some e) stream kept is =
-    secure_live _ (posted_draw_at plan new e stream) ∙ kept e stream
-    (sym (secure_live _ (posted_draw_at plan old e stream)) ∙ is)
+live_kept plan old new (Some e) stream kept is = secure_live _ (posted_draw_at plan new e stream)
+    ∙ kept e stream (sym (secure_live _ (posted_draw_at plan old e stream)) ∙ is)
 
 -- no stream that it says is Secure leaves that
 pub says_kept : (plan : Plan) (old new : LinkState) → StaySecure plan old new → (link : ℕ)

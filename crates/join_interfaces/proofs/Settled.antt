@@ -18,8 +18,7 @@ use Rattle.spec_interfaces.specs.Peers.{any_leaves}
 use Rattle.join_interfaces.specs.Says.{DeviceSays, AreApart, AreSecureStill, Keeps, is_said_secure, leaves_stream}
 
 abbrev interface_of_parts : InterfacePlan → Registers → TdiState → List Binding → DeviceTdi
-interface_of_parts plan registers state bs =
-    record { plan = plan; registers = registers; state = state; bindings = bs }
+interface_of_parts plan registers state bs = record { plan = plan; registers = registers; state = state; bindings = bs }
 
 -- ---- tests
 
@@ -118,8 +117,7 @@ settles : (is_peer : ℕ → Bool) (before after : DeviceSays) (x : InterfacePla
     → AreApart is_peer after → Keeps before x (interface_of_parts plan registers state bs)
     → settled_interface (is_said_secure after) (interface_of_parts plan registers state bs)
     ≡ interface_if_called (leaves_stream before after x bs) StreamLeft (interface_of_parts plan registers state bs)
-settles is_peer before after x plan registers ConfigUnlocked bs first second keeps =
-    called_free _ _ plan registers bs
+settles is_peer before after x plan registers ConfigUnlocked bs first second keeps = called_free _ _ plan registers bs
 settles is_peer before after x plan registers Error bs first second keeps = called_failed _ _ plan registers bs
 settles is_peer before after x plan registers (ConfigLocked lock nonce) bs first second keeps =
     called_by _ _ (interface_of_parts plan registers (ConfigLocked lock nonce) bs)
@@ -175,8 +173,7 @@ stays_is before after x tdi stays =
 
 own_still : (before after : DeviceSays) (s t : ℕ) → s ≡ t → before.secure s ≡ true
     → (before.secure t && not (after.secure t)) ≡ false → after.secure s ≡ true
-own_still before after s t same secure is =
-    still (before.secure s) (after.secure s) secure
+own_still before after s t same secure is = still (before.secure s) (after.secure s) secure
     (ap (λ n. before.secure n && not (after.secure n)) same ∙ is)
 
 still_secure : (before after : DeviceSays) (x : InterfacePlan) (state : TdiState)

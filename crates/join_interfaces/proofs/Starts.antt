@@ -91,11 +91,10 @@ module _ (x : Site) (draw drawn portion place : ℕ) (said : StreamSaid) (ps : P
       }
 
   refused : (seen : Seen) (host : StreamStatus) (due : Verdict) (r : InterfaceRefusal)
-      → slice_set d.interfaces place tdi ≡ d.interfaces
-      → IsKey (nonce_of seen) → carries due 1 ≡ false → on_start (managed_as_seen seen m) due ≡ managed_as_seen seen m
+      → slice_set d.interfaces place tdi ≡ d.interfaces → IsKey (nonce_of seen) → carries due 1 ≡ false
+      → on_start (managed_as_seen seen m) due ≡ managed_as_seen seen m
       → outcome_verdict x.number loss [] (outcome.Refused r) ≡ Some due
-      → Comes x (state_asked seen host) place op.Start loss d due
-      (refused_walk r (host_of x draw seen m) read d)
+      → Comes x (state_asked seen host) place op.Start loss d due (refused_walk r (host_of x draw seen m) read d)
   refused seen host due r same key none kept is =
       quiet x (state_asked seen host) place op.Start loss d due _ _ _ same
       (ap (λ b. interface_if_called b (StartInterface (managed_as_seen seen m).nonce) tdi) none) refl kept
@@ -128,8 +127,7 @@ module _ (x : Site) (draw drawn portion place : ℕ) (said : StreamSaid) (ps : P
       refused (IsLocked nonce true) status.Partial _ _ same key refl refl refl
   start_comes (IsLocked nonce true) status.Insecure same key =
       refused (IsLocked nonce true) status.Insecure _ _ same key refl refl refl
-  start_comes (IsLocked nonce false) host same key =
-      refused (IsLocked nonce false) host _ _ same key refl refl refl
+  start_comes (IsLocked nonce false) host same key = refused (IsLocked nonce false) host _ _ same key refl refl refl
   start_comes IsUnlocked host same key = refused IsUnlocked host _ _ same key refl refl refl
   start_comes (IsRunning floor) host same key = refused (IsRunning floor) host _ _ same key refl refl refl
   start_comes IsDoubt host same key = refused IsDoubt host _ _ same key refl refl refl

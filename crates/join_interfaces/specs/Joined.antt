@@ -69,8 +69,7 @@ abbrev pub FitsNamedPeer : (has : ℕ → ℕ → Bool) → (draws : ℕ → ℕ
 FitsNamedPeer has draws by_id live (op.Bind peer) =
     (has peer.line peer.id ≡ true) × (peer.id < 256)
     × (peer.draw ≡ draws peer.line peer.id) × (live ≡ by_id peer.id)
-FitsNamedPeer has draws by_id live (op.Unbind peer) =
-    (has peer.line peer.id ≡ true) × (peer.id < 256)
+FitsNamedPeer has draws by_id live (op.Unbind peer) = (has peer.line peer.id ≡ true) × (peer.id < 256)
 FitsNamedPeer has draws by_id live o = Unit {0}
 
 -- the status of the stream that an operation asks for: of its bound one at the host's port; of one between devices as

@@ -5,7 +5,7 @@ pub use Rattle.std.proofs.lemmas.Bool.Decides.{nat_tests}
 pub use Rattle.ide_types.specs.declared.sub.SubKind.{SubKind}
 pub use Rattle.ide_types.specs.declared.plan.Plan.{Plan}
 pub use Rattle.sub_stream.specs.Calls.{slots_called_out, slots_called_into, stream_after_call}
-pub use Rattle.spec_keys.specs.Operations.{Work, Reach, makes_draw, work, last_exchange_of}
+pub use Rattle.spec_keys.specs.Operations.{Work, Reach, makes_draw, new_work, last_exchange_of}
 pub use Rattle.spec_keys.specs.History.{is_number_between, program_exchange, go_exchange, stop_exchange, touches_if}
 pub use Rattle.spec_keys.specs.History.{work_touches, program_number, go_number, stop_number}
 pub use Rattle.ide_types.specs.Lines.{is_hosted}

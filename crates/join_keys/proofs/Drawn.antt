@@ -2,15 +2,14 @@
 use Rattle.join_keys.proofs.Terms.{◌≡◌, Bool, arith, true, ℕ, List, Plan, if◌then◌else◌, nat_tests, ◌≤◌, Reach}
 use Rattle.join_keys.proofs.Terms.{lane_key, Host, ◌+◌, [], ◌<◌, ◌∷◌, ◌/◌, Option, length, ◌*◌, is_some, All, reach_of}
 use Rattle.join_keys.proofs.Terms.{StreamOperations, manager_after_operation, manager_after, IsKey, FitsPlan}
-use Rattle.join_keys.proofs.Terms.{FitsStream}
-use Rattle.join_keys.proofs.Terms.{Verdict, KeyPlan, History, draws, history_status, PortView, ports_at}
+use Rattle.join_keys.proofs.Terms.{FitsStream, Verdict, KeyPlan, History, draws, history_status, PortView, ports_at}
 use Rattle.join_keys.proofs.Terms.{operation_verdict, work_of, op_of}
 use Rattle.spec_keys.specs.Due.{has_refresh, may_establish, may_refresh, unless_open, key_due}
 use Rattle.spec_links.specs.Plan.{streams_by_link, streams_of, with_id, hop_by_link, hop_streams, peer_streams}
 use Rattle.spec_links.specs.Plan.{lone_stream, in_eight, streams_by_line, stream_plan}
 use Rattle.ide_types.specs.declared.plan.HopPlan.{HopPlan}
 use Rattle.ide_types.specs.declared.plan.PeerPlan.{PeerPlan}
-use Rattle.ide_types.specs.Fits.{FitsLink, FitsHopIf, FitsPeer}
+use Rattle.ide_types.specs.Fits.{FitsLink, FitsHopIfAny, FitsPeer}
 use Rattle.ide_types.specs.declared.port.PortName.{PortName}
 use Rattle.std.specs.Prelude.{map, replicate, slice_index_or, suc, take, zero, ◌++◌, Some, None}
 use Rattle.spec_keys.specs.History.{manager}
@@ -115,7 +114,7 @@ small_links (l ∷ ls) all = (
   small_links ls (All-tail FitsLink l ls all),
 )
 
-small_hop : (streams : List StreamPlan) (o : Option HopPlan) → FitsHopIf streams o → SmallIds (hop_streams o)
+small_hop : (streams : List StreamPlan) (o : Option HopPlan) → FitsHopIfAny streams o → SmallIds (hop_streams o)
 small_hop streams None fits = tt
 small_hop streams (Some o) fits = (fits.id, tt)
 

@@ -1,6 +1,6 @@
 -- The exchanges of an operation at a place whose keys are given by messages.
 use Rattle.join_keys.proofs.CallTerms.{◌≡◌, Bool, arith, true, false, ℕ, ◌++◌, ◌≤◌, ◌<◌, ◌+◌, ◌==◌, zero, suc, refl}
-use Rattle.join_keys.proofs.CallTerms.{◌-◌, nat_tests, ◌&&◌, if◌then◌else◌, SubKind, Plan, Work, work}
+use Rattle.join_keys.proofs.CallTerms.{◌-◌, nat_tests, ◌&&◌, if◌then◌else◌, SubKind, Plan, Work, new_work}
 use Rattle.join_keys.proofs.CallTerms.{last_exchange_of, makes_draw, lane_key, key_number, told_call, calls_from, Side}
 use Rattle.join_keys.proofs.CallTerms.{Host, Device, Operation, is_host, program_number, go_number, stop_number}
 use Rattle.ide_types.specs.Sub.{sub_bits}
@@ -31,7 +31,7 @@ ToldOnce plan hosted side w sends u n =
 
 told_once : (plan : Plan) (hosted : Bool) (side : Side) (o : Operation) (set : Bool) (draw first : ℕ) (begins : Bool)
     (sends : Bool) (u : SubKind) (n : ℕ) → (is_host side && hosted) ≡ false
-    → 1 ≤ n → n ≤ last_exchange_of hosted o → ToldOnce plan hosted side (work o set draw first begins) sends u n
+    → 1 ≤ n → n ≤ last_exchange_of hosted o → ToldOnce plan hosted side (new_work o set draw first begins) sends u n
 told_once plan true Host o set draw first begins sends u n told low high = absurd cc
 told_once plan true Device op.Establish set draw first begins sends u n told low high = grind
     (arith, nat_tests, one_of_set)

@@ -3,7 +3,7 @@ use Rattle.join_keys.specs.Calls.{lane_sends}
 use Rattle.join_keys.proofs.Terms.{◌≡◌, arith, true, ℕ, List, ◌++◌, Work, Plan, if◌then◌else◌, Operation, ◌≤◌, ◌∙◌, sym}
 use Rattle.join_keys.proofs.Terms.{Device, Host, StreamState, ◌+◌, [], suc, refl, ◌-◌, ap, Some, subst, ◌∷◌}
 use Rattle.join_keys.proofs.Terms.{last_exchange_of, port_at, CallsAreTouches, ◌/◌, Option, ◌%◌, None, length, nat_lt}
-use Rattle.join_keys.proofs.Terms.{reach_of, work_of, sub_from, all_called_at, FitsPlan, Loss, Verdict, History}
+use Rattle.join_keys.proofs.Terms.{reach_of, work_of, sub_from, all_called_at_side, FitsPlan, Loss, Verdict, History}
 use Rattle.join_keys.proofs.Terms.{refusal_at, operation_verdict, stays, unwrap_or, key_plan, LinkState, find, find_op}
 use Rattle.join_keys.proofs.Terms.{ports_of, machine_status, AreTouches, Side, Pool, draws_in, true-lt, StreamRefusal}
 use Rattle.join_keys.proofs.Terms.{PlaceCall, StreamView, draws_now, refusal_of, begun_stream, begun_pool, begun_calls}
@@ -20,13 +20,13 @@ use Rattle.join_keys.proofs.Drawn.{lane_keys, id_fits}
 use Rattle.join_keys.proofs.Standing.{is_sound, reads_stream, host_read}
 use Rattle.join_keys.proofs.Kept.{ready_before, draw_below}
 use Rattle.join_keys.proofs.Works.{same_operation, work_fits, begins_first, first_within, is_asked, begun_op}
-use Rattle.join_keys.proofs.Works.{begun_link, begun_id, begun_keys, refused_reach, has_room}
+use Rattle.join_keys.proofs.Works.{begun_line, begun_id, begun_keys, refused_reach, has_room}
 use Rattle.join_keys.proofs.Walking.{Knows, IsNext, denial}
 use Rattle.key_host.proofs.Walks.{ends_as}
 use Rattle.join_keys.proofs.Resting.{goes_from, Rest, rest_is}
 
-calls_append : (side : Side) (cs more : List PlaceCall) (x : StreamState) → all_called_at side (cs ++ more) x
-    ≡ all_called_at side more (all_called_at side cs x)
+calls_append : (side : Side) (cs more : List PlaceCall) (x : StreamState) → all_called_at_side side (cs ++ more) x
+    ≡ all_called_at_side side more (all_called_at_side side cs x)
 calls_append side [] more x = refl
 calls_append side (c ∷ cs) more x = calls_append side cs more _
 
@@ -96,7 +96,7 @@ module _ (plan : Plan) (st : LinkState) (h : History) (operation : Operation) (l
         host_is = rw none;
         device_is = rw none;
         draws_is = rw none;
-        link_is = refl;
+        line_is = refl;
         id_is = refl;
         keys_are = found.kept;
       }
@@ -209,7 +209,7 @@ module _ (plan : Plan) (st : LinkState) (h : History) (operation : Operation) (l
           device_is = rw reached (rest.device_is ∙ same_touches.device_touched);
           draws_is = rw reached
               (draws_on w (pool_of plan st) (has_room operation e.keeper.op (host_of e.host) (pool_of plan st) free));
-          link_is = rest.names_are.0 ∙ begun_link true w (pool_of plan st) e.keeper;
+          line_is = rest.names_are.0 ∙ begun_line true w (pool_of plan st) e.keeper;
           id_is = rest.names_are.1 ∙ begun_id true w (pool_of plan st) e.keeper;
           keys_are = rest.keys_are;
         }

@@ -52,8 +52,7 @@ kept_is_full s x is = grind arith
 module _ (plan : Plan) (st : LinkState) (h : History) (stands : PortsStandFor plan st h) (line id : ℕ) (q : StreamStage)
     (found : find_op plan st line id ≡ Some q) where
   place_fits : (lane : ℕ) → FitsAt q (draws h) (lane_place line id lane) (moments h (lane_place line id lane))
-  place_fits lane =
-      in_state (key_plan plan) h (key_cause plan h stands.ports_stand.cause) (lane_place line id lane) q
+  place_fits lane = in_state (key_plan plan) h (key_cause plan h stands.ports_stand.cause) (lane_place line id lane) q
       (known_op plan st h stands line id q found)
 
   -- its slot at the device has a key
@@ -76,6 +75,5 @@ module _ (plan : Plan) (st : LinkState) (h : History) (stands : PortsStandFor pl
   pub draw_below : (o : Operation) → let w = work_of o q st.draws in
       (draws_now w ≡ true → st.draws < length plan.pool / 6) → makes_draw w.operation ≡ true
       → w.draw < length plan.pool / 6
-  draw_below o =
-      drawn_before q st.draws (draws h) (length plan.pool / 6) _ _ o (place_fits 0)
+  draw_below o = drawn_before q st.draws (draws h) (length plan.pool / 6) _ _ o (place_fits 0)
       (draws_fit (key_plan plan) h (key_cause plan h stands.ports_stand.cause))

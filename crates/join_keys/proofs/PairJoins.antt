@@ -19,7 +19,7 @@ use Rattle.key_host.proofs.Walks.{ends_as}
 use Rattle.join_keys.proofs.Drawn.{lane_keys, id_fits}
 use Rattle.join_keys.proofs.Standing.{is_sound, reads_stream}
 use Rattle.join_keys.proofs.Kept.{draw_below}
-use Rattle.join_keys.proofs.Works.{same_operation, work_fits, begins_first, begun_id, begun_link, begun_op}
+use Rattle.join_keys.proofs.Works.{same_operation, work_fits, begins_first, begun_id, begun_line, begun_op}
 use Rattle.join_keys.proofs.Works.{refused_reach, has_room}
 use Rattle.join_keys.proofs.Walking.{denial}
 use Rattle.join_keys.proofs.Joins.{draws_on}
@@ -101,7 +101,7 @@ module _ (plan : Plan) (st : LinkState) (h : History) (operation : Operation) (l
         near_is = rw none;
         far_is = rw none;
         draws_is = rw none;
-        link_is = refl;
+        line_is = refl;
         id_is = refl;
         keys_are = found.kept;
       }
@@ -219,7 +219,7 @@ module _ (plan : Plan) (st : LinkState) (h : History) (operation : Operation) (l
           far_is = rw reached (rest.far_is ∙ same_touches.far_touched);
           draws_is = rw reached
               (draws_on w (pool_of plan st) (has_room operation e.keeper.op host (pool_of plan st) free));
-          link_is = rest.names_are.0 ∙ begun_link false w (pool_of plan st) e.keeper;
+          line_is = rest.names_are.0 ∙ begun_line false w (pool_of plan st) e.keeper;
           id_is = rest.names_are.1 ∙ begun_id false w (pool_of plan st) e.keeper;
           keys_are = rest.keys_are;
         }

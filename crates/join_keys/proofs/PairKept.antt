@@ -89,9 +89,8 @@ module _ (plan : Plan) (st : LinkState) (h : History) (stands : PortsStandFor pl
     (found : find_op plan st line id ≡ Some q) where
   place_fits : (side : Side) (lane : ℕ) → FitsAt q (draws h) (pair_place line id side lane)
       (moments h (pair_place line id side lane))
-  place_fits side lane =
-      in_state (key_plan plan) h (key_cause plan h stands.ports_stand.cause) (pair_place line id side lane) q
-      (known_op plan st h stands line id q found)
+  place_fits side lane = in_state (key_plan plan) h (key_cause plan h stands.ports_stand.cause)
+      (pair_place line id side lane) q (known_op plan st h stands line id q found)
 
   -- its slot at the end has a key
   pub ready_before : is_hosted line ≡ false → (o : Operation) (side : Side) (x : StreamState)

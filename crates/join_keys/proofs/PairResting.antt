@@ -5,10 +5,10 @@ use Rattle.ide_types.specs.Lines.{is_hosted}
 use Rattle.join_keys.specs.Calls.{told_call, calls_from}
 use Rattle.join_keys.specs.Paired.{PairStreams, PairExchanged, PairWalked, pair_unless_lost, pair_after, pair_goes_on}
 use Rattle.join_keys.specs.Paired.{pair_walk, HasPairKeys, PairKeysKeptIn}
-use Rattle.join_keys.proofs.Terms.{◌≡◌, Bool, arith, true, false, ℕ, Work, Plan, nat_tests, work, Operation, ◌≤◌, List}
-use Rattle.join_keys.proofs.Terms.{◌∙◌, sym, Reach, makes_draw, Host, Device, StreamState, ◌+◌, ◌==◌, []}
-use Rattle.join_keys.proofs.Terms.{zero, suc, refl, ◌-◌, ap, all_called, ◌<◌, Some, subst, last_exchange_of, Option}
-use Rattle.join_keys.proofs.Terms.{None, reach_of, StreamStage, op_at_exchange, reach, op_after_reach, Loss, Verdict}
+use Rattle.join_keys.proofs.Terms.{◌≡◌, Bool, arith, true, false, ℕ, Work, Plan, nat_tests, new_work, Operation, ◌≤◌}
+use Rattle.join_keys.proofs.Terms.{List, ◌∙◌, sym, Reach, makes_draw, Host, Device, StreamState, ◌+◌, ◌==◌, [], zero}
+use Rattle.join_keys.proofs.Terms.{suc, refl, ◌-◌, ap, all_called, ◌<◌, Some, subst, last_exchange_of, Option, None}
+use Rattle.join_keys.proofs.Terms.{reach_of, StreamStage, op_at_exchange, new_reach, op_after_reach, Loss, Verdict}
 use Rattle.join_keys.proofs.Terms.{PortView, lost_message, cut_at, exchange_judged, option_or, first_from}
 use Rattle.join_keys.proofs.Terms.{finished_verdict, different-false, StreamView, asked_of_unfinished, outcome_of}
 use Rattle.join_keys.proofs.Terms.{taken_stream, shown_at_end, ManagerWalk, answers, walk, walk_after_outcome, WireKeys}
@@ -28,13 +28,13 @@ use Rattle.join_keys.proofs.PairWalking.{PairKnows, IsPairNext, pair_came, pair_
 
 kept_as : (plan : Plan) (o : Operation) (set : Bool) (draw f : ℕ) (b : Bool) (n : ℕ) (keys : WireKeys) → 1 ≤ n
     → n ≤ last_exchange_of false o → (makes_draw o ≡ true → HasPairKeys plan draw n keys)
-    → PairKeysKeptIn plan (op_at_exchange (work o set draw f b) n) keys
+    → PairKeysKeptIn plan (op_at_exchange (new_work o set draw f b) n) keys
 kept_as plan op.Establish set draw f b n keys least most has = (least, most, has refl)
 kept_as plan op.Refresh set draw f b n keys least most has = (least, most, has refl)
 kept_as plan op.Stop set draw f b n keys least most has = (least, most)
 
 kept_ended : (plan : Plan) (w : Work) (n : ℕ) (keys : WireKeys) → n ≡ last_exchange_of false w.operation
-    → PairKeysKeptIn plan (op_after_reach false (work_asked (asked_of w n)) (reach (n + 1) (n + 1))) keys
+    → PairKeysKeptIn plan (op_after_reach false (work_asked (asked_of w n)) (new_reach (n + 1) (n + 1))) keys
 kept_ended plan w n keys is = grind (arith, nat_tests)
 
 -- ---- what the rest of a walk gives
@@ -67,7 +67,7 @@ by_fate P line id w n rest came e None (Some status) request reply refused onwar
 by_fate P line id w n rest came e None None request reply refused onward = onward refl
 
 done_says : (line id : ℕ) (w : Work) (n : ℕ) → is_hosted line ≡ false → n ≡ last_exchange_of false w.operation
-    → reach_of w.operation (finished_verdict line id w) ≡ Some (reach (n + 1) (n + 1))
+    → reach_of w.operation (finished_verdict line id w) ≡ Some (new_reach (n + 1) (n + 1))
 done_says line id w n kind is = grind arith
 
 module _ (plan : Plan) (ports : PortView) (w : Work) (line id requester : ℕ) (before : PairStreams)
@@ -75,7 +75,7 @@ module _ (plan : Plan) (ports : PortView) (w : Work) (line id requester : ℕ) (
     (loss : Option Loss) where
   -- it stays at the exchange
   stays : (n : ℕ) (e : PairStreams) → PairKeysKeptIn plan e.keeper.op e.keeper.keys → (verdict : Verdict) (carried : ℕ)
-      → reach_of w.operation verdict ≡ Some (reach carried n)
+      → reach_of w.operation verdict ≡ Some (new_reach carried n)
       → n ≤ carried → carried ≤ last_exchange_of false w.operation + 1 → (near far : StreamState)
       → near ≡ all_called (calls_from (told_call plan false Host w) n (carried - n)) e.near
       → far ≡ all_called (calls_from (told_call plan false Device w) n (carried - n)) e.far
@@ -85,7 +85,7 @@ module _ (plan : Plan) (ports : PortView) (w : Work) (line id requester : ℕ) (
   stays n e kept verdict carried says low high near far near_is far_is out = record {
     outcome_is = refl;
     keeper_is = refl;
-    comes = reach carried n;
+    comes = new_reach carried n;
     says = says;
     within = omega arith;
     near_is = near_is;

@@ -7,7 +7,7 @@ use Rattle.join_keys.specs.Paired.{PairStreams, PairExchanged, came_to_end, pair
 use Rattle.join_keys.proofs.Terms.{◌≡◌, ◌≢◌, Bool, arith, true, ℕ, List, Work, Plan, false, nat_tests, Operation, ◌≤◌}
 use Rattle.join_keys.proofs.Terms.{◌∙◌, makes_draw, is_only_live, StreamState, ◌+◌, ap, refl, Host, Device, Side, []}
 use Rattle.join_keys.proofs.Terms.{◌∷◌, if◌then◌else◌, all_called, ◌<◌, last_exchange_of, slots_refuse, DrawsApart}
-use Rattle.join_keys.proofs.Terms.{Option, op_at_exchange, reach, op_after_reach, get_or-set_other, IsKey, PortView}
+use Rattle.join_keys.proofs.Terms.{Option, op_at_exchange, new_reach, op_after_reach, get_or-set_other, IsKey, PortView}
 use Rattle.join_keys.proofs.Terms.{refusal_at, refusal_if, exchange_judged, is_some, None, sym, slot_in_set, is_empty}
 use Rattle.join_keys.proofs.Terms.{subst, cases_lt, inl, inr, pair_slot, different-false, request_asked}
 use Rattle.join_keys.proofs.Terms.{wire_keys_after, stream_acknowledged, WorkFits, exchange_of, WireKeys, kept_key}
@@ -178,7 +178,7 @@ module _ (plan : Plan) (w : Work) (n : ℕ) (least : 1 ≤ n) (most : n ≤ last
 
 -- the operation after an exchange that is not its last
 pair_standing : (w : Work) (n : ℕ) → n < last_exchange_of false w.operation
-    → op_after_reach false (work_asked (asked_of w n)) (reach (n + 1) (n + 1)) ≡ op_at_exchange w (n + 1)
+    → op_after_reach false (work_asked (asked_of w n)) (new_reach (n + 1) (n + 1)) ≡ op_at_exchange w (n + 1)
 pair_standing w n less = grind (arith, nat_tests, one_of_set)
 
 -- ---- exchange by exchange
@@ -269,9 +269,8 @@ module _ (plan : Plan) (ports : PortView) (w : Work) (line id requester : ℕ) (
       → (side : Side) (lane : ℕ) → lane < 6 → n + 1 ≤ put_at side lane
       → lane_slots lane (all_called (told_call plan false side w n) (state_at side e))
       ≡ lane_slots lane (state_at side before)
-  next_fresh n e at least most makes side lane lt le =
-      fresh_after plan w n least most makes side lane lt (state_at side e) le
-      ∙ at.fresh makes side lane lt (omega (arith, le))
+  next_fresh n e at least most makes side lane lt le = fresh_after plan w n least most makes side lane lt
+      (state_at side e) le ∙ at.fresh makes side lane lt (omega (arith, le))
 
   next_ready : (n : ℕ) (e : PairStreams) → IsPairNext plan w id before n e → 1 ≤ n
       → n ≤ last_exchange_of false w.operation → denial ports w line id n ≡ None → makes_draw w.operation ≡ true
@@ -284,8 +283,7 @@ module _ (plan : Plan) (ports : PortView) (w : Work) (line id requester : ℕ) (
       (λ behind. at.ready makes side lane lt behind (omega (arith, le)))
 
   next_keys : (n : ℕ) (e : PairStreams) → IsPairNext plan w id before n e → 1 ≤ n
-      → n < last_exchange_of false w.operation
-      → makes_draw w.operation ≡ true
+      → n < last_exchange_of false w.operation → makes_draw w.operation ≡ true
       → HasPairKeys plan w.draw (n + 1) (stream_acknowledged false (asked_of w n) e.keeper).keys
   next_keys n e at least less makes side lane lt le =
       rw (different-false n (last_exchange_of false w.operation) less)

@@ -45,8 +45,7 @@ replied request reply fits = as_read request (object_spelling reply) ∙ ap (jud
 
 pub query_comes : (requester draw id : ℕ) (x : StreamState) → requester ≤ 65535 → came_to requester (Query 0) id draw x
     ≡ record { judged = Expected; device = x }
-query_comes requester draw id x most =
-    comes_as requester draw id (Query 0) x (omega arith) None refl false refl _
+query_comes requester draw id x most = comes_as requester draw id (Query 0) x (omega arith) None refl false refl _
     (replied (Query 0) (description requester) (omega arith)) _ refl
 
 -- ---- a request by its lane

@@ -6,14 +6,14 @@ use Rattle.join_keys.proofs.Terms.{◌≡◌, Bool, arith, true, ℕ, List, ◌+
 use Rattle.join_keys.proofs.Terms.{Operation, ◌≤◌, ◌∙◌, sym, Reach, makes_draw, is_number_between, StreamCall, Host}
 use Rattle.join_keys.proofs.Terms.{StreamState, ◌+◌, ◌==◌, [], zero, suc, refl, ◌-◌, ap, exchange_call}
 use Rattle.join_keys.proofs.Terms.{exchanges_called, all_called, host_go, ◌&&◌, ◌<◌, Some, subst, ◌∷◌, last_exchange_of}
-use Rattle.join_keys.proofs.Terms.{Option, None, reach_of, StreamStage, op_at_exchange, reach, op_after_reach}
-use Rattle.join_keys.proofs.Terms.{all_called_at, Loss, Verdict, PortView, lost_message, cut_at, exchange_judged}
+use Rattle.join_keys.proofs.Terms.{Option, None, reach_of, StreamStage, op_at_exchange, new_reach, op_after_reach}
+use Rattle.join_keys.proofs.Terms.{all_called_at_side, Loss, Verdict, PortView, lost_message, cut_at, exchange_judged}
 use Rattle.join_keys.proofs.Terms.{option_or, first_from, finished_verdict, different-false, PlaceCall, host_goes}
 use Rattle.join_keys.proofs.Terms.{StreamView, asked_of_unfinished, outcome_of, taken_stream, taken_calls, shown_at_end}
 use Rattle.join_keys.proofs.Terms.{ManagerWalk, answers, walk, walk_after_outcome, StreamEnds, walk_on}
 use Rattle.join_keys.proofs.Terms.{ends_after_exchange, Exchanged, exchanged_unless_lost, WalkedEnds, goes_on, HasKeys}
-use Rattle.join_keys.proofs.Terms.{KeysKept, KeysKeptIn, exchange_of, WireKeys, is_last_receiver_go, Judged, Expected}
-use Rattle.join_keys.proofs.Terms.{Refused, Lost, KeySet, key_set, one_of_set, work_asked}
+use Rattle.join_keys.proofs.Terms.{KeysKept, KeysKeptInStage, exchange_of, WireKeys, is_last_receiver_go, Judged}
+use Rattle.join_keys.proofs.Terms.{Expected, Refused, Lost, KeySet, key_set, one_of_set, work_asked}
 use Rattle.key_host.specs.declared.operation.StreamOutcome.{StreamOutcome}
 use Rattle.key_host.proofs.Walks.{WorkFits, ends_as}
 use Rattle.event_verdicts.specs.declared.verdict.Verdict.TheVariants as v
@@ -60,15 +60,15 @@ none_from w id n = grind (arith, nat_tests)
 
 -- the GOs of one exchange, and of those after it
 host_steps : (draws t : Bool) (n go below : ℕ) (cs : List PlaceCall) (host : StreamState) → (n == go) ≡ t → n < below
-    → all_called_at Host (if draws then (if is_number_between (n + 1) go below then cs else []) else [])
-    (all_called_at Host (if draws && t then cs else []) host)
-    ≡ all_called_at Host (if draws then (if is_number_between n go below then cs else []) else []) host
+    → all_called_at_side Host (if draws then (if is_number_between (n + 1) go below then cs else []) else [])
+    (all_called_at_side Host (if draws && t then cs else []) host)
+    ≡ all_called_at_side Host (if draws then (if is_number_between n go below then cs else []) else []) host
 host_steps draws t n go below cs host e lt = grind (arith, nat_tests)
 
 host_step : (w : Work) (id n below : ℕ) (host : StreamState) → 1 ≤ n → n ≤ last_exchange_of true w.operation → n < below
-    → all_called_at Host (goes_from w id (n + 1) below)
-    (all_called_at Host (taken_calls true (asked_of w n) Expected id) host)
-    ≡ all_called_at Host (goes_from w id n below) host
+    → all_called_at_side Host (goes_from w id (n + 1) below)
+    (all_called_at_side Host (taken_calls true (asked_of w n) Expected id) host)
+    ≡ all_called_at_side Host (goes_from w id n below) host
 host_step w id n below host least most lt =
     rw (go_at_host w.operation (key_set w.set) n least most, one_of_set w.set)
     (host_steps (makes_draw w.operation) (n == host_go w.operation) n (host_go w.operation) below (host_goes id w.set)
@@ -78,11 +78,11 @@ host_step w id n below host least most lt =
 
 kept_standing : (plan : Plan) (w : Work) (n : ℕ) (keys : WireKeys) → 1 ≤ n → n ≤ last_exchange_of true w.operation
     → (makes_draw w.operation ≡ true → HasKeys plan w.draw (first_program w.operation) n keys)
-    → KeysKeptIn plan (op_at_exchange w n) keys
+    → KeysKeptInStage plan (op_at_exchange w n) keys
 kept_standing plan w n keys least most has = grind arith
 
 kept_ended : (plan : Plan) (w : Work) (n : ℕ) (keys : WireKeys) → n ≡ last_exchange_of true w.operation
-    → KeysKeptIn plan (op_after_reach true (work_asked (asked_of w n)) (reach (n + 1) (n + 1))) keys
+    → KeysKeptInStage plan (op_after_reach true (work_asked (asked_of w n)) (new_reach (n + 1) (n + 1))) keys
 kept_ended plan w n keys is = grind (arith, nat_tests)
 
 -- ---- what the rest of a walk gives
@@ -96,7 +96,7 @@ pub record Rest (plan : Plan) (w : Work) (id n : ℕ) (e : StreamEnds) (verdict 
   pub says : reach_of w.operation verdict ≡ Some comes
   pub within : (n ≤ comes.acknowledged) × (comes.acknowledged ≤ comes.carried)
       × (comes.carried ≤ last_exchange_of true w.operation + 1)
-  pub host_is : x.ends.host ≡ all_called_at Host (goes_from w id n comes.acknowledged) e.host
+  pub host_is : x.ends.host ≡ all_called_at_side Host (goes_from w id n comes.acknowledged) e.host
   pub device_is : x.ends.device ≡ all_called (exchanges_called plan w n (comes.carried - n)) e.device
   pub names_are : (x.ends.keeper.line ≡ e.keeper.line) × (x.ends.keeper.id ≡ e.keeper.id)
   pub keys_are : KeysKept plan x.ends.keeper
@@ -120,7 +120,7 @@ unfolding WorkFits
 standing_asked w n fits = grind arith
 
 done_says : (line id : ℕ) (w : Work) (n : ℕ) → is_hosted line ≡ true → n ≡ last_exchange_of true w.operation
-    → reach_of w.operation (finished_verdict line id w) ≡ Some (reach (n + 1) (n + 1))
+    → reach_of w.operation (finished_verdict line id w) ≡ Some (new_reach (n + 1) (n + 1))
 done_says line id w n hosted is = grind arith
 
 module _ (plan : Plan) (ports : PortView) (w : Work) (line id requester : ℕ) (before : StreamState)
@@ -128,7 +128,7 @@ module _ (plan : Plan) (ports : PortView) (w : Work) (line id requester : ℕ) (
     (loss : Option Loss) where
   -- it stays at the exchange
   stays : (n : ℕ) (e : StreamEnds) → KeysKept plan e.keeper → (verdict : Verdict) (carried : ℕ)
-      → reach_of w.operation verdict ≡ Some (reach carried n)
+      → reach_of w.operation verdict ≡ Some (new_reach carried n)
       → n ≤ carried → carried ≤ last_exchange_of true w.operation + 1
       → (device : StreamState) → device ≡ all_called (exchanges_called plan w n (carried - n)) e.device
       → (out : StreamOutcome)
@@ -137,10 +137,10 @@ module _ (plan : Plan) (ports : PortView) (w : Work) (line id requester : ℕ) (
   stays n e kept verdict carried says low high device device_is out = record {
     outcome_is = refl;
     keeper_is = refl;
-    comes = reach carried n;
+    comes = new_reach carried n;
     says = says;
     within = omega arith;
-    host_is = sym (ap (λ (cs : List PlaceCall). all_called_at Host cs e.host) (none_from w id n));
+    host_is = sym (ap (λ (cs : List PlaceCall). all_called_at_side Host cs e.host) (none_from w id n));
     device_is = device_is;
     names_are = (refl, refl);
     keys_are = kept;
@@ -176,8 +176,8 @@ module _ (plan : Plan) (ports : PortView) (w : Work) (line id requester : ℕ) (
         says = rest.says;
         within = omega (arith, within);
         host_is =
-            rest.host_is ∙ (ap (λ (z : ℕ). all_called_at Host (goes_from w id (n + 1) rest.comes.acknowledged)
-            (all_called_at Host (taken_calls true (asked_of w n) Expected z) e.host)) at.id_is
+            rest.host_is ∙ (ap (λ (z : ℕ). all_called_at_side Host (goes_from w id (n + 1) rest.comes.acknowledged)
+            (all_called_at_side Host (taken_calls true (asked_of w n) Expected z) e.host)) at.id_is
             ∙ host_step w id n rest.comes.acknowledged e.host least most (omega (arith, within)));
         device_is = rest.device_is ∙ calls_more (exchange_call plan w) n rest.comes.carried e.device
             (omega (arith, within));
@@ -221,7 +221,8 @@ module _ (plan : Plan) (ports : PortView) (w : Work) (line id requester : ℕ) (
   steps n more k e at least most rest onward =
       let r = denial ports w line id n in
       let came = all_called (exchange_call plan w n) e.device in
-      let kept : KeysKept plan e.keeper = subst (λ (q : StreamStage). KeysKeptIn plan q e.keeper.keys) (sym at.op_is)
+      let kept : KeysKept plan e.keeper = subst (λ (q : StreamStage). KeysKeptInStage plan q e.keeper.keys)
+      (sym at.op_is)
       (kept_standing plan w n e.keeper.keys least most at.keys) in
       let asked : asked_of_unfinished e.keeper.op ≡ Some (asked_of w n) = ap asked_of_unfinished at.op_is ∙
       standing_asked w n knows.fits in

@@ -56,8 +56,7 @@ settled_before f g x o i p q out into = grind arith
 pub stays_settled : (f g : SubKind → LaneSlots) (x : StreamState) → settle x ≡ x
     → (any_of (outs x) ≡ true → any_of f ≡ true) → (any_of (ins x) ≡ true → any_of g ≡ true)
     → settle (with_slots f g x) ≡ with_slots f g x
-stays_settled f g x is out into =
-    subst (λ (y : StreamState). settle (with_slots f g y) ≡ with_slots f g y) is
+stays_settled f g x is out into = subst (λ (y : StreamState). settle (with_slots f g y) ≡ with_slots f g y) is
     (settled_before f g x (any_of (outs x)) (any_of (ins x)) (any_of f) (any_of g) out into)
 
 -- ---- one of three

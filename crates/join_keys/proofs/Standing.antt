@@ -4,9 +4,9 @@ use Rattle.join_keys.proofs.Terms.{LaneSlots, ◌∙◌, sym, Host, slot_pair, S
 use Rattle.join_keys.proofs.Terms.{WaitsBesideLive, Pr, Npr, Cpl, Some, subst, ◌≢◌, port_at, slots_at, at_sub, LaneSlot}
 use Rattle.join_keys.proofs.Terms.{Live, lane_out, lane_in, IsSound, ReadsStream, DrawsApart, ◌||◌, History, moments}
 use Rattle.join_keys.proofs.Terms.{key_plan, slot_in_set, Armed, LinkState, find, ports_of, machine_status, refuses_at}
-use Rattle.join_keys.proofs.Terms.{refusal_if, Option, is_live_at, status_there, Side, live_set, is_set}
-use Rattle.join_keys.proofs.Terms.{HostAndPoolShow}
-use Rattle.join_keys.proofs.Terms.{tx_slots, rx_slots, PortsStand, kept_is, host_of, Keys, Shape, keys_of, key_cause}
+use Rattle.join_keys.proofs.Terms.{refusal_if, Option, is_live_at, status_there, Side, live_set, is_set, HostSeesPorts}
+use Rattle.join_keys.proofs.Terms.{tx_slots, rx_slots, StreamsAndPacketsStand, kept_is, host_of, Keys, Shape, keys_of}
+use Rattle.join_keys.proofs.Terms.{key_cause}
 use Rattle.machine_operations.specs.{stream_state_due}
 use Rattle.ide_types.specs.declared.port.PortName.{PortName}
 use Rattle.spec_keys.proofs.Whole.{fits}
@@ -111,7 +111,7 @@ unfolding stream_state_due
 settled_standing plan h port stream = rw (out_is plan h port stream, into_is plan h port stream)
     (let live = failed_live plan h port stream in grind arith)
 
-pub is_sound : (plan : Plan) (st : LinkState) (h : History) → PortsStand plan st h
+pub is_sound : (plan : Plan) (st : LinkState) (h : History) → StreamsAndPacketsStand plan st h
     → (side : Side) (line stream : ℕ) (x : StreamState) → find plan st (port_at side line) stream ≡ Some x → IsSound x
 is_sound plan st h stands side line stream x found =
     let port = port_at side line in
@@ -137,9 +137,9 @@ by_first : (set : Bool) (s : LaneSlots) → may_stand s.first s.second ≡ true 
     ≡ is_live_slot (slot_in_set s set)
 by_first set s may = grind arith
 
-pub host_read : (plan : Plan) (st : LinkState) (h : History) → PortsStand plan st h
+pub host_read : (plan : Plan) (st : LinkState) (h : History) → StreamsAndPacketsStand plan st h
     → (line stream : ℕ) (x : StreamState) → find plan st (port_at Host line) stream ≡ Some x → (draws : ℕ)
-    → HostAndPoolShow (key_plan plan) (ports_of plan st) line stream (machine_status plan st Host line stream)
+    → HostSeesPorts (key_plan plan) (ports_of plan st) line stream (machine_status plan st Host line stream)
     (host_of x)
     (record { keys = plan.pool; draws = draws })
 host_read plan st h stands line stream x found draws =

@@ -1,8 +1,8 @@
 -- The calls of a place leave its slots as the touches of its event do. The host's port stops both sets where it loses
 -- all keys, which is the same.
 use Rattle.join_keys.proofs.CallTerms.{◌≡◌, Bool, arith, true, ℕ, ◌++◌, false, ◌≤◌, Some, nat_tests, SubKind, Plan}
-use Rattle.join_keys.proofs.CallTerms.{Program, Go, Stop, Work, Reach, makes_draw, work, is_number_between, touches_if}
-use Rattle.join_keys.proofs.CallTerms.{work_touches, Host, Operation, KeyPlace, place_at_end, taken_touches}
+use Rattle.join_keys.proofs.CallTerms.{Program, Go, Stop, Work, Reach, makes_draw, new_work, is_number_between}
+use Rattle.join_keys.proofs.CallTerms.{touches_if, work_touches, Host, Operation, KeyPlace, place_at_end, taken_touches}
 use Rattle.join_keys.proofs.CallTerms.{is_only_live, slot_pair, LaneSlots, SubStream, key_of, slots_touched, host_go}
 use Rattle.join_keys.proofs.CallTerms.{if◌then◌else◌, is_hosted, is_local, is_host, lane}
 use Rattle.spec_keys.specs.Keys.{Program as ProgramTouch, Go as GoTouch, Stop as StopTouch}
@@ -35,7 +35,7 @@ stopped_touches plan s sends refuses x a b = grind arith
 pub touches_told : (plan : Plan) (o : Operation) (set : Bool) (draw first : ℕ) (begins : Bool) (hosted : Bool)
     (p : KeyPlace) (r : Reach) (s : SubStream) (x : LaneSlots) (refuses : Bool → Bool) → is_hosted p.line ≡ hosted
     → is_local p ≡ false → refuses set ≡ is_only_live (slot_pair p.sends x) set
-    → AreTouched plan (work o set draw first begins) r p s refuses
+    → AreTouched plan (new_work o set draw first begins) r p s refuses
     (is_number_between first (first_number hosted (is_host p.side) o (lane p)) r.carried)
     (is_number_between first (second_number hosted (is_host p.side) o (lane p)) r.carried) x
 touches_told plan op.Establish set draw first begins hosted p r s x refuses line told same =

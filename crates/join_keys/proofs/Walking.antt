@@ -2,12 +2,12 @@
 use Rattle.join_keys.specs.Calls.{lane_sends}
 use Rattle.join_keys.proofs.Terms.{◌≡◌, Bool, arith, true, ℕ, List, Work, Plan, false, nat_tests, Operation, ◌≤◌, ◌∙◌}
 use Rattle.join_keys.proofs.Terms.{makes_draw, lane_key, is_only_live, StreamState, ◌+◌, ap, exchange_call, all_called}
-use Rattle.join_keys.proofs.Terms.{◌<◌, Some, last_exchange_of, slots_refuse, DrawsApart, Option, op_at_exchange, reach}
-use Rattle.join_keys.proofs.Terms.{op_after_reach, call_of_exchange, get_or-set_other, IsKey, PortView, refusal_at}
-use Rattle.join_keys.proofs.Terms.{refusal_if, exchange_judged, is_some, None, sym, slot_in_set, is_empty, pair_slot}
-use Rattle.join_keys.proofs.Terms.{different-false, request_asked, wire_keys_after, stream_acknowledged, WorkFits}
-use Rattle.join_keys.proofs.Terms.{StreamEnds, came_to, ends_after_exchange, HasKeys, exchange_of, WireKeys, kept_key}
-use Rattle.join_keys.proofs.Terms.{request_of, Expected, KeySet, key_set, one_of_set, work_asked, Device}
+use Rattle.join_keys.proofs.Terms.{◌<◌, Some, last_exchange_of, slots_refuse, DrawsApart, Option, op_at_exchange}
+use Rattle.join_keys.proofs.Terms.{new_reach, op_after_reach, call_of_exchange, get_or-set_other, IsKey, PortView}
+use Rattle.join_keys.proofs.Terms.{refusal_at, refusal_if, exchange_judged, is_some, None, sym, slot_in_set, is_empty}
+use Rattle.join_keys.proofs.Terms.{pair_slot, different-false, request_asked, wire_keys_after, stream_acknowledged}
+use Rattle.join_keys.proofs.Terms.{WorkFits, StreamEnds, came_to, ends_after_exchange, HasKeys, exchange_of, WireKeys}
+use Rattle.join_keys.proofs.Terms.{kept_key, request_of, Expected, KeySet, key_set, one_of_set, work_asked, Device}
 use Rattle.key_host.specs.declared.stage.NextExchange.{NextExchange}
 use Rattle.join_keys.proofs.Slots.{only_live_is, is_refusal}
 use Rattle.join_keys.proofs.Lanes.{lane_place, lane_slots, slot_seen, IsFull, first_program, Turn, asks, puts, goes}
@@ -43,12 +43,11 @@ pub record IsNext (plan : Plan) (w : Work) (id : ℕ) (before : StreamState) (n 
   pub fresh : makes_draw w.operation ≡ true → (lane : ℕ) → lane < 6 → n ≤ first_program w.operation + lane
       → lane_slots lane e.device ≡ lane_slots lane before
   pub ready : makes_draw w.operation ≡ true → (lane : ℕ) → lane < 6 → first_program w.operation + lane < n
-      → n ≤ first_program w.operation + (6 + lane)
-      → IsFull (slot_in_set (lane_slots lane e.device) w.set)
+      → n ≤ first_program w.operation + (6 + lane) → IsFull (slot_in_set (lane_slots lane e.device) w.set)
 
 -- the operation after an exchange that is not its last
 standing_behind : (w : Work) (n : ℕ) → n < last_exchange_of true w.operation
-    → op_after_reach true (work_asked (asked_of w n)) (reach (n + 1) (n + 1)) ≡ op_at_exchange w (n + 1)
+    → op_after_reach true (work_asked (asked_of w n)) (new_reach (n + 1) (n + 1)) ≡ op_at_exchange w (n + 1)
 standing_behind w n less = grind (arith, nat_tests, one_of_set)
 
 -- a KEY_PROG takes its own lane's key
@@ -76,8 +75,7 @@ module _ (plan : Plan) (ports : PortView) (w : Work) (line id requester : ℕ) (
     (knows : Knows plan ports w line id requester before) where
   -- the KEY_PROG of a lane is refused as before the event
   pair_refused : (n : ℕ) (e : StreamEnds) → IsNext plan w id before n e → makes_draw w.operation ≡ true → (lane : ℕ)
-      → lane < 6
-      → n ≡ first_program w.operation + lane
+      → lane < 6 → n ≡ first_program w.operation + lane
       → refusal_if (is_only_live (lane_pair lane e.device) w.set) ≡ denial ports w line id n
   pair_refused n e at makes lane lt is_n =
       rw (
@@ -134,8 +132,7 @@ module _ (plan : Plan) (ports : PortView) (w : Work) (line id requester : ℕ) (
   -- ---- the exchange was acknowledged
 
   next_keys : (n : ℕ) (e : StreamEnds) → IsNext plan w id before n e → 1 ≤ n → n < last_exchange_of true w.operation
-      → makes_draw w.operation ≡ true
-      → (lane : ℕ) → lane < 6 → n + 1 ≤ first_program w.operation + lane
+      → makes_draw w.operation ≡ true → (lane : ℕ) → lane < 6 → n + 1 ≤ first_program w.operation + lane
       → kept_key (stream_acknowledged true (asked_of w n) e.keeper).keys lane ≡ Some (lane_key plan w.draw lane)
   next_keys n e at least less makes lane lt le =
       rw (different-false n (last_exchange_of true w.operation) less)
@@ -143,16 +140,13 @@ module _ (plan : Plan) (ports : PortView) (w : Work) (line id requester : ℕ) (
       (at.keys makes lane lt (omega (arith, le))))
 
   next_fresh : (n : ℕ) (e : StreamEnds) → IsNext plan w id before n e → 1 ≤ n → makes_draw w.operation ≡ true
-      → (lane : ℕ) → lane < 6
-      → n + 1 ≤ first_program w.operation + lane
+      → (lane : ℕ) → lane < 6 → n + 1 ≤ first_program w.operation + lane
       → lane_slots lane (all_called (exchange_call plan w n) e.device) ≡ lane_slots lane before
-  next_fresh n e at least makes lane lt le =
-      fresh_after plan w.operation (key_set w.set) w.draw n lane e.device makes least lt le ∙ at.fresh makes lane lt
-      (omega (arith, le))
+  next_fresh n e at least makes lane lt le = fresh_after plan w.operation (key_set w.set) w.draw n lane e.device makes
+      least lt le ∙ at.fresh makes lane lt (omega (arith, le))
 
   next_ready : (n : ℕ) (e : StreamEnds) → IsNext plan w id before n e → 1 ≤ n → denial ports w line id n ≡ None
-      → makes_draw w.operation ≡ true
-      → (lane : ℕ) → lane < 6 → first_program w.operation + lane < n + 1
+      → makes_draw w.operation ≡ true → (lane : ℕ) → lane < 6 → first_program w.operation + lane < n + 1
       → n + 1 ≤ first_program w.operation + (6 + lane)
       → IsFull (slot_in_set (lane_slots lane (all_called (exchange_call plan w n) e.device)) w.set)
   next_ready n e at least free makes lane lt past le =

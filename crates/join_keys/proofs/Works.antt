@@ -3,7 +3,7 @@ use Rattle.join_keys.proofs.Terms.{◌≡◌, Bool, arith, true, ℕ, Work, Plan
 use Rattle.join_keys.proofs.Terms.{Some, last_exchange_of, Option, None, nat_lt, reach_of, work_of, StreamStage}
 use Rattle.join_keys.proofs.Terms.{op_at_exchange, Loss, Pool, draws_in, six_keys, unspent_keys, StreamRefusal, Verdict}
 use Rattle.join_keys.proofs.Terms.{StreamView, draws_now, refusal_of, begun_stream, asked_of_unfinished, HostView}
-use Rattle.join_keys.proofs.Terms.{key_refusal_verdict, IsAsked, HasKeys, KeysKeptIn, WireKeys, kept_key}
+use Rattle.join_keys.proofs.Terms.{key_refusal_verdict, IsAsked, HasKeys, KeysKeptInStage, WireKeys, kept_key}
 use Rattle.key_host.proofs.Walks.{WorkFits}
 use Rattle.join_keys.proofs.Lanes.{by_lane, first_program}
 
@@ -22,11 +22,12 @@ pub begins_first : (o : Operation) (q : StreamStage) (next : ℕ) → (work_of o
 begins_first o q next begins = grind arith
 
 -- its first exchange is one of the operation's
-pub first_within : (plan : Plan) (o : Operation) (q : StreamStage) (next : ℕ) (keys : WireKeys) → KeysKeptIn plan q keys
+pub first_within : (plan : Plan) (o : Operation) (q : StreamStage) (next : ℕ) (keys : WireKeys)
+    → KeysKeptInStage plan q keys
     → let w = work_of o q next in (1 ≤ w.first) × (w.first ≤ last_exchange_of true w.operation)
 first_within plan o q next keys kept = grind arith
 
-pub is_asked : (plan : Plan) (q : StreamStage) (keys : WireKeys) → KeysKeptIn plan q keys
+pub is_asked : (plan : Plan) (q : StreamStage) (keys : WireKeys) → KeysKeptInStage plan q keys
     → IsAsked true (asked_of_unfinished q)
 is_asked plan q keys kept = grind arith
 
@@ -36,9 +37,9 @@ pub begun_op : (hosted : Bool) (o : Operation) (q : StreamStage) (next : ℕ) (p
     → let w = work_of o q next in (begun_stream hosted w pool s).op ≡ op_at_exchange w w.first
 begun_op hosted o q next pool s is = grind arith
 
-pub begun_link : (hosted : Bool) (w : Work) (pool : Pool) (s : StreamView) → (begun_stream hosted w pool s).line
+pub begun_line : (hosted : Bool) (w : Work) (pool : Pool) (s : StreamView) → (begun_stream hosted w pool s).line
     ≡ s.line
-begun_link hosted w pool s = grind arith
+begun_line hosted w pool s = grind arith
 
 pub begun_id : (hosted : Bool) (w : Work) (pool : Pool) (s : StreamView) → (begun_stream hosted w pool s).id ≡ s.id
 begun_id hosted w pool s = grind arith
@@ -50,7 +51,8 @@ six_kept plan draw first next lane lt le = by_lane
     refl
     refl refl lane lt
 
-pub begun_keys : (plan : Plan) (o : Operation) (q : StreamStage) (next : ℕ) (s : StreamView) → KeysKeptIn plan q s.keys
+pub begun_keys : (plan : Plan) (o : Operation) (q : StreamStage) (next : ℕ) (s : StreamView)
+    → KeysKeptInStage plan q s.keys
     → let w = work_of o q next in
     makes_draw w.operation ≡ true → HasKeys plan w.draw (first_program w.operation) w.first
     (begun_stream true w (record { keys = plan.pool; draws = next }) s).keys

@@ -33,11 +33,10 @@ all_called (c ∷ cs) x = all_called cs (stream_after_call c.sends c.sub c.call 
 
 -- a call at a place of the port of this side
 abbrev pub stream_call : Side → PlaceCall → StreamCall
-stream_call side c =
-    record { sends = sends_in side c.place.direction; sub = sub_from c.place.sub; call = c.call }
+stream_call side c = record { sends = sends_in side c.place.direction; sub = sub_from c.place.sub; call = c.call }
 
-abbrev pub all_called_at : Side → List PlaceCall → StreamState → StreamState
-all_called_at side cs x = all_called (map (stream_call side) cs) x
+abbrev pub all_called_at_side : Side → List PlaceCall → StreamState → StreamState
+all_called_at_side side cs x = all_called (map (stream_call side) cs) x
 
 -- ---- exchanges at an end: its receivers are lanes 0 to 2, its senders lanes 3 to 5
 

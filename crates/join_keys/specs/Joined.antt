@@ -36,14 +36,14 @@ HasKeys plan draw first next keys =
     (lane : ℕ) → lane < 6 → next ≤ first + lane → kept_key keys lane ≡ Some (lane_key plan draw lane)
 
 -- an unfinished operation is at one of its exchanges
-abbrev pub KeysKeptIn : Plan → StreamStage → WireKeys → Type 0
-KeysKeptIn plan (Establishing draw next) keys = (1 ≤ next) × (next ≤ 13) × HasKeys plan draw 2 next keys
-KeysKeptIn plan (Refreshing set draw next) keys = (1 ≤ next) × (next ≤ 12) × HasKeys plan draw 1 next keys
-KeysKeptIn plan (Stopping next) keys = (1 ≤ next) × (next ≤ 12)
-KeysKeptIn plan o keys = Unit {0}
+abbrev pub KeysKeptInStage : Plan → StreamStage → WireKeys → Type 0
+KeysKeptInStage plan (Establishing draw next) keys = (1 ≤ next) × (next ≤ 13) × HasKeys plan draw 2 next keys
+KeysKeptInStage plan (Refreshing set draw next) keys = (1 ≤ next) × (next ≤ 12) × HasKeys plan draw 1 next keys
+KeysKeptInStage plan (Stopping next) keys = (1 ≤ next) × (next ≤ 12)
+KeysKeptInStage plan o keys = Unit {0}
 
 abbrev pub KeysKept : Plan → StreamView → Type 0
-KeysKept plan s = KeysKeptIn plan s.op s.keys
+KeysKept plan s = KeysKeptInStage plan s.op s.keys
 
 -- ---- the law
 
@@ -89,7 +89,7 @@ pub record IsJoined (plan : Plan) (st : LinkState) (operation : Operation) (loss
       pool).draws
       ≡ draws_by st.draws w (reach_of operation (verdict_due plan st operation e.keeper.op e.keeper.line
       e.keeper.id loss))
-  pub link_is : r.ends.keeper.line ≡ e.keeper.line
+  pub line_is : r.ends.keeper.line ≡ e.keeper.line
   pub id_is : r.ends.keeper.id ≡ e.keeper.id
   pub keys_are : KeysKept plan r.ends.keeper
 

@@ -150,7 +150,7 @@ pub record IsPairJoined (plan : Plan) (st : LinkState) (operation : Operation) (
       pool).draws
       ≡ draws_by st.draws w (reach_of operation (verdict_due plan st operation e.keeper.op e.keeper.line
       e.keeper.id loss))
-  pub link_is : r.ends.keeper.line ≡ e.keeper.line
+  pub line_is : r.ends.keeper.line ≡ e.keeper.line
   pub id_is : r.ends.keeper.id ≡ e.keeper.id
   pub keys_are : PairKeysKeptIn plan r.ends.keeper.op r.ends.keeper.keys
 

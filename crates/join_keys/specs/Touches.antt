@@ -19,7 +19,7 @@ use Rattle.key_host.specs.Streams.{begun_calls}
 use Rattle.spec_stream.specs.Stream.{Live, Armed, LaneSlots, StreamState, LiveKey, slot_in_set, at_sub}
 use Rattle.spec_stream.specs.Slots.{is_live_slot, rested_stream, slots_at}
 use Rattle.machine_operations.specs.{port_at, place_at_end, slots_refuse, touches_at, touched_stream}
-use Rattle.join_keys.specs.Calls.{StreamCall, all_called, all_called_at, exchanges_called, calls_from, told_call}
+use Rattle.join_keys.specs.Calls.{StreamCall, all_called, all_called_at_side, exchanges_called, calls_from, told_call}
 
 -- ---- what is known of a stream at a port
 
@@ -86,7 +86,7 @@ IsWork w = (o : Operation) × (q : StreamStage) × (next : ℕ) × (w ≡ work_o
 -- The calls at a port, one after another, leave the stream as the touches of the event do.
 pub record AreTouches (plan : Plan) (ports : PortView) (line stream : ℕ) (w : Work) (r : Reach) (host device :
     StreamState) : Type 0 where
-  pub host_touched : all_called_at Host (host_calls plan stream w r) host
+  pub host_touched : all_called_at_side Host (host_calls plan stream w r) host
       ≡ touched_stream plan (port_at Host line) stream
       (λ u. touches_at ports w r (place_at_end line stream true Host u))
       (λ u. touches_at ports w r (place_at_end line stream false Host u)) host

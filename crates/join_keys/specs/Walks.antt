@@ -23,7 +23,7 @@ use Rattle.key_host.specs.Streams.{StreamView, HostView, asked_of_unfinished, re
 use Rattle.key_host.specs.Streams.{begun_calls, outcome_of, taken_stream, taken_calls}
 use Rattle.spec_stream.specs.Stream.{StreamState}
 use Rattle.sub_stream.specs.Calls.{sends_in, pair_at, stream_after_call}
-use Rattle.join_keys.specs.Calls.{all_called_at}
+use Rattle.join_keys.specs.Calls.{all_called_at_side}
 
 -- the two ports' parts of a stream, and what the manager keeps of it
 pub record StreamEnds : Type 0 where
@@ -85,7 +85,7 @@ exchange_outcome loss requester a e =
 -- the manager takes it, and calls the host's port
 abbrev pub ends_after_exchange : NextExchange → Exchanged → StreamEnds → StreamEnds
 ends_after_exchange a x e = record {
-  host = all_called_at Host (taken_calls true a x.judged e.keeper.id) e.host;
+  host = all_called_at_side Host (taken_calls true a x.judged e.keeper.id) e.host;
   device = x.device;
   keeper = taken_stream true a x.judged e.keeper;
 }
@@ -122,7 +122,7 @@ walk_on (suc more) loss requester e =
 -- it begins, or goes on
 abbrev pub begun_ends : Work → Pool → StreamEnds → StreamEnds
 begun_ends w pool e = record {
-  host = all_called_at Host (begun_calls true w pool e.keeper.id) e.host;
+  host = all_called_at_side Host (begun_calls true w pool e.keeper.id) e.host;
   device = e.device;
   keeper = begun_stream true w pool e.keeper;
 }

@@ -32,10 +32,10 @@ use Rattle.join_interfaces.specs.Verdicts.{op_event}
 use Rattle.link_ends.specs.DeviceEnds.{secure_at}
 use Rattle.ide_port.specs.{port_stream_status}
 use Rattle.machine_ports.specs.Machine.{LinkPacket, LinkState, find_op, machine_status}
-use Rattle.whole_links.specs.{EndsView, peer_live, live_for, operated_on, status_for, AreLinks, ended_if_there}
-use Rattle.whole_links.specs.{ended_in, ended_on_link, flr_as, firmware_as, has_peer_if_there, HostKeeper}
-use Rattle.whole_links.specs.{managed_peer_stream, peer_verdict_in, state_of, interface_of_ends, interface_seen_at}
-use Rattle.whole_links.specs.{verdict_at_ends, verdict_in, viewed_as, written_as}
+use Rattle.whole_links.specs.{EndsView, peer_live, live_for_operation, operated_on, status_for_operation, AreLinks}
+use Rattle.whole_links.specs.{ended_if_there, ended_in, ended_on_link, flr_as, firmware_as, has_peer_if_there}
+use Rattle.whole_links.specs.{HostKeeper, managed_peer_stream, peer_verdict_in, state_of, interface_of_ends}
+use Rattle.whole_links.specs.{interface_seen_at, verdict_at_ends, verdict_in, viewed_as, written_as}
 use Rattle.whole_links.proofs.{op_is}
 use Rattle.machine_whole.specs.Machine.{Whole, live_draw_at_end, memory_shown, op_or_idle, machine_secure}
 use Rattle.machine_whole.specs.Machine.{whole_streams}
@@ -63,9 +63,8 @@ module _ (plan : Plan) (v : EndsView) (k : HostKeeper) (packets : List LinkPacke
   -- of a stream between devices that the operation names, the device has it, and manager and ends have of it what the
   -- machine has
   abbrev pub PeerFits : Site → InterfaceOperation → Type 0
-  PeerFits x o =
-      FitsNamedPeer (has_peer plan.peers x.link) w.draw (live_by_id (live_draw_at_end plan w.links) plan.peers x.link)
-      (live_for (peer_live v x.link) o) o
+  PeerFits x o = FitsNamedPeer (has_peer plan.peers x.link) w.draw
+      (live_by_id (live_draw_at_end plan w.links) plan.peers x.link) (live_for_operation (peer_live v x.link) o) o
 
   peer_status : (line stream : ℕ)
       → status_named (named_stream k.keys.manager line stream) ≡ op_status ((whole_streams plan w).op line stream)
@@ -84,7 +83,7 @@ module _ (plan : Plan) (v : EndsView) (k : HostKeeper) (packets : List LinkPacke
       ∙ ap (λ (st : LinkState). machine_status plan st Host x.link x.plan.stream) (sym state_is)
 
   status_is : (i : ℕ) (o : InterfaceOperation) (x : Site) (p : IsPlaced plan v.links k.interfaces w i x)
-      → status_for k.keys.manager (port_stream_status p.link_ends.host p.interface.stream) o
+      → status_for_operation k.keys.manager (port_stream_status p.link_ends.host p.interface.stream) o
       ≡ op_host (whole_streams plan w).op ((whole_streams plan w).host x.link x.plan.stream) o
   status_is i op.Lock x p = host_is i x p
   status_is i op.Report x p = host_is i x p
@@ -98,7 +97,7 @@ module _ (plan : Plan) (v : EndsView) (k : HostKeeper) (packets : List LinkPacke
   operated_is : (i : ℕ) (o : InterfaceOperation) (loss : Option Loss) (x : Site)
       (p : IsPlaced plan v.links k.interfaces w i x) → interface_operated i o
       (op_host (whole_streams plan w).op ((whole_streams plan w).host x.link x.plan.stream) o)
-      (whole_streams plan w).drawn (said_of (whole_streams plan w) x (live_for (peer_live v x.link) o)) loss
+      (whole_streams plan w).drawn (said_of (whole_streams plan w) x (live_for_operation (peer_live v x.link) o)) loss
       k.interfaces p.link_ends.device.interfaces p.interface ≡ operated_on i o loss k.keys (peer_live v x.link)
       k.interfaces p.link_ends p.interface
   operated_is i o loss x p =
@@ -109,7 +108,7 @@ module _ (plan : Plan) (v : EndsView) (k : HostKeeper) (packets : List LinkPacke
       ∙ ap (secure_at p.link_ends.device.port) (sym p.keeps.managed.laid_out.stream) in
       let draws : w.links.draws ≡ k.keys.pool.draws = ap (λ (st : LinkState). st.draws) state_is in
       λ n. interface_operated i o (sym (status_is i o x p) n) (draws n)
-      (record { secure = secure n; live = live_for (peer_live v x.link) o }) loss k.interfaces
+      (record { secure = secure n; live = live_for_operation (peer_live v x.link) o }) loss k.interfaces
       p.link_ends.device.interfaces p.interface
 
   -- what the operation on the interface of this number gave
@@ -122,7 +121,7 @@ module _ (plan : Plan) (v : EndsView) (k : HostKeeper) (packets : List LinkPacke
       subst (λ (e : Ended). IsInterfaceJoined plan (whole_streams plan w) w.faces.used x p.face i p.place o loss
       k.interfaces p.link_ends.device.interfaces e) (operated_is i o loss x p)
       (joins plan (whole_streams plan w) w.faces.used x p.face i p.place o loss k.interfaces
-      p.link_ends.device.interfaces p.interface p.tdi (live_for (peer_live v x.link) o)
+      p.link_ends.device.interfaces p.interface p.tdi (live_for_operation (peer_live v x.link) o)
       (is_at plan v.links k.interfaces memory w i x p beside links.fits is) peer)
 
   pub peer_fits : (x : Site) (line stream : ℕ) → has_peer plan.peers x.link line stream ≡ true

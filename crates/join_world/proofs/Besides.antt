@@ -120,8 +120,7 @@ module _ (plan : Plan) (ends : List LinkEnds) (m : InterfacesView) (memory : Mem
       ahead : (k : ℕ) (y : HostTdi) → k < s.place → slice_get m.interfaces k ≡ Some y
           → (((y.link == link) && (y.requester == requester)) ≡ true)
           ⊎ (((y.link == link) && (y.requester == requester)) ≡ false) → is_granted link requester y ≡ false
-      ahead k y lt there cases =
-          ⊎_elim (λ so. absurd (omega (arith, lt, only k y there so)))
+      ahead k y lt there cases = ⊎_elim (λ so. absurd (omega (arith, lt, only k y there so)))
           (and_left ((y.link == link) && (y.requester == requester)) (is_running y.seen)) cases
 
       runs : (p : IsPlaced plan ends m w s.place s.site) → is_running p.interface.seen ≡ true
@@ -177,8 +176,7 @@ module _ (plan : Plan) (ends : List LinkEnds) (m : InterfacesView) (memory : Mem
           (and_left ((y.link == link) && (y.requester == requester)) (is_running y.seen)) cases
 
   pub grant_is : (link requester : ℕ) → running_grant m link requester ≡ grant_of plan w.faces link requester
-  grant_is link requester =
-      ⊎_elim (grant_found link requester) (grant_nowhere link requester)
+  grant_is link requester = ⊎_elim (grant_found link requester) (grant_nowhere link requester)
       (site_or_none (is_requester link requester) (sites plan))
 
   -- ---- answers
@@ -238,8 +236,7 @@ module _ (plan : Plan) (ends : List LinkEnds) (m : InterfacesView) (memory : Mem
   pub flr_is : (i : ℕ) (x : Site) (p : IsPlaced plan ends m w i x) → slice_get (sites plan) i ≡ Some x
       → flr_as i (interface_of_ends ends (x.link, p.place)) ≡ v.Interface
       (iv.Flr x.number (code_after p.face.tdi LevelReset))
-  flr_is i x p is =
-      ap (flr_as i) (tdi_there i x p)
+  flr_is i x p is = ap (flr_as i) (tdi_there i x p)
       ∙ (λ j. v.Interface (iv.Flr (sym (site_numbered plan i x is) j) (code_behind (p.keeps.tdi_is j) LevelReset)))
 
   pub firmware_is : (i : ℕ) (x : Site) (p : IsPlaced plan ends m w i x) → slice_get (sites plan) i ≡ Some x

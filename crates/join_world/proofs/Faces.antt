@@ -43,8 +43,7 @@ pub none_given : (plan : Plan) (s : Streams) (used : ℕ → ℕ) (e : Event) (w
     (fs : List Face) → ((i : ℕ) (x : Site) (f : Face) → slice_get xs i ≡ Some x → slice_get fs i ≡ Some f
     → accepts_lock (around_of plan s used x f) x e w f.tdi ≡ false)
     → list_any is_true (with_each (gives_nonce plan s used e w link) xs fs) ≡ false
-none_given plan s used e w link xs fs none =
-    none_of (gives_nonce plan s used e w link) xs fs
+none_given plan s used e w link xs fs none = none_of (gives_nonce plan s used e w link) xs fs
     (λ i x f at there. and_none (x.link == link) _ (none i x f at there))
 
 none_more : (n : ℕ) (b : Bool) → b ≡ false → n + one_if b ≡ n

@@ -174,8 +174,7 @@ ports_kept plan beside st e is = absurd cc
 
 stays_there : (plan : Plan) (beside : BesidePorts) (st new : LinkState) (e : Event) (verdict : Verdict)
     → leaves_ports plan e ≡ true → ◌≡◌ {A = Stepped} (verdict, new) (step_of plan beside st e) → StaySecure plan st new
-stays_there plan beside st new e verdict is step =
-    subst (StaySecure plan st)
+stays_there plan beside st new e verdict is step = subst (StaySecure plan st)
     (sym (ap (λ (r : Stepped). r.1) step ∙ ports_kept plan beside st e is)) (λ end stream secure. secure)
 
 past_verdict : (b : Bool) (r : Stepped) (w : Verdict) (st : LinkState) → not b ≡ true → (if b then r else (w, st)).0 ≡ w
@@ -195,16 +194,14 @@ module _ (plan : Plan) (old new : Links) (w : Whole) (verdict : Verdict) (beside
   still_beside : (e : Event) → IsStill plan w e verdict (links_state plan new)
       → IsBeside plan new.ends.links new.keeper.interfaces new.trusted.contents
       (whole_after plan w e verdict (links_state plan new))
-  still_beside e still =
-      kept_beside plan w e verdict (links_state plan new) old new both.links.fits both.whole.beside
+  still_beside e still = kept_beside plan w e verdict (links_state plan new) old new both.links.fits both.whole.beside
       (both.links_after.many ∙ sym both.links.many) sides still
 
   -- the state of the machine after it is one in which every stream is Secure still
   stays_in : (e : Event) → (verdict, links_state plan new) ≡ step_of plan beside w.links e
       → StaySecure plan w.links (step_of plan beside w.links e).1 → (link : ℕ)
       → AreSecureStill (says_by_ports plan w.links link) (says_by_ports plan (links_state plan new) link)
-  stays_in e step stays =
-      says_kept plan w.links (links_state plan new)
+  stays_in e step stays = says_kept plan w.links (links_state plan new)
       (subst (StaySecure plan w.links) (sym (ap (λ (r : Stepped). r.1) step)) stays)
 
   -- one that may seal packets
@@ -224,9 +221,8 @@ module _ (plan : Plan) (old new : Links) (w : Whole) (verdict : Verdict) (beside
       → (verdict, links_state plan new) ≡ step_of plan beside w.links (Send port bytes more trusted)
       → IsBeside plan new.ends.links new.keeper.interfaces new.trusted.contents
       (whole_after plan w (Send port bytes more trusted) verdict (links_state plan new))
-  send_beside port bytes more trusted step =
-      sealing_beside (Send port bytes more trusted) step (sends_kept plan beside w.links port bytes more trusted) refl
-      refl
+  send_beside port bytes more trusted step = sealing_beside (Send port bytes more trusted) step
+      (sends_kept plan beside w.links port bytes more trusted) refl refl
 
   pub answer_beside : (link : ℕ)
       → (verdict, links_state plan new) ≡ step_of plan beside w.links (Access (ae.Answer link))
@@ -238,8 +234,7 @@ module _ (plan : Plan) (old new : Links) (w : Whole) (verdict : Verdict) (beside
   pub forward_beside : (link : ℕ) (d : Direction) → (verdict, links_state plan new)
       ≡ step_of plan beside w.links (Forward link d) → IsBeside plan new.ends.links new.keeper.interfaces
       new.trusted.contents (whole_after plan w (Forward link d) verdict (links_state plan new))
-  forward_beside link d step =
-      sealing_beside (Forward link d) step (forward_kept plan beside w.links link d) refl refl
+  forward_beside link d step = sealing_beside (Forward link d) step (forward_kept plan beside w.links link d) refl refl
 
   -- an event that leaves the ports as they are
   pub leaving_beside : (e : Event) → leaves_ports plan e ≡ true → (verdict, links_state plan new)
@@ -259,15 +254,13 @@ module _ (plan : Plan) (old new : Links) (w : Whole) (verdict : Verdict) (beside
   pub dump_beside : (n : ℕ) → (verdict, links_state plan new) ≡ step_of plan beside w.links (Dump n)
       → IsBeside plan new.ends.links new.keeper.interfaces new.trusted.contents
       (whole_after plan w (Dump n) verdict (links_state plan new))
-  dump_beside n step =
-      leaving_beside (Dump n) refl step (λ i x at. rests_of_packets (Dump n) verdict x refl) refl refl
+  dump_beside n step = leaving_beside (Dump n) refl step (λ i x at. rests_of_packets (Dump n) verdict x refl) refl refl
 
   pub status_beside : (link stream : ℕ) → (verdict, links_state plan new)
       ≡ step_of plan beside w.links (Status link stream) → IsBeside plan new.ends.links new.keeper.interfaces
       new.trusted.contents (whole_after plan w (Status link stream) verdict (links_state plan new))
-  status_beside link stream step =
-      leaving_beside (Status link stream) refl step (λ i x at. rests_of_packets (Status link stream) verdict x refl)
-      refl refl
+  status_beside link stream step = leaving_beside (Status link stream) refl step
+      (λ i x at. rests_of_packets (Status link stream) verdict x refl) refl refl
 
   pub mmio_beside : (interface bar offset len : ℕ)
       → (verdict, links_state plan new) ≡ step_of plan beside w.links (Access (ae.Mmio interface bar offset len))
@@ -280,8 +273,7 @@ module _ (plan : Plan) (old new : Links) (w : Whole) (verdict : Verdict) (beside
   pub view_beside : (i : ℕ) → (verdict, links_state plan new) ≡ step_of plan beside w.links (Interface (ie.View i))
       → IsBeside plan new.ends.links new.keeper.interfaces new.trusted.contents
       (whole_after plan w (Interface (ie.View i)) verdict (links_state plan new))
-  view_beside i step =
-      leaving_beside (Interface (ie.View i)) refl step (λ j x at. rests_at_view i verdict x) refl refl
+  view_beside i step = leaving_beside (Interface (ie.View i)) refl step (λ j x at. rests_at_view i verdict x) refl refl
 
   pub memory_beside : (at len : ℕ)
       → (verdict, links_state plan new) ≡ step_of plan beside w.links (Interface (ie.Memory at len))
@@ -304,16 +296,14 @@ module _ (plan : Plan) (old new : Links) (w : Whole) (verdict : Verdict) (beside
       → (verdict, links_state plan new) ≡ step_of plan beside w.links (Interface e)
       → IsBeside plan new.ends.links new.keeper.interfaces new.trusted.contents
       (whole_after plan w (Interface e) verdict (links_state plan new))
-  unasked_beside e peer nothing step =
-      leaving_beside (Interface e) refl step
+  unasked_beside e peer nothing step = leaving_beside (Interface e) refl step
       (λ i x at. subst (λ (u : Verdict). Rests (Interface e) u x) (sym nothing) (rests_unasked e x peer)) refl refl
 
   -- what the topology does not have
   pub nothing_beside : (verdict, links_state plan new) ≡ step_of plan beside w.links Absent
       → IsBeside plan new.ends.links new.keeper.interfaces new.trusted.contents
       (whole_after plan w Absent verdict (links_state plan new))
-  nothing_beside step =
-      leaving_beside Absent refl step (λ i x at. rests_of_packets Absent verdict x refl) refl refl
+  nothing_beside step = leaving_beside Absent refl step (λ i x at. rests_of_packets Absent verdict x refl) refl refl
 
   -- a reset of a link that is not there
   pub absent_beside : (link : ℕ) (ends : List PortName) → length old.ends.links ≤ link → (verdict, links_state plan new)

@@ -52,9 +52,8 @@ requester_true link requester x is =
 
 pub requester_from : (link requester : ℕ) (x : Site) → x.link ≡ link → x.plan.requester ≡ requester
     → is_requester link requester x ≡ true
-requester_from link requester x at is =
-    and_from (x.link == link) (x.plan.requester == requester) (eq-eqb x.link link at)
-    (eq-eqb x.plan.requester requester is)
+requester_from link requester x at is = and_from (x.link == link) (x.plan.requester == requester)
+    (eq-eqb x.link link at) (eq-eqb x.plan.requester requester is)
 
 pub true_false : {b : Bool} → b ≡ true → b ≡ false → ⊥
 true_false is is_not = absurd cc
@@ -123,9 +122,8 @@ module _ (plan : Plan) (ends : List LinkEnds) (m : InterfacesView) (memory : Mem
     set_kept : (link requester i : ℕ) (x : Site) (p : IsPlaced plan ends m w i x)
         → slice_get (sites plan) i ≡ Some x → is_requester link requester x ≡ true
         → runs p.tdi ≡ option_map_or kept (with_requester plan w.faces link requester) false
-    set_kept link requester i x p is passes =
-        each i x p ∙ sym (ap (λ (o : Option (Site × Face)). option_map_or kept o false)
-        (requester_found link requester i x p is passes))
+    set_kept link requester i x p is passes = each i x p ∙ sym
+        (ap (λ (o : Option (Site × Face)). option_map_or kept o false) (requester_found link requester i x p is passes))
 
     set_found : (link requester : ℕ) (l : LinkEnds) → slice_get ends link ≡ Some l
         → IsSomeSite (is_requester link requester) (sites plan)
@@ -203,8 +201,7 @@ module _ (plan : Plan) (ends : List LinkEnds) (m : InterfacesView) (memory : Mem
     set_is : (link requester : ℕ) (l : LinkEnds) → slice_get ends link ≡ Some l
         → is_some (position (owns requester) l.device.interfaces.interfaces)
         ≡ option_map_or kept (with_requester plan w.faces link requester) false
-    set_is link requester l is =
-        ⊎_elim (set_found link requester l is) (set_nowhere link requester l is)
+    set_is link requester l is = ⊎_elim (set_found link requester l is) (set_nowhere link requester l is)
         (site_or_none (is_requester link requester) (sites plan))
 
     -- a link that is not there has no site
@@ -226,14 +223,12 @@ module _ (plan : Plan) (ends : List LinkEnds) (m : InterfacesView) (memory : Mem
 
   own_each : (stream i : ℕ) (x : Site) (p : IsPlaced plan ends m w i x)
       → runs_on stream p.tdi.state ≡ (is_run p.face.tdi.state && (x.plan.stream == stream))
-  own_each stream i x p =
-      runs_face p.tdi.state x.plan.stream stream p.keeps.bound
+  own_each stream i x p = runs_face p.tdi.state x.plan.stream stream p.keeps.bound
       ∙ ap (λ (t : DeviceTdi). is_run t.state && (x.plan.stream == stream)) p.keeps.tdi_is
 
   bound_each : (stream i : ℕ) (x : Site) (p : IsPlaced plan ends m w i x)
       → runs_bound stream p.tdi.state p.tdi.bindings ≡ (is_run p.face.tdi.state && binds stream p.face.tdi.bindings)
-  bound_each stream i x p =
-      bound_face p.tdi.state p.tdi.bindings stream
+  bound_each stream i x p = bound_face p.tdi.state p.tdi.bindings stream
       ∙ ap (λ (t : DeviceTdi). is_run t.state && binds stream t.bindings) p.keeps.tdi_is
 
   abbrev own_kept : ℕ → Site × Face → Bool
@@ -407,14 +402,12 @@ module _ (plan : Plan) (v : EndsView) (k : KeeperView) (m : InterfacesView) (mem
       trusts_near v Host line head stream trusted le lt
       ∙ kept_own plan w.faces (port_at Host line) head stream trusted (near_host plan line lt)
       (below_not_peer plan Host line (omega (arith, lt)))
-  on_near Device line head stream trusted le lt =
-      trusts_near v Device line head stream trusted le lt
+  on_near Device line head stream trusted le lt = trusts_near v Device line head stream trusted le lt
       ∙ kept_sent plan w.faces (port_at Device line) head stream trusted (near_switch plan line few le lt)
 
   on_far : (s : Side) (line : ℕ) (head : HeadView) (stream : ℕ) (trusted : Bool) → 16 ≤ line → line < 24
       → trusting_on v (port_at s line) trusted head stream ≡ t_kept plan w.faces (port_at s line) head stream trusted
-  on_far Host line head stream trusted le lt =
-      trusts_far v Host line head stream trusted le lt
+  on_far Host line head stream trusted le lt = trusts_far v Host line head stream trusted le lt
       ∙ kept_sent plan w.faces (port_at Host line) head stream trusted (far_switch plan line few le lt)
   on_far Device line head stream trusted le lt =
       trusts_far v Device line head stream trusted le lt

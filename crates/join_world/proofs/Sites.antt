@@ -15,7 +15,7 @@ use Rattle.ide_types.specs.declared.plan.LinkPlan.{LinkPlan}
 use Rattle.ide_types.specs.declared.plan.Plan.{Plan}
 use Rattle.spec_interfaces.specs.Sites.{Site, sites}
 use Rattle.interface_state.specs.Machine.{DeviceTdi}
-use Rattle.interface_ends.specs.Replies.{DeviceTdis, named_interface, named_interface_in, named_interface_if_there}
+use Rattle.interface_ends.specs.Replies.{DeviceTdis, named_interface, named_interface_in_list, named_interface_if_there}
 use Rattle.interface_ends.specs.Replies.{is_elsewhere, requester_in, has_requester}
 use Rattle.trusted_memory.specs.{MemoryContents}
 use Rattle.whole_links.specs.{interface_named, InterfacesView, LinkEnds, place_on_links}
@@ -168,9 +168,9 @@ named_by : (d : DeviceTdis) (r place : ℕ) (t : DeviceTdi) → r ≤ 65535 → 
     ≡ Some place
     → slice_get d.interfaces place ≡ Some t → named_interface d r ≡ Some (record { place = place; tdi = t })
 named_by d r place t le found is =
-    rw (near r le) (ap (λ (n : ℕ). named_interface_in d.interfaces (position (has_requester n) d.interfaces))
+    rw (near r le) (ap (λ (n : ℕ). named_interface_in_list d.interfaces (position (has_requester n) d.interfaces))
     (whole_id r le)
-    ∙ ap (named_interface_in d.interfaces) found ∙ ap (named_interface_if_there place) is)
+    ∙ ap (named_interface_in_list d.interfaces) found ∙ ap (named_interface_if_there place) is)
 
 nonces_are : (ls : List LinkPlan) (i : ℕ) (l : LinkPlan) → slice_get ls i ≡ Some l
     → slice_index_or (map (λ (k : LinkPlan). k.nonces) ls) i [] ≡ l.nonces
@@ -181,8 +181,7 @@ nonces_are (k ∷ ls) (suc i) l is = nonces_are ls i l is
 module _ (plan : Plan) (ends : List LinkEnds) (m : InterfacesView) (memory : MemoryContents) (w : Whole) where
   -- the devices have the plan's interfaces
   held_is : IsBeside plan ends m memory w → length ends ≡ length plan.links → held_in_all ends ≡ length (sites plan)
-  held_is beside many =
-      held_planned ends plan.links many (λ i l p is planned. (beside.devices i l is).many p planned)
+  held_is beside many = held_planned ends plan.links many (λ i l p is planned. (beside.devices i l is).many p planned)
       ∙ sym (sites_many plan)
 
   site_within : (link place : ℕ) (l : LinkEnds) (t : DeviceTdi) → IsBeside plan ends m memory w → slice_get ends link

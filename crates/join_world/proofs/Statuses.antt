@@ -61,8 +61,7 @@ module _ (plan : Plan) (v : EndsView) (k : KeeperView) (packets : List LinkPacke
   status_is : (end : PortName) (e : PortEnd) (stream : ℕ) → port_on v end ≡ Some e
       → status_or_idle (port_stream_status e stream) ≡ machine_status plan (state_of plan v k packets) end.side end.line
       stream
-  status_is end e stream is =
-      status_shown (found_stream e.plans e.states stream)
+  status_is end e stream is = status_shown (found_stream e.plans e.states stream)
       ∙ ap machine.status_if_planned (sym (end_found plan v k packets end e stream links is))
 
   pub host_status_is : (link stream : ℕ) (l : LinkEnds) → slice_get v.links link ≡ Some l
@@ -80,8 +79,7 @@ module _ (plan : Plan) (v : EndsView) (k : KeeperView) (packets : List LinkPacke
 
   pub secure_is : (link stream : ℕ) (l : LinkEnds) → slice_get v.links link ≡ Some l
       → secure_at l.device.port stream ≡ machine_secure plan (state_of plan v k packets) link stream
-  secure_is link stream l is =
-      secure_says (port_stream_status l.device.port stream)
+  secure_is link stream l is = secure_says (port_stream_status l.device.port stream)
       ∙ ap is_secure (status_is (port_at Device link) l.device.port stream (link_port plan v k Device link l links is))
 
   -- ---- what its receivers open under
@@ -117,8 +115,7 @@ module _ (plan : Plan) (v : EndsView) (k : KeeperView) (packets : List LinkPacke
 
   pair_live : (end : PortName) (l : PairEnds) (stream : ℕ) → 16 ≤ end.line → slice_get v.pairs (end.line - 16) ≡ Some l
       → live_draw_at_end plan (state_of plan v k packets) end stream ≡ live_of v.pairs end stream
-  pair_live end l stream le is =
-      live_there end (pair_port end.side l) stream (pair_there v end.side end.line l le is)
+  pair_live end l stream le is = live_there end (pair_port end.side l) stream (pair_there v end.side end.line l le is)
       ∙ sym (ap (option_and_then (λ (x : PairEnds). live_at_port (pair_port end.side x) stream)) is)
 
   live_found : (link stream : ℕ) (o : Option PortName) → peer_end plan.peers 0 link stream ≡ o
@@ -135,6 +132,5 @@ module _ (plan : Plan) (v : EndsView) (k : KeeperView) (packets : List LinkPacke
   -- the device says of streams to others what the machine reads of them
   pub live_is : (link stream : ℕ)
       → live_by_id (live_draw_at_end plan (state_of plan v k packets)) plan.peers link stream ≡ peer_live v link stream
-  live_is link stream =
-      live_found link stream (peer_end plan.peers 0 link stream) refl
+  live_is link stream = live_found link stream (peer_end plan.peers 0 link stream) refl
       ∙ ap (λ (ps : List PeerPlan). live_by_id (live_of v.pairs) ps link stream) (sym links.peers_are)

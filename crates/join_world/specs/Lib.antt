@@ -23,6 +23,6 @@ pub use Rattle.whole_links.specs.Accesses.{flr_at, halted_in, happens_at, reset_
 pub use Rattle.whole_links.specs.Besides.{beside_whole, forward_in, host_stream, judged_bound, reader_of}
 pub use Rattle.whole_links.specs.Besides.{completion_with_bytes, reply_at_ends, reply_numbered, reply_oldest}
 pub use Rattle.whole_links.specs.Besides.{small_number}
-pub use Rattle.whole_links.specs.Whole.{HasAllAccesses, IsFirstWhole, WholeEnds, WholeEndsAs, WholeStays}
+pub use Rattle.whole_links.specs.Whole.{HasAllAccesses, IsFirstWhole, WholeEnds, WholeEndsOrHasNone, WholeStays}
 pub use Rattle.whole_links.specs.declared.whole.WholeLinks.{WholeLinks}
 pub use Rattle.join_interfaces.specs.Joined.{InterfaceOperationsJoin}

@@ -11,7 +11,7 @@ use Rattle.event_verdicts.specs.declared.verdict.Verdict.{Verdict}
 use Rattle.event_verdicts.specs.declared.verdict.Verdict.TheVariants as v
 use Rattle.key_slots.specs.{Pool, draws_in}
 use Rattle.spec_keys.specs.Places.{KeyPlan}
-use Rattle.spec_keys.specs.Operations.{StreamStage, Idle, Establishing, Up, Refreshing, Stopping, Work, work}
+use Rattle.spec_keys.specs.Operations.{StreamStage, Idle, Establishing, Up, Refreshing, Stopping, Work, new_work}
 use Rattle.spec_keys.specs.Operations.{last_exchange_of, reach_of, op_at_exchange}
 use Rattle.ide_types.specs.Lines.{is_hosted}
 use Rattle.spec_keys.specs.Due.{PortView, refusal_at, operation_verdict, is_live_sender}
@@ -20,8 +20,7 @@ use Rattle.key_host.specs.declared.operation.StreamRefusal.TheVariants.{PoolEmpt
 use Rattle.key_slots.specs.Wires.{WireKeys}
 use Rattle.key_host.specs.Streams.{StreamView, HostView, asked_of_unfinished, first_of, begun_stream}
 use Rattle.key_host.specs.Walk.{answers, Walked, walk, walked_unless, verdict_of, op_if_reached, IsAsked}
-use Rattle.key_host.specs.Walk.{HostAndPoolShow}
-use Rattle.key_host.specs.Walk.{WalkIsDue, WalksAreDue}
+use Rattle.key_host.specs.Walk.{HostSeesPorts, WalkIsDue, WalksAreDue}
 use Rattle.key_host.proofs.Walks.{WorkFits, walk_comes}
 
 -- what an event gives, with the verdict that is due
@@ -58,11 +57,11 @@ at_op line id o keys = record { line = line; id = id; op = o; keys = keys }
 -- the walk of an operation that begins or goes on
 performs : (o : Operation) (set : Bool) (draw f : ℕ) (b : Bool) → WorkFits o set draw
     → (ports : PortView) (line id : ℕ) (loss : Option Loss) (before : StreamStage) (s : StreamView)
-    → f ≤ last_exchange_of (is_hosted line) o → s.op ≡ op_at_exchange (work o set draw f b) f
-    → Both o (work o set draw f b) line id loss before
+    → f ≤ last_exchange_of (is_hosted line) o → s.op ≡ op_at_exchange (new_work o set draw f b) f
+    → Both o (new_work o set draw f b) line id loss before
     (walk (is_hosted line) (last_exchange_of (is_hosted line) o + 1 - f) (answers loss (refusal_at ports o set line id))
     s)
-    (operation_verdict ports line id loss (work o set draw f b))
+    (operation_verdict ports line id loss (new_work o set draw f b))
 performs o set draw f b fits ports line id loss before s le at =
     let comes = walk_comes o set draw f b fits ports line id loss before s le at in
     record { verdict_is = comes.verdict_is; op_is = comes.op_is }
@@ -78,7 +77,7 @@ pub establishes : (plan : KeyPlan) (ports : PortView) (st : StreamStatus) (host 
     (at_op line id o keys)
 unfolding WorkFits
 establishes plan ports st host pool loss line id keys Idle asked pool_is =
-    let w = work op.Establish false pool.draws 1 true in
+    let w = new_work op.Establish false pool.draws 1 true in
     let s = at_op line id Idle keys in
     let both = performs op.Establish false pool.draws 1 true refl ports line id loss Idle
     (begun_stream (is_hosted line) w pool s)
@@ -110,29 +109,29 @@ stops plan ports st host pool loss line id keys (Stopping n) asked =
     record { verdict_is = both.verdict_is; op_is = both.op_is }
 stops plan ports st host pool loss line id keys Idle asked =
     let both = performs op.Stop false 0 1 true (refl, refl) ports line id loss Idle
-    (begun_stream (is_hosted line) (work op.Stop false 0 1 true) pool (at_op line id Idle keys))
+    (begun_stream (is_hosted line) (new_work op.Stop false 0 1 true) pool (at_op line id Idle keys))
     (one_least (is_hosted line) op.Stop) refl in
     record { verdict_is = both.verdict_is; op_is = both.op_is }
 stops plan ports st host pool loss line id keys (Establishing j n) asked =
     let both = performs op.Stop false 0 1 true (refl, refl) ports line id loss (Establishing j n)
-    (begun_stream (is_hosted line) (work op.Stop false 0 1 true) pool (at_op line id (Establishing j n) keys))
+    (begun_stream (is_hosted line) (new_work op.Stop false 0 1 true) pool (at_op line id (Establishing j n) keys))
     (one_least (is_hosted line) op.Stop) refl in
     record { verdict_is = both.verdict_is; op_is = both.op_is }
 stops plan ports st host pool loss line id keys (Up k j) asked =
     let both = performs op.Stop false 0 1 true (refl, refl) ports line id loss (Up k j)
-    (begun_stream (is_hosted line) (work op.Stop false 0 1 true) pool (at_op line id (Up k j) keys))
+    (begun_stream (is_hosted line) (new_work op.Stop false 0 1 true) pool (at_op line id (Up k j) keys))
     (one_least (is_hosted line) op.Stop) refl in
     record { verdict_is = both.verdict_is; op_is = both.op_is }
 stops plan ports st host pool loss line id keys (Refreshing k j n) asked =
     let both = performs op.Stop false 0 1 true (refl, refl) ports line id loss (Refreshing k j n)
-    (begun_stream (is_hosted line) (work op.Stop false 0 1 true) pool (at_op line id (Refreshing k j n) keys))
+    (begun_stream (is_hosted line) (new_work op.Stop false 0 1 true) pool (at_op line id (Refreshing k j n) keys))
     (one_least (is_hosted line) op.Stop) refl in
     record { verdict_is = both.verdict_is; op_is = both.op_is }
 
 -- by the state of the stream: if the operation is refused the cause is the one that is due, and else its walk is
 refreshes : (plan : KeyPlan) (ports : PortView) (st : StreamStatus) (host : HostView) (pool : Pool) (loss : Option Loss)
     (line id : ℕ) (keys : WireKeys) (o : StreamStage) → IsAsked (is_hosted line) (asked_of_unfinished o)
-    → HostAndPoolShow plan ports line id st host pool → WalkIsDue (is_hosted line) op.Refresh plan ports st host pool
+    → HostSeesPorts plan ports line id st host pool → WalkIsDue (is_hosted line) op.Refresh plan ports st host pool
     loss
     (at_op line id o keys)
 unfolding WorkFits
@@ -147,7 +146,7 @@ refreshes plan ports status.Partial host pool loss line id keys (Up k j) asked r
 refreshes plan ports status.Insecure host pool loss line id keys (Up k j) asked reads = rw reads.status_is
     (record { verdict_is = refl; op_is = refl })
 refreshes plan ports status.Secure host pool loss line id keys (Up k j) asked reads =
-    let w = work op.Refresh (not k) pool.draws 1 true in
+    let w = new_work op.Refresh (not k) pool.draws 1 true in
     let s = at_op line id (Up k j) keys in
     let x = walk (is_hosted line) (last_exchange_of (is_hosted line) op.Refresh + 1 - 1)
     (answers loss (refusal_at ports op.Refresh (not k) line id)) (begun_stream (is_hosted line) w pool s) in

@@ -11,8 +11,8 @@ use Rattle.event_verdicts.specs.declared.verdict.Operation.TheVariants as op
 use Rattle.event_verdicts.specs.declared.verdict.Verdict.{Verdict}
 use Rattle.event_verdicts.specs.declared.verdict.Verdict.TheVariants as v
 use Rattle.ide_types.proofs.KeySets.{one_of_set}
-use Rattle.spec_keys.specs.Operations.{StreamStage, Up, Refreshing, Work, work, last_exchange_of, reach, reach_of}
-use Rattle.spec_keys.specs.Operations.{whole, op_at_exchange, op_ended}
+use Rattle.spec_keys.specs.Operations.{StreamStage, Up, Refreshing, Work, new_work, last_exchange_of, new_reach}
+use Rattle.spec_keys.specs.Operations.{reach_of, whole, op_at_exchange, op_ended}
 use Rattle.ide_types.specs.Lines.{is_hosted}
 use Rattle.spec_keys.specs.Due.{PortView, refusal_at, lost_message, lost_at, cut_at, first_from, finished_verdict}
 use Rattle.spec_keys.specs.Due.{stays}
@@ -34,7 +34,7 @@ WorkFits op.Refresh set draw = Unit {0}
 WorkFits op.Stop set draw = (set ≡ false) × (draw ≡ 0)
 
 standing_asked : (o : Operation) (set : Bool) (draw f : ℕ) (b : Bool) (n : ℕ) → WorkFits o set draw
-    → asked_of_unfinished (op_at_exchange (work o set draw f b) n) ≡ Some (asked_exchange o set draw n)
+    → asked_of_unfinished (op_at_exchange (new_work o set draw f b) n) ≡ Some (asked_exchange o set draw n)
 unfolding WorkFits
 standing_asked op.Establish set draw f b n fits = ap (λ k. Some (asked_exchange op.Establish k draw n)) (sym fits)
 standing_asked op.Refresh set draw f b n fits = refl
@@ -49,14 +49,14 @@ ends_as line id w rest = unwrap_or rest (finished_verdict line id w)
 pub record Comes (o : Operation) (set : Bool) (draw f : ℕ) (b : Bool) (line id : ℕ) (loss : Option Loss)
     (before : StreamStage)
     (rest : Option Verdict) (x : Walked) : Type 0 where
-  pub verdict_is : verdict_of o line id loss x.outcome ≡ Some (ends_as line id (work o set draw f b) rest)
-  pub op_is : x.stream.op ≡ op_if_reached (is_hosted line) before (work o set draw f b)
-      (reach_of o (ends_as line id (work o set draw f b) rest))
+  pub verdict_is : verdict_of o line id loss x.outcome ≡ Some (ends_as line id (new_work o set draw f b) rest)
+  pub op_is : x.stream.op ≡ op_if_reached (is_hosted line) before (new_work o set draw f b)
+      (reach_of o (ends_as line id (new_work o set draw f b) rest))
 
 -- how an exchange is cut off
 record CutShort (o : Operation) (verdict : Verdict) (n : ℕ) : Type 0 where
   carried : ℕ
-  says : reach_of o verdict ≡ Some (reach carried n)
+  says : reach_of o verdict ≡ Some (new_reach carried n)
 
 cut_lost : (o : Operation) (l : LostPart) (n : ℕ) → CutShort o (lost_at l n) n
 cut_lost o Request n = record { carried = n; says = refl }
@@ -77,35 +77,35 @@ not_taken false x y e = refl
 stays_there : (line : ℕ) (o : Operation) (set : Bool) (draw f : ℕ) (b : Bool) (verdict : Verdict) (before : StreamStage)
     (n : ℕ)
     → n ≤ last_exchange_of (is_hosted line) o → CutShort o verdict n
-    → op_if_reached (is_hosted line) before (work o set draw f b) (reach_of o verdict)
-    ≡ op_at_exchange (work o set draw f b) n
+    → op_if_reached (is_hosted line) before (new_work o set draw f b) (reach_of o verdict)
+    ≡ op_at_exchange (new_work o set draw f b) n
 stays_there line o set draw f b verdict before n le cut =
-    ap (op_if_reached (is_hosted line) before (work o set draw f b)) cut.says
-    ∙ not_taken (nat_lt (last_exchange_of (is_hosted line) o) n) (op_ended (work o set draw f b))
-    (op_at_exchange (work o set draw f b) n)
+    ap (op_if_reached (is_hosted line) before (new_work o set draw f b)) cut.says
+    ∙ not_taken (nat_lt (last_exchange_of (is_hosted line) o) n) (op_ended (new_work o set draw f b))
+    (op_at_exchange (new_work o set draw f b) n)
     (lt-false (last_exchange_of (is_hosted line) o) n le)
 
 ended_as : (o : Operation) (set : Bool) (draw n f : ℕ) (b : Bool) → op_ended (work_asked (asked_exchange o set draw n))
-    ≡ op_ended (work o set draw f b)
+    ≡ op_ended (new_work o set draw f b)
 ended_as op.Establish set draw n f b = ap (λ k. Up k draw) (one_of_set set)
 ended_as op.Refresh set draw n f b = ap (λ k. Up k draw) (one_of_set set)
 ended_as op.Stop set draw n f b = refl
 
 standing_as : (o : Operation) (set : Bool) (draw n f : ℕ) (b : Bool) (k : ℕ)
-    → op_at_exchange (work_asked (asked_exchange o set draw n)) k ≡ op_at_exchange (work o set draw f b) k
+    → op_at_exchange (work_asked (asked_exchange o set draw n)) k ≡ op_at_exchange (new_work o set draw f b) k
 standing_as op.Establish set draw n f b k = refl
 standing_as op.Refresh set draw n f b k = ap (λ s. Refreshing s draw k) (one_of_set set)
 standing_as op.Stop set draw n f b k = refl
 
 shows_done : (o : Operation) (set : Bool) (draw n f : ℕ) (b : Bool) (line id : ℕ) (loss : Option Loss)
     → verdict_of o line id loss (outcome.Done (shown_at_end (asked_exchange o set draw n)))
-    ≡ Some (finished_verdict line id (work o set draw f b))
+    ≡ Some (finished_verdict line id (new_work o set draw f b))
 shows_done op.Establish set draw n f b line id loss = refl
 shows_done op.Refresh set draw n f b line id loss = refl
 shows_done op.Stop set draw n f b line id loss = refl
 
 done_says : (o : Operation) (set : Bool) (draw f : ℕ) (b : Bool) (line id : ℕ)
-    → reach_of o (finished_verdict line id (work o set draw f b)) ≡ Some (whole line o)
+    → reach_of o (finished_verdict line id (new_work o set draw f b)) ≡ Some (whole line o)
 done_says op.Establish set draw f b line id = refl
 done_says op.Refresh set draw f b line id = refl
 done_says op.Stop set draw f b line id = refl
@@ -119,7 +119,7 @@ answered_by line a j carried more s = walk_after_outcome (outcome_of (is_hosted 
 -- an exchange that is lost or refused, or else what is given
 cuts : (o : Operation) (set : Bool) (draw f : ℕ) (b : Bool) (line id : ℕ) (loss : Option Loss) (before : StreamStage)
     (carried : ℕ → Judged) (more n : ℕ) (s : StreamView) (rest : Option Verdict)
-    → n ≤ last_exchange_of (is_hosted line) o → s.op ≡ op_at_exchange (work o set draw f b) n
+    → n ≤ last_exchange_of (is_hosted line) o → s.op ≡ op_at_exchange (new_work o set draw f b) n
     → Comes o set draw f b line id loss before rest
     (answered_by line (asked_exchange o set draw n) Expected carried more s)
     → (lost : Option LostPart) (status : Option ℕ) → lost_message loss n ≡ lost
@@ -148,16 +148,16 @@ ends o set draw f b line id loss before carried n s same =
     (omega (arith, same)) in
     let end : nat_lt (last_exchange_of (is_hosted line) o) (last_exchange_of (is_hosted line) o + 1)
     ≡ true = lt-true (last_exchange_of (is_hosted line) o) (last_exchange_of (is_hosted line) o + 1) (omega arith) in
-    let by_end : op_if_reached (is_hosted line) before (work o set draw f b)
-    (reach_of o (finished_verdict line id (work o set draw f b)))
-    ≡ op_ended (work o set draw f b) =
-    ap (op_if_reached (is_hosted line) before (work o set draw f b)) (done_says o set draw f b line id) ∙
+    let by_end : op_if_reached (is_hosted line) before (new_work o set draw f b)
+    (reach_of o (finished_verdict line id (new_work o set draw f b)))
+    ≡ op_ended (new_work o set draw f b) =
+    ap (op_if_reached (is_hosted line) before (new_work o set draw f b)) (done_says o set draw f b line id) ∙
     manager_after_reply
     (nat_lt (last_exchange_of (is_hosted line) o) (last_exchange_of (is_hosted line) o + 1))
-    (op_ended (work o set draw f b))
-    (op_at_exchange (work o set draw f b) (last_exchange_of (is_hosted line) o + 1)) end in
+    (op_ended (new_work o set draw f b))
+    (op_at_exchange (new_work o set draw f b) (last_exchange_of (is_hosted line) o + 1)) end in
     let now : (stream_acknowledged (is_hosted line) (asked_exchange o set draw n) s).op
-    ≡ op_ended (work o set draw f b) =
+    ≡ op_ended (new_work o set draw f b) =
     manager_after_reply (nat_lt (last_exchange_of (is_hosted line) o) (n + 1))
     (op_ended (work_asked (asked_exchange o set draw n)))
     (op_at_exchange (work_asked (asked_exchange o set draw n)) (n + 1)) less ∙ ended_as o set draw n f b in
@@ -188,7 +188,7 @@ goes_on o set draw f b line id loss before carried more n s rest lt comes =
 next_standing : (line : ℕ) (o : Operation) (set : Bool) (draw f : ℕ) (b : Bool) (n : ℕ) (s : StreamView)
     → n < last_exchange_of (is_hosted line) o
     → (stream_acknowledged (is_hosted line) (asked_exchange o set draw n) s).op
-    ≡ op_at_exchange (work o set draw f b) (n + 1)
+    ≡ op_at_exchange (new_work o set draw f b) (n + 1)
 next_standing line o set draw f b n s lt =
     not_taken (nat_lt (last_exchange_of (is_hosted line) o) (n + 1))
     (op_ended (work_asked (asked_exchange o set draw n)))
@@ -202,7 +202,7 @@ walk_is : (o : Operation) (set : Bool) (draw f : ℕ) (b : Bool) → WorkFits o 
     → (line id : ℕ) (loss : Option Loss) (refusal : ℕ → Option ℕ) (before : StreamStage) (more n : ℕ) (s : StreamView)
     → n + more
     ≡ last_exchange_of (is_hosted line) o
-    → s.op ≡ op_at_exchange (work o set draw f b) n → Comes o set draw f b line id loss before
+    → s.op ≡ op_at_exchange (new_work o set draw f b) n → Comes o set draw f b line id loss before
     (first_from (λ x. cut_at (lost_message loss x) (refusal x) x) n (suc more))
     (walk (is_hosted line) (suc more) (answers loss refusal) s)
 walk_is o set draw f b fits line id loss refusal before zero n s count at =
@@ -241,8 +241,8 @@ walk_is o set draw f b fits line id loss refusal before (suc more) n s count at 
 pub walk_comes : (o : Operation) (set : Bool) (draw f : ℕ) (b : Bool) → WorkFits o set draw
     → (ports : PortView) (line id : ℕ) (loss : Option Loss) (before : StreamStage) (s : StreamView)
     → f ≤ last_exchange_of (is_hosted line) o → s.op
-    ≡ op_at_exchange (work o set draw f b) f
-    → Comes o set draw f b line id loss before (stays ports line id loss (work o set draw f b))
+    ≡ op_at_exchange (new_work o set draw f b) f
+    → Comes o set draw f b line id loss before (stays ports line id loss (new_work o set draw f b))
     (walk (is_hosted line) (last_exchange_of (is_hosted line) o + 1 - f) (answers loss (refusal_at ports o set line id))
     s)
 walk_comes o set draw f b fits ports line id loss before s le at =

@@ -103,12 +103,12 @@ abbrev pub current_if_there : ℕ → Option StreamView → Option Current
 current_if_there place None = None
 current_if_there place (Some s) = current_asked place s (asked_of_unfinished s.op)
 
-abbrev pub current_in : List StreamView → Option ℕ → Option Current
-current_in streams None = None
-current_in streams (Some place) = current_if_there place (slice_get streams place)
+abbrev pub current_in_list : List StreamView → Option ℕ → Option Current
+current_in_list streams None = None
+current_in_list streams (Some place) = current_if_there place (slice_get streams place)
 
 abbrev pub current : ManagerView → Option Current
-current m = current_in m.streams m.asking
+current m = current_in_list m.streams m.asking
 
 abbrev pub asked_now : Option Current → Option NextExchange
 asked_now None = None

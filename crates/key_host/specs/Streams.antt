@@ -8,8 +8,8 @@ use Rattle.ide_types.specs.declared.status.StreamStatus.TheVariants as status
 use Rattle.event_verdicts.specs.declared.verdict.Operation.{Operation}
 use Rattle.event_verdicts.specs.declared.verdict.Operation.TheVariants as op
 use Rattle.key_slots.specs.{KeySet, is_one, key_set, Pool, draws_in, six_keys, pool_after}
-use Rattle.spec_keys.specs.Operations.{StreamStage, Idle, Establishing, Up, Refreshing, Stopping, Work, work, work_of}
-use Rattle.spec_keys.specs.Operations.{last_exchange_of, makes_draw, reach, op_after_reach, op_after_reset}
+use Rattle.spec_keys.specs.Operations.{StreamStage, Idle, Establishing, Up, Refreshing, Stopping, Work, new_work}
+use Rattle.spec_keys.specs.Operations.{work_of, last_exchange_of, makes_draw, new_reach, op_after_reach, op_after_reset}
 use Rattle.spec_keys.specs.Operations.{op_at_exchange}
 use Rattle.key_messages.specs.declared.object.KmView.{KmView}
 use Rattle.key_messages.specs.{PlaceCall}
@@ -149,7 +149,7 @@ abbrev pub wire_asked : (hosted : Bool) → NextExchange → ℕ
 wire_asked hosted a = wire_number hosted (end_asked hosted a) (exchange_lane (exchange_asked hosted a))
 
 abbrev pub work_asked : NextExchange → Work
-work_asked a = work a.operation (is_one a.set) a.draw a.exchange false
+work_asked a = new_work a.operation (is_one a.set) a.draw a.exchange false
 
 -- its request
 abbrev pub request_asked : (hosted : Bool) → NextExchange → StreamView → KmView
@@ -282,7 +282,7 @@ wire_keys_after e i keys = keys
 -- the exchange is acknowledged
 abbrev pub stream_acknowledged : (hosted : Bool) → NextExchange → StreamView → StreamView
 stream_acknowledged hosted a s = record s {
-  op = op_after_reach hosted (work_asked a) (reach (a.exchange + 1) (a.exchange + 1));
+  op = op_after_reach hosted (work_asked a) (new_reach (a.exchange + 1) (a.exchange + 1));
   keys = if is_last hosted a then [] else wire_keys_after (exchange_asked hosted a) (wire_asked hosted a) s.keys;
 }
 

@@ -116,9 +116,8 @@ IsAsked hosted None = Unit {0}
 IsAsked hosted (Some a) = (1 ≤ a.exchange) × (a.exchange ≤ last_exchange_of hosted a.operation)
 
 -- what the host's port and the pool show is what the definitions read of them
-pub record HostAndPoolShow (plan : KeyPlan) (ports : PortView) (line stream : ℕ) (status : StreamStatus)
-    (host : HostView)
-    (pool : Pool) : Type 0 where
+pub record HostSeesPorts (plan : KeyPlan) (ports : PortView) (line stream : ℕ) (status : StreamStatus)
+    (host : HostView) (pool : Pool) : Type 0 where
   pub pool_is : plan.pool ≡ draws_in pool.keys
   pub status_is : host.status ≡ Some status
   pub live_is : (set : Bool) (u : SubKind) → is_set set (host.live u) ≡ is_live_sender ports line stream set u
@@ -150,5 +149,5 @@ abbrev pub WalksAreDue : Type 0
 WalksAreDue =
     (operation : Operation) (plan : KeyPlan) (ports : PortView) (status : StreamStatus) (host : HostView) (pool : Pool)
     (loss : Option Loss) (s : StreamView)
-    → IsAsked (has_host s) (asked_of_unfinished s.op) → HostAndPoolShow plan ports s.line s.id status host pool
+    → IsAsked (has_host s) (asked_of_unfinished s.op) → HostSeesPorts plan ports s.line s.id status host pool
     → WalkIsDue (has_host s) operation plan ports status host pool loss s

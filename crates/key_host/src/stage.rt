@@ -2,7 +2,7 @@
 
 ghost use Rattle.std.specs.Prelude.{◌≡◌, ◌+◌, ◌<◌, ◌≤◌, IsSome, IsTrue, true, not, if◌then◌else◌, [], slice_index_or};
 ghost use Rattle.ide_types.specs.{is_one};
-ghost use Rattle.spec_keys.specs.Operations.{work_of, last_exchange_of, op_after_reach, reach};
+ghost use Rattle.spec_keys.specs.Operations.{work_of, last_exchange_of, op_after_reach, new_reach};
 ghost use Rattle.key_host.specs.Exchanges.{exchange_of, exchange_lane, kept_key, key_or_none};
 ghost use Rattle.key_host.specs.Facts.{op_seen};
 ghost use Rattle.key_host.specs.Streams.{op_of_stage, stage_keys, StageHolds, asked_of_unfinished, exchange_asked};

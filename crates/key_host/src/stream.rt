@@ -3,7 +3,7 @@
 ghost use Rattle.std.specs.Prelude.{◌≡◌, ◌≤◌, true, [], Some, if◌then◌else◌};
 ghost use Rattle.ide_types.specs.{is_one};
 ghost use Rattle.spec_keys.specs.Operations.{work_of, last_exchange_of, makes_draw, op_ended, Idle, Stopping};
-ghost use Rattle.spec_keys.specs.Places.{is_line_reset, is_between_devices};
+ghost use Rattle.spec_keys.specs.Places.{is_between_devices};
 ghost use Rattle.key_host.specs.declared.judge.Judged.TheVariants.{Expected};
 ghost use Rattle.ide_types.specs.Lines.{is_hosted};
 ghost use Rattle.key_host.specs.Exchanges.{wire_keys};
@@ -20,7 +20,7 @@ use crate::operation::{ExchangeReply, StreamOutcome, StreamRefusal};
 use crate::port::HostPort;
 use crate::stage::{NextExchange, Stage};
 use event_verdicts::Operation;
-use ide_types::{KeySet, PortName, Side, StreamStatus};
+use ide_types::{KeySet, PortName, Side, StreamStatus, has_end_of_line};
 use key_messages::{KmView, km_write};
 use key_slots::{KeyPool, KeySix, PoolEmpty, Wires};
 use std::marker::Model;
@@ -83,7 +83,7 @@ impl StreamKeys {
     pub fn reset(&mut self, ends: &[PortName])
         ensures { self.new ≡ reset_stream ends.now self.old }
     {
-        if is_line_reset(ends, self.line) {
+        if has_end_of_line(ends, self.line) {
             self.stage = reset_stage(self.line);
         }
     }
@@ -284,13 +284,6 @@ fn key_status(stage: &Stage) -> StreamStatus
             StreamStatus::Partial
         }
     }
-}
-
-/// Whether one of the ends is on the line.
-fn is_line_reset(ends: &[PortName], line: u8) -> bool
-    ensures { result ≡ is_line_reset ends.now line }
-{
-    ends.iter().any(|end| end.line == line)
 }
 
 /// The state of a stream of a line that a reset cut.

@@ -12,9 +12,10 @@ use Rattle.key_messages.specs.declared.object.KmView.TheVariants.{GoStopAck}
 use Rattle.key_messages.specs.declared.object.KmFault.{KmFault}
 use Rattle.key_messages.specs.Objects.{object_reading}
 use Rattle.key_messages.specs.declared.place.Place.{Place}
-use Rattle.key_messages.specs.Calls.{place_call, SlotsShown, shown_pair, is_taken_at, is_same_place, SlotsAfter}
-use Rattle.key_messages.specs.Replies.{set_of, selected_place, object_call, reading_call, call_of, Kept, is_done}
-use Rattle.key_messages.specs.Replies.{status_code, key_status_of, reading_reply, reply_object, HoldsKey, Acknowledged}
+use Rattle.key_messages.specs.Calls.{place_call, SlotsShown, shown_pair, is_taken_by_slots, is_same_place, SlotsAfter}
+use Rattle.key_messages.specs.Replies.{set_of, selected_place, object_call, reading_call, call_of, HasKept, is_done}
+use Rattle.key_messages.specs.Replies.{status_code, key_status_of, reading_reply, reply_object, HoldsKey}
+use Rattle.key_messages.specs.Replies.{IsAcknowledged}
 
 -- ---- replies that are no success
 
@@ -46,7 +47,8 @@ here place = and_from _ _
 key_at : (shown after : SlotsShown) (unfinished : Place → Bool) (place : Place) (set : Bool) (key : List ℕ) (draw : ℕ)
     (o : Option SlotPair) → shown_pair shown place ≡ o
     → SlotsAfter shown unfinished (place_call place (Program set key draw)) after
-    → status_code (key_status_of 0 (is_taken_at o (Program set key draw))) ≡ 0 → HoldsKey (after place) set key draw
+    → status_code (key_status_of 0 (is_taken_by_slots o (Program set key draw))) ≡ 0
+    → HoldsKey (after place) set key draw
 key_at shown after unfinished place set key draw None is h e = absurd (omega (arith, e))
 key_at shown after unfinished place set key draw (Some slots) is h e = elim
     (cases_Bool (is_only_live slots set)) [
@@ -68,7 +70,7 @@ record ProgramsKey (r : Result KmView KmFault) (stream selector draw : ℕ) (aft
 
 key_stands : (shown after : SlotsShown) (unfinished : Place → Bool) (draw stream selector index : ℕ) (key : List ℕ)
     (counter : ℕ)
-    → Kept shown unfinished (object_call draw (KeyProg stream selector index key counter)) after
+    → HasKept shown unfinished (object_call draw (KeyProg stream selector index key counter)) after
     → status_code (key_status_of index (is_done shown (object_call draw (KeyProg stream selector index key counter))))
     ≡ 0
     → ProgramsKey (Ok (KeyProg stream selector index key counter)) stream selector draw after
@@ -91,7 +93,7 @@ key_stands shown after unfinished draw stream selector index key counter h e = e
 -- status 0 is only given for a KEY_PROG whose call is taken, and such a call leaves the slot Programmed
 stands : (shown after : SlotsShown) (unfinished : Place → Bool) (rid draw stream selector index : ℕ) (request : List ℕ)
     (r : Result KmView KmFault)
-    → Kept shown unfinished (reading_call draw r) after
+    → HasKept shown unfinished (reading_call draw r) after
     → reading_reply rid request r (is_done shown (reading_call draw r)) ≡ Some (KpAck stream 0 selector index)
     → ProgramsKey r stream selector draw after
 stands shown after unfinished rid draw stream selector index request (Err fault) h e = absurd
@@ -116,9 +118,9 @@ stands shown after unfinished rid draw stream selector index request (Ok (GoStop
 
 pub acknowledged : (shown after : SlotsShown) (unfinished : Place → Bool) (rid draw stream selector index : ℕ)
     (request : List ℕ)
-    → Kept shown unfinished (call_of request draw) after
+    → HasKept shown unfinished (call_of request draw) after
     → reply_object rid request (is_done shown (call_of request draw)) ≡ Some (KpAck stream 0 selector index)
-    → Acknowledged request stream selector draw after
+    → IsAcknowledged request stream selector draw after
 acknowledged shown after unfinished rid draw stream selector index request h e =
     let s = stands shown after unfinished rid draw stream selector index request (object_reading request) h e in
     record { key = s.key; asked = s.asked; holds = s.holds }

@@ -19,7 +19,7 @@ use Rattle.key_messages.specs.declared.object.KmView.TheVariants.{Query, QueryRe
 use Rattle.key_messages.specs.declared.object.KmView.TheVariants.{GoStopAck}
 use Rattle.key_messages.specs.declared.object.KmFault.{KmFault}
 use Rattle.key_messages.specs.Objects.{object_spelling, FitsObject, SpellsObject, size_of, fault_of, object_of}
-use Rattle.key_messages.specs.Objects.{object_or, object_reading}
+use Rattle.key_messages.specs.Objects.{object_or_fault, object_reading}
 
 abbrev IsByte : ℕ → Type 0
 IsByte b = b < 256
@@ -319,7 +319,7 @@ object_spells s o w =
       ]
     ]
 
-read_ok : (object value : KmView) (fault : Option KmFault) → object_or object fault ≡ Ok value → (fault ≡ None)
+read_ok : (object value : KmView) (fault : Option KmFault) → object_or_fault object fault ≡ Ok value → (fault ≡ None)
     × (object ≡ value)
 read_ok object value None e = (refl, cc)
 read_ok object value (Some f) e = absurd cc

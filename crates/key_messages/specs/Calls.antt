@@ -38,12 +38,12 @@ program_answer_at (Some slots) set key = if is_only_live slots set then Err (Onl
 abbrev pub shown_program_answer : SlotsShown → Place → Bool → List ℕ → Result (Unit {0}) ProgramFault
 shown_program_answer shown place set key = program_answer_at (shown_pair shown place) set key
 
-abbrev pub go_answer_at : Option SlotPair → Bool → Bool
-go_answer_at None set = false
-go_answer_at (Some slots) set = not (is_empty (slot_in slots set))
+abbrev pub go_answer_of_slots : Option SlotPair → Bool → Bool
+go_answer_of_slots None set = false
+go_answer_of_slots (Some slots) set = not (is_empty (slot_in slots set))
 
 abbrev pub go_answer : SlotsShown → Place → Bool → Bool
-go_answer shown place set = go_answer_at (shown_pair shown place) set
+go_answer shown place set = go_answer_of_slots (shown_pair shown place) set
 
 abbrev pub is_there : Option SlotPair → Bool
 is_there None = false
@@ -53,14 +53,14 @@ abbrev pub stop_answer : SlotsShown → Place → Bool
 stop_answer shown place = is_there (shown_pair shown place)
 
 -- whether the two slots of a place, if the port has it, take the call
-abbrev pub is_taken_at : Option SlotPair → KeyCall → Bool
-is_taken_at slots (Program set key draw) = is_ok (program_answer_at slots set key)
-is_taken_at slots (Go set) = go_answer_at slots set
-is_taken_at slots (Stop set) = is_there slots
+abbrev pub is_taken_by_slots : Option SlotPair → KeyCall → Bool
+is_taken_by_slots slots (Program set key draw) = is_ok (program_answer_at slots set key)
+is_taken_by_slots slots (Go set) = go_answer_of_slots slots set
+is_taken_by_slots slots (Stop set) = is_there slots
 
 -- whether a port that shows these slots takes the call
 abbrev pub is_taken : SlotsShown → PlaceCall → Bool
-is_taken shown c = is_taken_at (shown_pair shown c.place) c.call
+is_taken shown c = is_taken_by_slots (shown_pair shown c.place) c.call
 
 -- ---- slots after a call
 

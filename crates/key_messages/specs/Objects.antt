@@ -79,10 +79,10 @@ object_of bytes =
     else if at 1 == 0x05 then SetStop (at 4) (at 6) (at 7)
     else GoStopAck (at 4) (at 6) (at 7)
 
-abbrev pub object_or : KmView → Option KmFault → Result KmView KmFault
-object_or object None = Ok object
-object_or object (Some fault) = Err fault
+abbrev pub object_or_fault : KmView → Option KmFault → Result KmView KmFault
+object_or_fault object None = Ok object
+object_or_fault object (Some fault) = Err fault
 
 -- the object, or why there is none
 abbrev pub object_reading : List ℕ → Result KmView KmFault
-object_reading bytes = object_or (object_of bytes) (fault_of bytes)
+object_reading bytes = object_or_fault (object_of bytes) (fault_of bytes)

@@ -53,13 +53,13 @@ call_of request draw = reading_call draw (object_reading request)
 -- ---- what the port keeps after it
 
 -- by the port's own relation; with no call the port is as before
-abbrev pub Moved : {Port : Type 0} → (Port → PlaceCall → Port → Type 0) → Port → Option PlaceCall → Port → Type 0
-Moved moves before None after = after ≡ before
-Moved moves before (Some call) after = moves before call after
+abbrev pub HasMoved : {Port : Type 0} → (Port → PlaceCall → Port → Type 0) → Port → Option PlaceCall → Port → Type 0
+HasMoved moves before None after = after ≡ before
+HasMoved moves before (Some call) after = moves before call after
 
-abbrev pub Kept : SlotsShown → (Place → Bool) → Option PlaceCall → SlotsShown → Type 0
-Kept before unfinished None after = (p : Place) → after p ≡ before p
-Kept before unfinished (Some call) after = SlotsAfter before unfinished call after
+abbrev pub HasKept : SlotsShown → (Place → Bool) → Option PlaceCall → SlotsShown → Type 0
+HasKept before unfinished None after = (p : Place) → after p ≡ before p
+HasKept before unfinished (Some call) after = SlotsAfter before unfinished call after
 
 -- ---- the reply
 
@@ -120,7 +120,7 @@ HoldsKey None set key draw = ⊥
 HoldsKey (Some slots) set key draw = slot_in slots set ≡ Programmed (record { key = key; draw = draw })
 
 -- the request was a KEY_PROG, whose key stands in its slot under the draw
-pub record Acknowledged (request : List ℕ) (stream selector draw : ℕ) (after : SlotsShown) : Type 0 where
+pub record IsAcknowledged (request : List ℕ) (stream selector draw : ℕ) (after : SlotsShown) : Type 0 where
   pub key : List ℕ
   pub asked : object_reading request ≡ Ok (KeyProg stream selector 0 key 1)
   pub holds : HoldsKey (after (selected_place stream selector)) (set_of selector) key draw

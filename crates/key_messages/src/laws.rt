@@ -5,7 +5,7 @@ ghost use Rattle.key_messages.specs.declared.object.KmView.{KmView};
 ghost use Rattle.key_messages.specs.Objects.{FitsObject, SpellsObject, object_spelling, object_reading};
 ghost use Rattle.key_messages.specs.declared.place.Place.{Place};
 ghost use Rattle.key_messages.specs.Calls.{SlotsShown};
-ghost use Rattle.key_messages.specs.Replies.{call_of, Kept, is_done, reply_object, Acknowledged};
+ghost use Rattle.key_messages.specs.Replies.{call_of, HasKept, is_done, reply_object, IsAcknowledged};
 
 /// `object_reading` reads exactly the bytes that spell an object, as that object, whatever the reserved bytes hold; so
 /// bytes spell one object at most.
@@ -24,7 +24,7 @@ pub fn written_is_read()
 /// at every port.
 pub fn acknowledged_key_stands()
     ensures { (before after : SlotsShown) (unfinished : Place → Bool) (rid draw stream selector index : ℕ)
-        (request : List ℕ) → Kept before unfinished (call_of request draw) after
+        (request : List ℕ) → HasKept before unfinished (call_of request draw) after
         → reply_object rid request (is_done before (call_of request draw)) ≡ Some (KmView.KpAck stream 0 selector index)
-        → Acknowledged request stream selector draw after }
+        → IsAcknowledged request stream selector draw after }
 {}

@@ -3,7 +3,7 @@
 ghost use Rattle.std.specs.Prelude.{◌≡◌, ◌+◌, ◌<◌, ◌≤◌, ◌++◌, Some, None, length, slice_index, if◌then◌else◌, vec_len};
 ghost use Rattle.std.specs.Prelude.{vec_capacity};
 ghost use Rattle.key_slots.specs.{is_one};
-ghost use Rattle.key_messages.specs.Replies.{set_of, selected_place, object_call, call_of, Moved, Kept};
+ghost use Rattle.key_messages.specs.Replies.{set_of, selected_place, object_call, call_of, HasMoved, HasKept};
 ghost use Rattle.key_messages.specs.Replies.{key_status_of, is_done, description, object_reply, fault_reply};
 ghost use Rattle.key_messages.specs.Replies.{reply_bytes, object_bytes};
 
@@ -51,9 +51,9 @@ fn program<P: SlotPort>(
     draw: u32,
 ) -> KeyStatus
     ensures moved { let call = object_call draw (KmView.KeyProg stream selector index key counter) in
-        Moved P.moves port.old call port.new }
+        HasMoved P.moves port.old call port.new }
     ensures slots { let call = object_call draw (KmView.KeyProg stream selector index key counter) in
-        Kept (P.slots port.old) (P.unfinished port.old) call (P.slots port.new) }
+        HasKept (P.slots port.old) (P.unfinished port.old) call (P.slots port.new) }
     ensures status { let call = object_call draw (KmView.KeyProg stream selector index key counter) in
         result ≡ key_status_of index (is_done (P.slots port.old) call) }
 {
@@ -77,9 +77,9 @@ fn program<P: SlotPort>(
 /// Starts or stops a slot, if the port index is 0, and answers whether it did.
 fn go<P: SlotPort>(port: &mut P, stream: u8, selector: u8, index: u8, draw: u32) -> bool
     ensures moved { let call = object_call draw (KmView.SetGo stream selector index) in
-        Moved P.moves port.old call port.new }
+        HasMoved P.moves port.old call port.new }
     ensures slots { let call = object_call draw (KmView.SetGo stream selector index) in
-        Kept (P.slots port.old) (P.unfinished port.old) call (P.slots port.new) }
+        HasKept (P.slots port.old) (P.unfinished port.old) call (P.slots port.new) }
     ensures done { result ≡ is_done (P.slots port.old) (object_call draw (KmView.SetGo stream selector index)) }
 {
     index == 0 && port.go(selected_place(stream, selector), selected_set(selector))
@@ -87,9 +87,9 @@ fn go<P: SlotPort>(port: &mut P, stream: u8, selector: u8, index: u8, draw: u32)
 
 fn stop<P: SlotPort>(port: &mut P, stream: u8, selector: u8, index: u8, draw: u32) -> bool
     ensures moved { let call = object_call draw (KmView.SetStop stream selector index) in
-        Moved P.moves port.old call port.new }
+        HasMoved P.moves port.old call port.new }
     ensures slots { let call = object_call draw (KmView.SetStop stream selector index) in
-        Kept (P.slots port.old) (P.unfinished port.old) call (P.slots port.new) }
+        HasKept (P.slots port.old) (P.unfinished port.old) call (P.slots port.new) }
     ensures done { result ≡ is_done (P.slots port.old) (object_call draw (KmView.SetStop stream selector index)) }
 {
     index == 0 && port.stop(selected_place(stream, selector), selected_set(selector))
@@ -166,9 +166,9 @@ impl Responder {
 
     /// Makes the call of the port that the object asks for, and answers the reply.
     fn respond<P: SlotPort>(&self, port: &mut P, object: KmView, draw: u32) -> Option<KmView>
-        ensures moved { Moved P.moves port.old (object_call draw object) port.new }
+        ensures moved { HasMoved P.moves port.old (object_call draw object) port.new }
         ensures slots { let call = object_call draw object in
-            Kept (P.slots port.old) (P.unfinished port.old) call (P.slots port.new) }
+            HasKept (P.slots port.old) (P.unfinished port.old) call (P.slots port.new) }
         ensures reply { result ≡ object_reply self.now.rid object (is_done (P.slots port.old)
             (object_call draw object)) }
         ensures short { length (object_bytes result) ≤ 8 }
@@ -222,9 +222,9 @@ impl Responder {
     )
         requires { vec_len reply.old + 8 ≤ vec_capacity reply.old }
         ensures same { self.new ≡ self.old }
-        ensures moved { Moved P.moves port.old (call_of request.now draw) port.new }
+        ensures moved { HasMoved P.moves port.old (call_of request.now draw) port.new }
         ensures slots { let call = call_of request.now draw in
-            Kept (P.slots port.old) (P.unfinished port.old) call (P.slots port.new) }
+            HasKept (P.slots port.old) (P.unfinished port.old) call (P.slots port.new) }
         ensures reply { let done = is_done (P.slots port.old) (call_of request.now draw) in
             reply.new.items ≡ reply.old.items ++ reply_bytes self.old.rid request.now done }
         ensures capacity { vec_capacity reply.old ≤ vec_capacity reply.new }

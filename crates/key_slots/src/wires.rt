@@ -25,7 +25,7 @@ impl Model for Wires {
 }
 
 // The key of this number of six, if there is one.
-fn key_in(six: &WireSix, i: u8) -> Option<&Key>
+fn key_of_six(six: &WireSix, i: u8) -> Option<&Key>
     requires { length six.now ≡ 6 }
     ensures { option_copied result ≡ slice_index_or six.now i None }
 {
@@ -33,7 +33,7 @@ fn key_in(six: &WireSix, i: u8) -> Option<&Key>
 }
 
 // Drops the key of this number of six, if there is one.
-fn spend_in(six: &mut WireSix, i: u8)
+fn spend_of_six(six: &mut WireSix, i: u8)
     requires { length six.old ≡ 6 }
     ensures { six.new ≡ slice_set six.old i None }
 {
@@ -68,12 +68,12 @@ impl Wires {
         ensures { option_copied result ≡ slice_index_or self.now i None }
     {
         match &self.near {
-            None => key_in(&self.far, i),
+            None => key_of_six(&self.far, i),
             Some(near) => {
                 if i < 6 {
-                    key_in(near, i)
+                    key_of_six(near, i)
                 } else {
-                    key_in(&self.far, i - 6)
+                    key_of_six(&self.far, i - 6)
                 }
             }
         }
@@ -84,12 +84,12 @@ impl Wires {
         ensures { self.new ≡ slice_set self.old i None }
     {
         match &mut self.near {
-            None => spend_in(&mut self.far, i),
+            None => spend_of_six(&mut self.far, i),
             Some(near) => {
                 if i < 6 {
-                    spend_in(near, i);
+                    spend_of_six(near, i);
                 } else {
-                    spend_in(&mut self.far, i - 6);
+                    spend_of_six(&mut self.far, i - 6);
                 }
             }
         }

@@ -28,7 +28,7 @@ use Rattle.spec_interfaces.specs.Sites.{Site, site_at}
 use Rattle.spec_interfaces.specs.Exchanges.{carries, changes_device}
 use Rattle.spec_interfaces.specs.Views.{view_at, needs_at, stream_draw, is_number, number_in}
 unfoldable use Rattle.spec_interfaces.specs.Devices.{devices}
-use Rattle.spec_interfaces.specs.Devices.{Around, around_at, interface_at, interface_asked, interface_if_called}
+use Rattle.spec_interfaces.specs.Devices.{Around, around_at_site, interface_at, interface_asked, interface_if_called}
 use Rattle.spec_interfaces.specs.Devices.{next_interface, is_stream_left}
 use Rattle.spec_interfaces.specs.Devices.{lock_call, reset_call, accepts_lock, locks_accepted}
 use Rattle.spec_interfaces.specs.Due.{if_locked_or_running, if_fresh, bind_due, op_status, asked_state}
@@ -105,8 +105,7 @@ called_each P t (call.LockInterface flags stream offset secure drawn) fits each 
     lock_each P t (new_lock t flags stream offset) (lock_answer t flags offset secure drawn) each
 called_each P t (call.StartInterface nonce) fits each = left_each P t (after_start t.state nonce) each
 called_each P t call.StopInterface fits each = left_each P t ConfigUnlocked each
-called_each P t (call.BindStream stream said) fits each =
-    bind_each P t stream (bind_answer t stream said)
+called_each P t (call.BindStream stream said) fits each = bind_each P t stream (bind_answer t stream said)
     (λ draw is. fits draw (answer_draw t stream draw said is)) each
 called_each P t (call.UnbindStream stream) fits each = unbind_each P t stream (unbind_answer t stream) each
 called_each P t (call.WriteRegister register value) fits each =
@@ -158,9 +157,8 @@ reset_fits P false = tt
 
 next_each : (P : ℕ → Type 0) (a : Around) (left : Bool) (x : Site) (e : Event) (w : Verdict) (t : DeviceTdi)
     → TellsBind P a x e w → Each P t.bindings → Each P (next_interface a left x e w t).bindings
-next_each P a left x (event.Interface e) w t tells each =
-    if_each P (is_number (number_in e) x.number) (interface_asked a x e w t) t
-    (λ own. asked_each P a x e w t tells own each) each
+next_each P a left x (event.Interface e) w t tells each = if_each P (is_number (number_in e) x.number)
+    (interface_asked a x e w t) t (λ own. asked_each P a x e w t tells own each) each
 next_each P a left x (event.Reset l ends) (v.Reset k) t tells each =
     called_if P ((l == x.link) || left) (reset_call (l == x.link)) t (λ b. reset_fits P (l == x.link)) each
 next_each P a left x e w t tells each = called_if P left call.StreamLeft t (λ b. tt) each
@@ -188,8 +186,7 @@ fresh_bind view o draw needs z w is reaches =
     by_op (Refreshing k j n) b less reaches = absurd (true≢false (sym reaches))
     by_op (Stopping n) b less reaches = absurd (true≢false (sym reaches))
     by_op (Up k j) true less reaches = absurd (true≢false (sym reaches))
-    by_op (Up k j) false less reaches =
-        record { set = k; at = j; up = refl; least = grind (arith, nat_tests, less) }
+    by_op (Up k j) false less reaches = record { set = k; at = j; up = refl; least = grind (arith, nat_tests, less) }
 
     by : (view : View) (o : StreamStage) (b : Bool) → nat_lt draw needs ≡ b
         → carries (if_locked_or_running view (if_secure (op_status o) (if b then v.Interface
@@ -222,7 +219,7 @@ said_is h (Some e) line stream draw has said =
 bind_told : (plan : Plan) (h : History) (i line stream : ℕ) (loss : Option Loss) (w : Verdict) (x : Site)
     → site_at plan x.number ≡ Some x
     → CauseLaw plan ((event.Interface (ie.Bind i line stream loss), w) ∷ h) → (i == x.number) ≡ true
-    → carries w 1 ≡ true → (draw : ℕ) → (around_at plan h x).live stream ≡ Some draw → needs_at h x ≤ draw
+    → carries w 1 ≡ true → (draw : ℕ) → (around_at_site plan h x).live stream ≡ Some draw → needs_at h x ≤ draw
 bind_told plan h i line stream loss w x known cause own reaches draw said =
     by (has_peer plan.peers x.link line stream) refl (due_own plan h x (ie.Bind i line stream loss) i w known refl own
     (interface_cause plan ((event.Interface (ie.Bind i line stream loss), w) ∷ h) cause).0)
@@ -279,17 +276,17 @@ accepts_unlocked a x e w t is = absurd (true≢false (sym is))
 before : (plan : Plan) (h : History) (e : Event) (w : Verdict) (x : Site)
     → Each (IsBoundFloor plan h x) (interface_at plan h x).bindings
     → Each (IsBoundFloor plan ((e, w) ∷ h) x) (interface_at plan h x).bindings
-before plan h e w x each = elim (cases_Bool (accepts_lock (around_at plan h x) x e w (interface_at plan h x))) [
+before plan h e w x each = elim (cases_Bool (accepts_lock (around_at_site plan h x) x e w (interface_at plan h x))) [
   | inl taken ↦
       none_each (IsBoundFloor plan ((e, w) ∷ h) x) (interface_at plan h x).bindings
-      ((bound_at plan h x).locked (accepts_unlocked (around_at plan h x) x e w (interface_at plan h x) taken))
+      ((bound_at plan h x).locked (accepts_unlocked (around_at_site plan h x) x e w (interface_at plan h x) taken))
   | inr none ↦
       each_more (IsBoundFloor plan h x) (IsBoundFloor plan ((e, w) ∷ h) x) (interface_at plan h x).bindings
       (later_floor plan h e w x (same_locks plan h e w x none)) each
 ]
 
 tells : (plan : Plan) (h : History) (e : Event) (w : Verdict) (x : Site) → site_at plan x.number ≡ Some x
-    → CauseLaw plan ((e, w) ∷ h) → TellsBind (IsBoundFloor plan ((e, w) ∷ h) x) (around_at plan h x) x e w
+    → CauseLaw plan ((e, w) ∷ h) → TellsBind (IsBoundFloor plan ((e, w) ∷ h) x) (around_at_site plan h x) x e w
 tells plan h (event.Interface (ie.Bind i line stream loss)) w x known cause = λ own reaches draw said. record {
   older = h;
   came = record { since = (event.Interface (ie.Bind i line stream loss), w) ∷ []; is = refl };
@@ -304,7 +301,7 @@ bound_floors : (plan : Plan) (h : History) → CauseLaw plan h → (x : Site) �
 unfolding devices
 bound_floors plan [] cause x known = tt
 bound_floors plan ((e, w) ∷ h) cause x known =
-    next_each (IsBoundFloor plan ((e, w) ∷ h) x) (around_at plan h x)
+    next_each (IsBoundFloor plan ((e, w) ∷ h) x) (around_at_site plan h x)
     (is_stream_left plan h e w x (interface_at plan h x)) x e w
     (interface_at plan h x) (tells plan h e w x known cause)
     (before plan h e w x (bound_floors plan h cause.1 x known))
@@ -323,6 +320,5 @@ found_floor P stream floor (b ∷ bs) each is = by (is_binding_on stream b) is (
 
 pub bound_floor : (plan : Plan) (h : History) → CauseLaw plan h → (x : Site) → site_at plan x.number ≡ Some x
     → (stream floor : ℕ) → floor_on stream (interface_at plan h x).bindings ≡ Some floor → IsBoundFloor plan h x floor
-bound_floor plan h cause x known stream floor is =
-    found_floor (IsBoundFloor plan h x) stream floor (interface_at plan h x).bindings
-    (bound_floors plan h cause x known) is
+bound_floor plan h cause x known stream floor is = found_floor (IsBoundFloor plan h x) stream floor
+    (interface_at plan h x).bindings (bound_floors plan h cause x known) is

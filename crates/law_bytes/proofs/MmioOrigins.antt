@@ -239,8 +239,7 @@ module _ (plan : Plan) (whole : FitsPlan plan) (h : History) (x : Site) (known :
   by_event (Forward l d) ds older came from until among law =
       absurd (from_switch l d x.link (low_link plan whole x known)
       (sym (sealed_port plan older (Forward l d) ds y.0 among law.0) ∙ end))
-  by_event ev ds older came from until among law =
-      absurd (true≢false (sym (sealed_by_sealing plan older ev ds law.0)))
+  by_event ev ds older came from until among law = absurd (true≢false (sym (sealed_by_sealing plan older ev ds law.0)))
 
   is_asked : IsAsked
   is_asked =

@@ -35,8 +35,7 @@ take-front (x ∷ xs) ys = ap (λ us. x ∷ us) (take-front xs ys)
 
 middle : {A : Type 0} (first payload back : List A) (n k : ℕ) → length first ≡ n → k ≡ length payload
     → take k (drop n (first ++ (payload ++ back))) ≡ payload
-middle first payload back n k size long =
-    (λ i. take (long i) (drop (sym size i) (first ++ (payload ++ back))))
+middle first payload back n k size long = (λ i. take (long i) (drop (sym size i) (first ++ (payload ++ back))))
     ∙ (ap (take (length payload)) (drop-behind first (payload ++ back)) ∙ take-front payload back)
 
 pub front_take : (us : List Packet) (z : Packet) (n : ℕ) → IsFront us → n ≤ length us → IsFront (take n (us ++ z ∷ []))

@@ -59,9 +59,8 @@ next_sent : (xs : SealedList) (s : SubStream) (j n : ℕ) (z : SealedPacket × P
     → sub_stream_packets (take (suc n) xs) s j
     ≡ (if is_sealed_under s j z then sub_stream_packets (take n xs) s j ++ z.1 ∷ []
     else sub_stream_packets (take n xs) s j)
-next_sent xs s j n z at =
-    ap (λ (ys : SealedList). sub_stream_packets ys s j) (next_taken xs n z at) ∙ sub_stream_packets-snoc (take n xs) z s
-    j
+next_sent xs s j n z at = ap (λ (ys : SealedList). sub_stream_packets ys s j) (next_taken xs n z at)
+    ∙ sub_stream_packets-snoc (take n xs) z s j
 
 -- a packet that ends no unit joins the open one
 joins : (xs : SealedList) (s : SubStream) (j n : ℕ) (z : SealedPacket × Packet) → slice_get xs n ≡ Some z

@@ -324,9 +324,8 @@ and_none true = refl
 and_none false = refl
 
 carry : (d e : ℕ) (ts us : List Touch) (q r : StreamStage) → e ≡ d → us ≡ ts → r ≡ q → Follows d ts q → Follows e us r
-carry d e ts us q r draw touched state is =
-    subst (λ (z : ℕ). Follows z us r) (sym draw) (subst (λ (z : List Touch). Follows d z r) (sym touched)
-    (subst (Follows d ts) (sym state) is))
+carry d e ts us q r draw touched state is = subst (λ (z : ℕ). Follows z us r) (sym draw)
+    (subst (λ (z : List Touch). Follows d z r) (sym touched) (subst (Follows d ts) (sym state) is))
 
 other_op : (m : StreamOperations) (o : Operation) (l s : ℕ) (reached : Option Reach) (p : KeyPlace) → is_on_stream p l s
     ≡ false → (manager_after_operation m o l s reached).ops p.line p.stream ≡ m.ops p.line p.stream
@@ -545,12 +544,9 @@ used_at_most : (draw : ℕ) (ts : List Touch) (sh : Shape) → IsAt false ts sh 
 used_at_most draw ts Bare at live less = absurd (true≢false (sym live))
 used_at_most draw ts (Waiting true j) at live less = absurd (true≢false (sym live))
 used_at_most draw ts (Waiting false j) at live less = absurd (true≢false (sym live))
-used_at_most draw ts (Alone true j) at live less =
-    let sound = at.sound in grind (arith, nat_tests, sound, less)
-used_at_most draw ts (Alone false j) at live less =
-    let sound = at.sound in grind (arith, nat_tests, sound, less)
-used_at_most draw ts (Following true i j) at live less =
-    let sound = at.sound.1 in grind (arith, nat_tests, sound, less)
+used_at_most draw ts (Alone true j) at live less = let sound = at.sound in grind (arith, nat_tests, sound, less)
+used_at_most draw ts (Alone false j) at live less = let sound = at.sound in grind (arith, nat_tests, sound, less)
+used_at_most draw ts (Following true i j) at live less = let sound = at.sound.1 in grind (arith, nat_tests, sound, less)
 used_at_most draw ts (Following false i j) at live less =
     let sound = at.sound.1 in grind (arith, nat_tests, sound, less)
 used_at_most draw ts (Both true i j) at live less =

@@ -93,8 +93,7 @@ no_cause x c s stream draw same is =
         else Some cause.NotRunning) ≡ None → InRunOn c.status stream draw
     by true b runs none = absurd cc
     by false false runs none = absurd cc
-    by false true runs none =
-        record { runs = runs; on = from_floor (floor_on stream c.status.bound) draw none }
+    by false true runs none = record { runs = runs; on = from_floor (floor_on stream c.status.bound) draw none }
 
 no_effect : (o : Option BlockCause) → cause_effect o ≡ effect.Stored → o ≡ None
 no_effect None is = refl
@@ -108,8 +107,7 @@ at_place place bar w to c is = elim (cases_Bool ((c.interface == place) && (c.ba
 
 one_standing : (xs : List InterfaceStatus) (place : ℕ) (x : InterfaceStatus) (c : Claim) → c.interface ≡ place
     → slice_get xs c.interface ≡ Some c.status → slice_get xs place ≡ Some x → c.status ≡ x
-one_standing xs place x c same at there =
-    some_is c.status x (sym at ∙ (ap (λ (k : ℕ). slice_get xs k) same ∙ there))
+one_standing xs place x c same at there = some_is c.status x (sym at ∙ (ap (λ (k : ℕ). slice_get xs k) same ∙ there))
 
 -- a packet with T that is stored as a write of the interface at a place, which stands so
 record StoredBy (x : InterfaceStatus) (stream draw : ℕ) (p : Packet) : Type 0 where

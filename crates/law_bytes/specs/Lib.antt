@@ -7,5 +7,5 @@ pub mod NoOtherRun
 pub use Rattle.law_bytes.specs.KeyStream.{KeyStreamFresh}
 pub use Rattle.law_bytes.specs.ByteOrigin.{ByteOriginLaw}
 pub use Rattle.law_bytes.specs.MmioOrigin.{MmioOriginLaw}
-pub use Rattle.law_verdicts.specs.{AnswerLaw, AnswersLaw, Attested, EffectLaw, FailedLaw, LockLaw, NamedLaw}
-pub use Rattle.law_verdicts.specs.{OneLockPerKey, Scrubbed, TrustLaw, ViewsAreTrue}
+pub use Rattle.law_verdicts.specs.{AnswerLaw, AnswersLaw, ReportsAreShown, EffectLaw, FailedLaw, LockLaw, NamedLaw}
+pub use Rattle.law_verdicts.specs.{OneLockPerKey, UnlockedIsScrubbed, TrustLaw, ViewsAreTrue}

@@ -83,8 +83,7 @@ base_moves h e w line stream = inl refl
 
 -- what the verdict that accepts a unit has tested
 abbrev IsMetWith : Plan → History → SubStream → List Packet → Type 0
-IsMetWith plan h s unit =
-    posted_sum (got_since plan h s (base h s.line s.stream) ++ unit) ≤ length
+IsMetWith plan h s unit = posted_sum (got_since plan h s (base h s.line s.stream) ++ unit) ≤ length
     (got_since plan h (posted_lane s) (base h s.line s.stream))
 
 tested : (plan : Plan) (h : History) (s : SubStream) (unit : List Packet) → sub_bits s.sub ≢ 0

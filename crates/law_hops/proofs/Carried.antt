@@ -25,9 +25,8 @@ use Rattle.law_reads.proofs.Taken.{tlps_of}
 
 unfoldable pub hop_got : Plan → History → SubStream → ℕ → List HopTlp
 hop_got plan [] s j = []
-hop_got plan ((e, Accepted port unit effects) ∷ h) s j =
-    if is_received_under s j port unit then hop_got plan h s j ++ tlps_of plan port unit (unit_ended plan h e port unit)
-    else hop_got plan h s j
+hop_got plan ((e, Accepted port unit effects) ∷ h) s j = if is_received_under s j port unit then hop_got plan h s j
+    ++ tlps_of plan port unit (unit_ended plan h e port unit) else hop_got plan h s j
 hop_got plan (_ ∷ h) s j = hop_got plan h s j
 
 unfoldable pub hop_sent : Plan → History → SubStream → ℕ → List HopTlp

@@ -203,12 +203,10 @@ both_cut : (ends : List PortName) (link : ℕ) → clears_hop ends link ≡ true
 both_cut ends link is = and_parts (is_line_reset ends (near_hop_line link)) (is_line_reset ends (far_hop_line link)) is
 
 near_segment : (link : ℕ) → link < 8 → IsSegment link (near_hop_line link)
-near_segment link less =
-    (grind (arith, nat_tests), grind (arith, nat_tests), λ ends is. (both_cut ends link is).0)
+near_segment link less = (grind (arith, nat_tests), grind (arith, nat_tests), λ ends is. (both_cut ends link is).0)
 
 far_segment : (link : ℕ) → link < 8 → IsSegment link (far_hop_line link)
-far_segment link less =
-    (grind (arith, nat_tests), grind (arith, nat_tests), λ ends is. (both_cut ends link is).1)
+far_segment link less = (grind (arith, nat_tests), grind (arith, nat_tests), λ ends is. (both_cut ends link is).1)
 
 joined : (xs ys zs : List HopTlp) → IsPrefixOf xs ys → IsPrefixOf ys zs → IsPrefixOf xs zs
 joined xs ys zs one two = (

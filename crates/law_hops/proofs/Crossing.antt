@@ -20,7 +20,7 @@ use Rattle.spec_interfaces.proofs.Trusted.{draws_grow}
 use Rattle.law_key_facts.proofs.SealedKeys.{live_on, live_below}
 use Rattle.spec_links.specs.Delivered.{is_tlp_under_draw}
 use Rattle.spec_links.specs.Hops.{HopTlp, tlps_with, clears_hop}
-unfoldable use Rattle.spec_links.specs.Hops.{accepted_tlps_in}
+unfoldable use Rattle.spec_links.specs.Hops.{accepted_tlps_in_list}
 use Rattle.spec_links.specs.HopLaws.{is_tlp_of_sender, sealed_tlp, in_sub}
 unfoldable use Rattle.spec_links.specs.HopLaws.{tlps_since_reset, draws_since}
 use Rattle.spec_links.specs.Memory.{accepted_tlps, unit_ended}
@@ -239,7 +239,7 @@ reset_is : (plan : Plan) (h : History) (k : ℕ) (ends : List PortName) (l : ℕ
     → OnlyDraw ((Reset k ends, v.Reset l) ∷ h) link q.line j
     → (OnlyDraw h link q.line j → in_sub u (accepted_tlps plan h link q) ≡ hop_got plan h (lane_in q stream u) j)
     → in_sub u (accepted_tlps plan ((Reset k ends, v.Reset l) ∷ h) link q) ≡ hop_got plan h (lane_in q stream u) j
-unfolding accepted_tlps_in mark
+unfolding accepted_tlps_in_list mark
 reset_is plan h k ends l cause link q stream u j only before = elim (cases_Bool (clears_hop ends link)) [
   | inl is ↦ let up : draws h ≤ j = rw is at only.up in rw is (sym (none_got plan h cause.1 (lane_in q stream u) j up))
   | inr stays ↦ rw stays (ap (in_sub u) (here_after plan h (Reset k ends) (v.Reset l) cause link q)
@@ -249,15 +249,14 @@ reset_is plan h k ends l cause link q stream u j only before = elim (cases_Bool 
 pub taken_is : (plan : Plan) (h : History) → CauseLaw plan h → (link : ℕ) (q : PortName) (stream : ℕ) (u : SubKind)
     (j : ℕ) → IsSegment link q.line → IsLone plan q.line stream → OnlyDraw h link q.line j
     → in_sub u (accepted_tlps plan h link q) ≡ hop_got plan h (lane_in q stream u) j
-unfolding accepted_tlps_in hop_got
+unfolding accepted_tlps_in_list hop_got
 taken_is plan [] cause link q stream u j segment lone only = refl
 taken_is plan ((e, Accepted port unit effects) ∷ h) cause link q stream u j segment lone only =
     let older = only_older h e (Accepted port unit effects) link q.line j refl only in
     accepted_is plan h e port unit effects cause link q stream u j segment lone older
     (taken_is plan h cause.1 link q stream u j segment lone older)
-taken_is plan ((Reset k ends, v.Reset l) ∷ h) cause link q stream u j segment lone only =
-    reset_is plan h k ends l cause link q stream u j only
-    (λ older. taken_is plan h cause.1 link q stream u j segment lone older)
+taken_is plan ((Reset k ends, v.Reset l) ∷ h) cause link q stream u j segment lone only = reset_is plan h k ends l cause
+    link q stream u j only (λ older. taken_is plan h cause.1 link q stream u j segment lone older)
 taken_is plan ((e, w) ∷ h) cause link q stream u j segment lone only =
     ap (in_sub u) (here_after plan h e w cause link q)
     ∙ taken_is plan h cause.1 link q stream u j segment lone (only_older h e w link q.line j refl only)

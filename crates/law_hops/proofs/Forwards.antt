@@ -38,7 +38,7 @@ unfoldable use Rattle.spec_links.specs.Due.{t_sealed}
 use Rattle.spec_links.specs.Memory.{accepted_tlps, unit_ended}
 unfoldable use Rattle.spec_links.specs.Sent.{bytes_by}
 use Rattle.spec_links.specs.Hops.{HopTlp, has_hop, entering_end, leaving_end, clears_hop, is_forward_on}
-unfoldable use Rattle.spec_links.specs.Hops.{accepted_tlps_in, forwarded_count}
+unfoldable use Rattle.spec_links.specs.Hops.{accepted_tlps_in_list, forwarded_count}
 use Rattle.spec_links.specs.HopLaws.{is_tlp_of_sender, sealed_tlp, in_sub, ForwardsInOrder, ForwardsEach}
 unfoldable use Rattle.spec_links.specs.HopLaws.{tlps_since_reset}
 use Rattle.law_reads.proofs.Oldest.{first_means}
@@ -260,9 +260,8 @@ elsewhere plan fits h (Send port bytes more trusted) ds link d is known other =
     apart plan (sealing_end plan port bytes) (leaving_end link d)
     (send_apart plan fits port bytes (may_send_apart plan h port bytes more trusted ds is))
     (leaves_switch plan fits link d known)
-elsewhere plan fits h (Access (ae.Answer l)) ds link d is known other =
-    apart plan (host_port l) (leaving_end link d) (answer_apart plan fits h l ds is)
-    (leaves_switch plan fits link d known)
+elsewhere plan fits h (Access (ae.Answer l)) ds link d is known other = apart plan (host_port l) (leaving_end link d)
+    (answer_apart plan fits h l ds is) (leaves_switch plan fits link d known)
 elsewhere plan fits h (Forward l way) ds link d is known other = other_way l link way d other
 elsewhere plan fits h e ds link d is known other = let seals = sealed_by_sealing plan h e ds is in absurd cc
 
@@ -298,7 +297,7 @@ one_more (y ∷ xs) (suc n) x is =
 sealed_forwards : (plan : Plan) → FitsPlan plan → (h : History) (e : Event) (ds : List SealedPacket) (link : ℕ)
     (d : Direction) → CauseLaw plan ((e, Sealed ds) ∷ h) → has_hop plan link ≡ true → Forwards plan h link d
     → Forwards plan ((e, Sealed ds) ∷ h) link d
-unfolding tlps_since_reset forwarded_count accepted_tlps_in
+unfolding tlps_since_reset forwarded_count accepted_tlps_in_list
 sealed_forwards plan fits h e ds link d cause known before = by (is_forward_on link d e) refl
   where
     end : PortName
@@ -349,7 +348,7 @@ sealed_forwards plan fits h e ds link d cause known before = by (is_forward_on l
 reset_forwards : (plan : Plan) (h : History) (k : ℕ) (ends : List PortName) (l link : ℕ) (d : Direction)
     → CauseLaw plan ((Reset k ends, v.Reset l) ∷ h) → Forwards plan h link d
     → Forwards plan ((Reset k ends, v.Reset l) ∷ h) link d
-unfolding tlps_since_reset forwarded_count accepted_tlps_in
+unfolding tlps_since_reset forwarded_count accepted_tlps_in_list
 reset_forwards plan h k ends l link d cause before = by (clears_hop ends link) refl
   where
     by : (b : Bool) → clears_hop ends link ≡ b → Forwards plan ((Reset k ends, v.Reset l) ∷ h) link d
@@ -380,7 +379,7 @@ still_forwards : (plan : Plan) (h : History) (e : Event) (w : Verdict) (link : �
     → CauseLaw plan ((e, w) ∷ h) → tlps_since_reset plan ((e, w) ∷ h) link (leaving_end link d)
     ≡ tlps_since_reset plan h link (leaving_end link d) → forwarded_count ((e, w) ∷ h) link d ≡ forwarded_count h link d
     → accepted_tlps plan ((e, w) ∷ h) link (entering_end link d)
-    ≡ accepted_tlps_in plan (sealed_packets plan ((e, w) ∷ h)) h link (entering_end link d)
+    ≡ accepted_tlps_in_list plan (sealed_packets plan ((e, w) ∷ h)) h link (entering_end link d)
     → Forwards plan h link d → Forwards plan ((e, w) ∷ h) link d
 still_forwards plan h e w link d cause sealed count took before =
     let same = took ∙ here_after plan h e w cause link (entering_end link d) in
@@ -391,7 +390,7 @@ still_forwards plan h e w link d cause sealed count took before =
 
 pub forwards : (plan : Plan) → FitsPlan plan → (h : History) → CauseLaw plan h → (link : ℕ) (d : Direction)
     → has_hop plan link ≡ true → Forwards plan h link d
-unfolding tlps_since_reset forwarded_count accepted_tlps_in
+unfolding tlps_since_reset forwarded_count accepted_tlps_in_list
 forwards plan fits [] cause link d known = record { list = refl; within = omega arith }
 forwards plan fits ((e, Sealed ds) ∷ h) cause link d known =
     sealed_forwards plan fits h e ds link d cause known (forwards plan fits h cause.1 link d known)

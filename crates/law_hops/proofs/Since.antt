@@ -205,17 +205,15 @@ pub begun_since : (P : ℕ → Type 0) (kp : KeyPlan) (h : History) → KeyCause
     → is_link_line line ≡ false → BegunSince P (manager h).begun (draws_since h link line) (mark h link) line
 unfolding mark manager draws_since key_due
 begun_since P kp [] cause link line alone = λ all j c is on_line up. absurd cc
-begun_since P kp ((Establish l s loss, x) ∷ h) cause link line alone =
-    establishes_since P (manager h) l s (reach_of op.Establish x) (draws_since h link line) (mark h link) line
-    (begun_since P kp h cause.2 link line alone)
+begun_since P kp ((Establish l s loss, x) ∷ h) cause link line alone = establishes_since P (manager h) l s
+    (reach_of op.Establish x) (draws_since h link line) (mark h link) line (begun_since P kp h cause.2 link line alone)
 begun_since P kp ((Refresh l s loss, x) ∷ h) cause link line alone =
     other_since P (manager h) op.Refresh l s _ (draws_since h link line) (mark h link) line
     (λ same. reached_none (has_refresh kp l s) op.Refresh x _
     (none_first (is_link_line l) (kp.has_stream l s) (ap is_link_line same ∙ alone)) cause.0)
     (begun_since P kp h cause.2 link line alone)
-begun_since P kp ((Stop l s loss, x) ∷ h) cause link line alone =
-    stop_since P (manager h) l s _ (draws_since h link line) (mark h link) line
-    (begun_since P kp h cause.2 link line alone)
+begun_since P kp ((Stop l s loss, x) ∷ h) cause link line alone = stop_since P (manager h) l s _
+    (draws_since h link line) (mark h link) line (begun_since P kp h cause.2 link line alone)
 begun_since P kp ((Reset k ends, v.Reset l) ∷ h) cause link line alone =
     reset_since P h k ends l link line (begun_since P kp h cause.2 link line alone)
 begun_since P kp ((e, x) ∷ h) cause link line alone = begun_since P kp h cause.2 link line alone

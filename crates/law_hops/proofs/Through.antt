@@ -16,7 +16,7 @@ use Rattle.spec_interfaces.specs.Devices.{interface_at, has_secure_stream, is_se
 unfoldable use Rattle.spec_interfaces.specs.Devices.{devices}
 use Rattle.spec_interfaces.specs.Terms.{StreamLeft}
 unfoldable use Rattle.spec_links.specs.Guarded.{link_happenings}
-unfoldable use Rattle.spec_links.specs.Hops.{accepted_tlps_in, forwarded_count}
+unfoldable use Rattle.spec_links.specs.Hops.{accepted_tlps_in_list, forwarded_count}
 use Rattle.spec_links.specs.HopLaws.{ThroughLaw}
 unfoldable use Rattle.spec_links.specs.Memory.{writes}
 unfoldable use Rattle.spec_links.specs.Sent.{queued_in, reads_taken}
@@ -76,7 +76,7 @@ still_failed h e stream = stays_failed h e.side e.line stream
 pub unchanged : (plan : Plan) (h : History) → ThroughLaw plan h
 unfolding sealed_packets accepted_packets packets_in_hold failed_there manager moments managed_view devices
     link_happenings
-    accepted_tlps_in forwarded_count writes
+    accepted_tlps_in_list forwarded_count writes
     queued_in reads_taken
 unchanged plan h (Pass n) port brings = record {
   sealed = refl;

@@ -16,7 +16,7 @@ use Rattle.tlp_layout.specs.Tlp.{with_payload}
 use Rattle.ide_prefix.specs.Packet.{IsSync}
 use Rattle.ide_prefix.proofs.Grammar.{sync_begins}
 use Rattle.spec_links.specs.Hops.{HopTlp, tlps_with, clears_hop}
-unfoldable use Rattle.spec_links.specs.Hops.{accepted_tlps_in}
+unfoldable use Rattle.spec_links.specs.Hops.{accepted_tlps_in_list}
 use Rattle.spec_links.specs.Memory.{accepted_tlps, plain_of, unit_ended}
 use Rattle.spec_links.specs.Terms.{Reset}
 use Rattle.event_verdicts.specs.declared.verdict.Verdict.TheVariants as v
@@ -120,7 +120,7 @@ if_all false xs ys one two = two
 
 pub taken_read : (plan : Plan) (h : History) → CauseLaw plan h → (link : ℕ) (end : PortName)
     → AllByRecursion ReadsAs (accepted_tlps plan h link end)
-unfolding accepted_tlps_in
+unfolding accepted_tlps_in_list
 taken_read plan [] cause link end = tt
 taken_read plan ((e, Accepted port unit effects) ∷ h) cause link end =
     let before = taken_read plan h cause.1 link end in

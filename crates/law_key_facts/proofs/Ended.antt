@@ -112,8 +112,7 @@ live_stays : (ts more : List Touch) → AllCome true ts more → OnlyKeys more �
     → is_open ts i ≡ true → sender_draw (keys true (touches_after ts more)) ≡ Some i
 unfolding is_open keys
 live_stays ts [] come only i live opens = live
-live_stays ts (ProgramTouch k j ∷ more) come only i live opens =
-    live_stays (ProgramTouch k j ∷ ts) more come.1 only i
+live_stays ts (ProgramTouch k j ∷ more) come only i live opens = live_stays (ProgramTouch k j ∷ ts) more come.1 only i
     (program_keeps (is_open (ProgramTouch k j ∷ ts)) (keys true ts) k j i live opens) opens
 live_stays ts (GoTouch k j ∷ more) come only i live opens =
     let at = come.0 in
@@ -537,8 +536,7 @@ no_link line paired = grind (arith, nat_tests)
 
 -- the draws of operations on the stream are up to this one
 abbrev AreLow : List Begun → ℕ → ℕ → ℕ → Type 0
-AreLow bs line stream n =
-    (j : ℕ) (c : Begun) → begun_of_draw bs j ≡ Some c → c.line ≡ line → c.stream ≡ stream → j ≤ n
+AreLow bs line stream n = (j : ℕ) (c : Begun) → begun_of_draw bs j ≡ Some c → c.line ≡ line → c.stream ≡ stream → j ≤ n
 
 establish_low : (bs : List Begun) (l s : ℕ) (set begins : Bool) (line stream n : ℕ) → AreLow bs line stream n
     → AreLow (if begins then record { line = l; stream = s; set = set } ∷ bs else bs) line stream
@@ -628,9 +626,8 @@ alone_below : (kp : KeyPlan) (h : History) → KeyCauseLaw kp h → (line stream
     → AreLow (manager h).begun line stream (base h line stream)
 unfolding manager base key_due
 alone_below kp [] cause line stream alone = λ j c is on_line on_stream. absurd cc
-alone_below kp ((Establish l s loss, x) ∷ h) cause line stream alone =
-    establishes_low (manager h) l s (reach_of op.Establish x) line stream (base h line stream)
-    (alone_below kp h cause.2 line stream alone)
+alone_below kp ((Establish l s loss, x) ∷ h) cause line stream alone = establishes_low (manager h) l s
+    (reach_of op.Establish x) line stream (base h line stream) (alone_below kp h cause.2 line stream alone)
 alone_below kp ((Refresh l s loss, x) ∷ h) cause line stream alone =
     other_low (manager h) op.Refresh l s _ line stream (base h line stream)
     (λ same. reached_none (has_refresh kp l s) op.Refresh x _

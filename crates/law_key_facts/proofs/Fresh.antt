@@ -86,9 +86,8 @@ ended_on ks k j on = grind (arith, nat_tests)
 -- a draw that is On was On before
 were_on : (port : PortName) (s : SubStream) (ds : List SealedPacket) (old : Keys) (k : Bool) (j : ℕ)
     → key_in (after_ends port s ds old) k ≡ On j → key_in old k ≡ On j
-were_on port s ds old k j =
-    ends_keep (λ ks. key_in ks k ≡ On j → key_in old k ≡ On j) (λ ks were on. were (ended_on ks k j on)) port s ds old
-    (λ on. on)
+were_on port s ds old k j = ends_keep (λ ks. key_in ks k ≡ On j → key_in old k ≡ On j)
+    (λ ks were on. were (ended_on ks k j on)) port s ds old (λ on. on)
 
 -- ---- the draw that waits
 

@@ -54,9 +54,8 @@ none_behind p d (e ∷ es) here none = rw (other_sub p d e none.0 here) (none_be
 all_uses : (plan : Plan) (h : History) (p : KeyPlace) (port : PortName) (stream : ℕ) (ds : List SealedPacket)
     → AllLive plan h port stream ds → AllApart ds → Uses h p ds
 all_uses plan h p port stream [] live differ = tt
-all_uses plan h p port stream (d ∷ ds) live differ =
-    one_use h p d ds (live_there plan h port stream d p live.0) (λ here. none_behind p d ds here differ.0)
-    (all_uses plan h p port stream ds live.1 differ.1)
+all_uses plan h p port stream (d ∷ ds) live differ = one_use h p d ds (live_there plan h port stream d p live.0)
+    (λ here. none_behind p d ds here differ.0) (all_uses plan h p port stream ds live.1 differ.1)
 
 pub sealed_given : (plan : Plan) (h : History) (e : Event) (ds : List SealedPacket) (p : KeyPlace) → Sealed ds
     ≡ due plan h e → Uses h p ds

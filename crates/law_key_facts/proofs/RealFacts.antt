@@ -176,8 +176,7 @@ sealed plan h e ds law port s = by_seat (sends_it port s) (receives_it port s) r
         (fits (key_plan plan) h cause.2 (place_in_sub_stream port s true))).come
 
     by_seat : (a b : Bool) → sends_it port s ≡ a → receives_it port s ≡ b
-        → keys_by_role ((e, v.Sealed ds) ∷ h) port s a b
-        ≡ after_ends port s ds (keys_by_role h port s a b)
+        → keys_by_role ((e, v.Sealed ds) ∷ h) port s a b ≡ after_ends port s ds (keys_by_role h port s a b)
     by_seat true b here there =
         ap (λ (ts : List Touch). keys true (touches_after (moments h (place_in_sub_stream port s true)) ts))
         (touched (place_in_sub_stream port s true))

@@ -6,15 +6,14 @@ use Rattle.spec_links.proofs.Terms.{Bool, List, None, Option, Some, [], ap, arit
 use Rattle.spec_links.proofs.Terms.{refl, slice_get, subst, suc, sym, true, zero, ℕ, ◌++◌, ◌+◌, ◌<◌, ◌==◌, ◌∙◌, ◌∷◌}
 use Rattle.spec_links.proofs.Terms.{◌≡◌, ◌≤◌, nat_tests, slice_get_within, max, Loss, Operation, base, begins_keyed}
 use Rattle.spec_links.proofs.Terms.{touches_after, draws, manager, moments, touches, touches_if, Accept, Touch}
-use Rattle.spec_links.proofs.Terms.{StreamOperations}
-use Rattle.spec_links.proofs.Terms.{Reach, manager_after_operation, reach_of, work_of, is_on_stream, is_same_side}
-use Rattle.spec_links.proofs.Terms.{is_same_sub, CauseLaw, due, KeyName, SealedList, ahead_of_packet, draws_got}
-use Rattle.spec_links.proofs.Terms.{is_sealed_from_draw, port_keys, lesser, packet_of, place_in_sub_stream, received_in}
-use Rattle.spec_links.proofs.Terms.{sealed_packets, sub_stream_packets, sub_stream_of, with_sealed, BaseStays, is_quiet}
-use Rattle.spec_links.proofs.Terms.{SubStream, is_same, lane_in, lane_out, AllByRecursion, Effect, Establish, Event}
-use Rattle.spec_links.proofs.Terms.{History, Keyed, Keys, On, Packet, Plan, PortName, Refresh, Reset, SealedPacket}
-use Rattle.spec_links.proofs.Terms.{Stop, SubKind, UnitName, Verdict, if◌then◌else◌, key_in, not, ◌&&◌, open_unit}
-use Rattle.spec_links.proofs.Terms.{sent_bytes}
+use Rattle.spec_links.proofs.Terms.{StreamOperations, Reach, manager_after_operation, reach_of, work_of, is_on_stream}
+use Rattle.spec_links.proofs.Terms.{is_same_side, is_same_sub, CauseLaw, due, KeyName, SealedList, ahead_of_packet}
+use Rattle.spec_links.proofs.Terms.{draws_got, is_sealed_from_draw, port_keys, lesser, packet_of, place_in_sub_stream}
+use Rattle.spec_links.proofs.Terms.{received_in, sealed_packets, sub_stream_packets, sub_stream_of, with_sealed}
+use Rattle.spec_links.proofs.Terms.{BaseStays, is_quiet, SubStream, is_same, lane_in, lane_out, AllByRecursion, Effect}
+use Rattle.spec_links.proofs.Terms.{Establish, Event, History, Keyed, Keys, On, Packet, Plan, PortName, Refresh, Reset}
+use Rattle.spec_links.proofs.Terms.{SealedPacket, Stop, SubKind, UnitName, Verdict, if◌then◌else◌, key_in, not, ◌&&◌}
+use Rattle.spec_links.proofs.Terms.{open_unit, sent_bytes}
 use Rattle.spec_links.proofs.Senders.{on_live}
 use Rattle.spec_keys.proofs.Shapes.{draws_used}
 use Rattle.spec_keys.proofs.Whole.{more_begun}
@@ -238,8 +237,7 @@ none_stays plan ((e, w) ∷ h) law s n le = let more = draws_more h e w in rest_
 sealed_stays : (plan : Plan) (h : History) (e : Event) (ds : List SealedPacket) (s : SubStream) → is_sealing e ≡ true
     → BaseStays plan s (base h s.line s.stream) h
     → BaseStays plan s (base ((e, v.Sealed ds) ∷ h) s.line s.stream) ((e, v.Sealed ds) ∷ h)
-sealed_stays plan h e ds s seals stays =
-    subst (λ (n : ℕ). BaseStays plan s n ((e, v.Sealed ds) ∷ h))
+sealed_stays plan h e ds s seals stays = subst (λ (n : ℕ). BaseStays plan s n ((e, v.Sealed ds) ∷ h))
     (sym (sealing_base h e (v.Sealed ds) s.line s.stream seals)) (all_of _ (λ d here up. refl) ds, stays)
 
 pub since_base : (plan : Plan) (h : History) → CauseLaw plan h → (s : SubStream)

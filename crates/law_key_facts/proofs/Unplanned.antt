@@ -24,8 +24,7 @@ pub record Acts (m : StreamOperations) (o : Operation) (l s : ℕ) (r : Option R
   pub is : r ≡ Some reached
   pub here : is_on_stream p l s ≡ true
   pub ops : (manager_after_operation m o l s r).ops p.line p.stream
-      ≡ op_after_reach (is_hosted l) (work_of o (m.ops l s) (length m.begun))
-      reached
+      ≡ op_after_reach (is_hosted l) (work_of o (m.ops l s) (length m.begun)) reached
 
 pub acts : (m : StreamOperations) (o : Operation) (l s : ℕ) (r : Option Reach) (p : KeyPlace)
     → (((manager_after_operation m o l s r).ops p.line p.stream ≡ m.ops p.line p.stream)

@@ -3,13 +3,11 @@ use Rattle.law_keys.proofs.Terms.{◌≡◌, ℕ, ◌≤◌, ◌==◌, Bool, tru
 use Rattle.law_keys.proofs.Terms.{sym, ◌∙◌, arith, ◌&&◌, Event, Loss, Operation, Verdict, KeyPlan, KeyPlace}
 use Rattle.law_keys.proofs.Terms.{is_on_stream, Touch, no_keys, keys, StreamStage, Idle, Establishing, Up, Refreshing}
 use Rattle.law_keys.proofs.Terms.{Reach, StreamOperations, work_of, reach_of, manager_after_operation, manager_after}
-use Rattle.law_keys.proofs.Terms.{History}
-use Rattle.law_keys.proofs.Terms.{manager, op_of, draws, work_touches, on_it, touches, moments, base, begins_keyed}
-use Rattle.law_keys.proofs.Terms.{draw_on_at, key_due, KeyCauseLaw, both-true, keys_of, OwnedKeys, AllOwned}
-use Rattle.law_keys.proofs.Terms.{behind_owned, came_owned, cleared_owned, owned_on, same_place, op_after_reset}
-use Rattle.law_keys.proofs.Terms.{is_cleared}
-use Rattle.law_keys.proofs.Terms.{PortName, Begun, Work, begun_after_work, by_stream, is_hosted, makes_draw}
-use Rattle.law_keys.proofs.Terms.{op_after_reach, worked_owned, None, if◌then◌else◌}
+use Rattle.law_keys.proofs.Terms.{History, manager, op_of, draws, work_touches, on_it, touches, moments, base}
+use Rattle.law_keys.proofs.Terms.{begins_keyed, draw_on_at, key_due, KeyCauseLaw, both-true, keys_of, OwnedKeys}
+use Rattle.law_keys.proofs.Terms.{AllOwned, behind_owned, came_owned, cleared_owned, owned_on, same_place}
+use Rattle.law_keys.proofs.Terms.{op_after_reset, is_cleared, PortName, Begun, Work, begun_after_work, by_stream}
+use Rattle.law_keys.proofs.Terms.{is_hosted, makes_draw, op_after_reach, worked_owned, None, if◌then◌else◌}
 use Rattle.script_events.specs.declared.event.Event.TheVariants as event
 use Rattle.event_verdicts.specs.declared.verdict.Operation.TheVariants as op
 use Rattle.event_verdicts.specs.declared.verdict.Verdict.TheVariants as v

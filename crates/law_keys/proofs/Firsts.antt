@@ -3,12 +3,11 @@ use Rattle.spec_keys.specs.Due.{has_refresh}
 use Rattle.law_keys.proofs.Terms.{None, ◌≡◌, ℕ, ◌≤◌, ◌==◌, Bool, true, false, Option, Some, List, [], ◌∷◌, length, refl}
 use Rattle.law_keys.proofs.Terms.{ap, sym, ◌∙◌, arith, ◌&&◌, if◌then◌else◌, is_some, nat_tests, Host, Loss, Verdict}
 use Rattle.law_keys.proofs.Terms.{KeyPlan, KeyPlace, Touch, keys, StreamStage, Idle, Establishing, Reach}
-use Rattle.law_keys.proofs.Terms.{StreamOperations}
-use Rattle.law_keys.proofs.Terms.{work_of, reach_of, manager_after_operation, History, manager, op_of, draws, moments}
-use Rattle.law_keys.proofs.Terms.{place_keys, base, begins_keyed, keeps_live, history_status, PortView, ports_at}
-use Rattle.law_keys.proofs.Terms.{establish_on, refresh_on, key_due, KeyCauseLaw, marks, Shape, keys_of, draws_used}
-use Rattle.law_keys.proofs.Terms.{draws_started, IsAt, Rising, FitsAt, fits, Operation, StreamStatus, op_after_reset}
-use Rattle.law_keys.proofs.Terms.{PortName}
+use Rattle.law_keys.proofs.Terms.{StreamOperations, work_of, reach_of, manager_after_operation, History, manager, op_of}
+use Rattle.law_keys.proofs.Terms.{draws, moments, place_keys, base, begins_keyed, keeps_live, history_status, PortView}
+use Rattle.law_keys.proofs.Terms.{ports_at, establish_on, refresh_on, key_due, KeyCauseLaw, marks, Shape, keys_of}
+use Rattle.law_keys.proofs.Terms.{draws_used, draws_started, IsAt, Rising, FitsAt, fits, Operation, StreamStatus}
+use Rattle.law_keys.proofs.Terms.{op_after_reset, PortName}
 use Rattle.std.proofs.Math.Bool.{and-false}
 use Rattle.script_events.specs.declared.event.Event.TheVariants as event
 use Rattle.event_verdicts.specs.declared.verdict.Operation.TheVariants as op
@@ -23,8 +22,7 @@ OpIs b (Establishing j n) = b ≡ j
 OpIs b _ = Unit {0}
 
 other_is : (m : StreamOperations) (b : ℕ) (o : Operation) (l s line stream : ℕ) (r : Option Reach)
-    → (o ≡ op.Establish → ⊥)
-    → OpIs b (m.ops line stream) → OpIs b ((manager_after_operation m o l s r).ops line stream)
+    → (o ≡ op.Establish → ⊥) → OpIs b (m.ops line stream) → OpIs b ((manager_after_operation m o l s r).ops line stream)
 other_is m b o l s line stream r other is = grind arith
 
 -- an establish that begins makes its draw both the base and the draw of the state; any other leaves both
@@ -46,12 +44,10 @@ unfolding base manager
 base_is [] line stream = tt
 base_is ((event.Establish l s lose, x) ∷ h) line stream =
     established_is (manager h) (base h line stream) l s line stream (reach_of op.Establish x) (base_is h line stream)
-base_is ((event.Refresh l s lose, x) ∷ h) line stream =
-    other_is (manager h) (base h line stream) op.Refresh l s line stream (reach_of op.Refresh x) (λ e. cc)
-    (base_is h line stream)
-base_is ((event.Stop l s lose, x) ∷ h) line stream =
-    other_is (manager h) (base h line stream) op.Stop l s line stream (reach_of op.Stop x) (λ e. cc)
-    (base_is h line stream)
+base_is ((event.Refresh l s lose, x) ∷ h) line stream = other_is (manager h) (base h line stream) op.Refresh l s line
+    stream (reach_of op.Refresh x) (λ e. cc) (base_is h line stream)
+base_is ((event.Stop l s lose, x) ∷ h) line stream = other_is (manager h) (base h line stream) op.Stop l s line stream
+    (reach_of op.Stop x) (λ e. cc) (base_is h line stream)
 base_is ((event.Reset l ends, v.Reset m) ∷ h) line stream = cut_is (base h line stream) ends line (op_of h line stream)
     (base_is h line stream)
 base_is ((e, x) ∷ h) line stream = base_is h line stream

@@ -6,7 +6,7 @@ use Rattle.law_keys.proofs.Terms.{key_place_at, places_of, is_on_stream, keys, S
 use Rattle.law_keys.proofs.Terms.{op_after_reach, manager_after_operation, History, manager, op_of, draws, work_touches}
 use Rattle.law_keys.proofs.Terms.{on_it, touches_after, moments, place_keys, keeps_live, has_key, has_all, is_hosted}
 use Rattle.law_keys.proofs.Terms.{fails_there, failed_there, keyed_status, history_status, PortView, ports_at}
-use Rattle.law_keys.proofs.Terms.{refresh_on, key_due, KeyCauseLaw, StaysSecure, StaysSecureAt, finished_verdict}
+use Rattle.law_keys.proofs.Terms.{refresh_on, key_due, KeyCauseLaw, StaysSecure, StaysSecureAtEvent, finished_verdict}
 use Rattle.law_keys.proofs.Terms.{is_cut, performed_is, may_refresh, unless_open, ◌⊎◌}
 use Rattle.std.specs.List.{list_all}
 use Rattle.spec_keys.proofs.Terms.{Side, SubKind}
@@ -77,7 +77,8 @@ secure_is : (a b has some all : Bool) → a ≡ false → b ≡ false → all �
 secure_is a b has some all e f g = grind arith
 
 refresh_stays : (plan : KeyPlan) (h : History) (line stream : ℕ) (loss : Option Loss) (x : Verdict)
-    → KeyCauseLaw plan ((event.Refresh line stream loss, x) ∷ h) → StaysSecureAt h (event.Refresh line stream loss) x
+    → KeyCauseLaw plan ((event.Refresh line stream loss, x) ∷ h)
+    → StaysSecureAtEvent h (event.Refresh line stream loss) x
 unfolding failed_there key_due
 refresh_stays plan h line stream loss x cause side secure =
     let says = secure_says (failed_there h side line stream) (has_key (place_keys h) side line stream)
@@ -92,7 +93,7 @@ refresh_stays plan h line stream loss x cause side secure =
     (ap (fails_there side line stream) cause.0 ∙ free) says.0 all
 
 stays_at_pair : (plan : KeyPlan) (h : History) (e : Event) (x : Verdict) → KeyCauseLaw plan ((e, x) ∷ h)
-    → StaysSecureAt h e x
+    → StaysSecureAtEvent h e x
 stays_at_pair plan h (event.Refresh line stream loss) x cause = refresh_stays plan h line stream loss x cause
 stays_at_pair plan h _ x cause = tt
 

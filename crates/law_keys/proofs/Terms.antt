@@ -7,15 +7,13 @@ pub use Rattle.spec_keys.proofs.Terms.{kept_draw, Go, StaysGone, has_gone, is_ke
 pub use Rattle.spec_keys.proofs.Terms.{touches_after, came, draws, fails_there, has_all, has_key, keeps_live}
 pub use Rattle.spec_keys.proofs.Terms.{place_keys, draw_on_at, on_it, op_of, keyed_status, history_status, touches}
 pub use Rattle.spec_keys.proofs.Terms.{work_touches, KeyCauseLaw, GoesKept, SetGoFindsKey, NeverAgain, OperationsSettle}
-pub use Rattle.spec_keys.proofs.Terms.{SettledAt, StaysSecure, StaysSecureAt, KeysFollowOperations, went, nat_tests}
-pub use Rattle.spec_keys.proofs.Terms.{if◌then◌else◌, is_some, ◌&&◌, ◌||◌, Event, Loss, Operation, Verdict, Begun}
-pub use Rattle.spec_keys.proofs.Terms.{Establishing, Idle, StreamOperations, StreamStage, Reach, Refreshing, Stopping}
-pub use Rattle.spec_keys.proofs.Terms.{Up, Work}
-pub use Rattle.spec_keys.proofs.Terms.{manager_after, op_after_reach, manager_after_operation, op_after_reset, reach_of}
-pub use Rattle.spec_keys.proofs.Terms.{whole}
-pub use Rattle.spec_keys.proofs.Terms.{work_of, PortView, establish_on, ports_at, refresh_on, finished_verdict}
-pub use Rattle.spec_keys.proofs.Terms.{may_establish, may_refresh, unless_open, Host, ◌⊎◌, begun_after_work, makes_draw}
-pub use Rattle.spec_keys.proofs.Terms.{is_hosted, is_cleared, PortName}
+pub use Rattle.spec_keys.proofs.Terms.{SettledAt, StaysSecure, StaysSecureAtEvent, KeysFollowOperations, went}
+pub use Rattle.spec_keys.proofs.Terms.{nat_tests, if◌then◌else◌, is_some, ◌&&◌, ◌||◌, Event, Loss, Operation, Verdict}
+pub use Rattle.spec_keys.proofs.Terms.{Begun, Establishing, Idle, StreamOperations, StreamStage, Reach, Refreshing}
+pub use Rattle.spec_keys.proofs.Terms.{Stopping, Up, Work, manager_after, op_after_reach, manager_after_operation}
+pub use Rattle.spec_keys.proofs.Terms.{op_after_reset, reach_of, whole, work_of, PortView, establish_on, ports_at}
+pub use Rattle.spec_keys.proofs.Terms.{refresh_on, finished_verdict, may_establish, may_refresh, unless_open, Host, ◌⊎◌}
+pub use Rattle.spec_keys.proofs.Terms.{begun_after_work, makes_draw, is_hosted, is_cleared, PortName}
 pub use Rattle.spec_keys.proofs.Performs.{is_cut, performed_is}
 unfoldable pub use Rattle.spec_keys.proofs.Terms.{is_open, keys, base, failed_there, manager, moments, key_due}
 pub use Rattle.spec_keys.proofs.Shapes.{Alone, IsAt, Marks, Shape, keys_of, marks}

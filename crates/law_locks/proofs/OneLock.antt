@@ -84,8 +84,7 @@ request_not regions t g n head off = by (memory_read head) t
         → is_admitted_effect (effect_by_read regions b g n o (write_effect regions t g (write_span head))) ≡ false
     by None b = write_not regions t g (write_span head) off
     by (Some r) false = refl
-    by (Some r) true =
-        read_not (grant_cause g.bound g.stream g.draw) (place_cause regions r.span) (full_cause n)
+    by (Some r) true = read_not (grant_cause g.bound g.stream g.draw) (place_cause regions r.span) (full_cause n)
         (grant_some g.bound g.stream g.draw off)
 
 stored_not : (o : Option BlockCause) → is_admitted_effect (cause_effect o) ≡ false

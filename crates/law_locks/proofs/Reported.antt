@@ -10,10 +10,10 @@ use Rattle.spec_interfaces.specs.Exchanges.{carries}
 use Rattle.spec_interfaces.specs.Views.{Managed, on_lock, on_start, on_halt, on_state, on_bind, view_broken}
 use Rattle.spec_interfaces.specs.Views.{number_in, is_number, stop_breaks, view_at}
 unfoldable use Rattle.spec_interfaces.specs.Views.{managed_view}
-use Rattle.spec_interfaces.specs.Devices.{around_at, accepts_lock, runs_at, interface_at}
+use Rattle.spec_interfaces.specs.Devices.{around_at_site, accepts_lock, runs_at, interface_at}
 unfoldable use Rattle.spec_interfaces.specs.Devices.{devices, registers_locked}
 use Rattle.spec_interfaces.specs.Due.{interface_due, if_unlocked, if_locked}
-use Rattle.spec_interfaces.specs.Due.{if_reported, if_locked_or_running, reported_as}
+use Rattle.spec_interfaces.specs.Due.{if_reported, if_locked_or_running, report_verdict}
 use Rattle.spec_interfaces.specs.Cause.{InterfaceCause}
 use Rattle.spec_interfaces.proofs.RunLaws.{interface_run_law}
 use Rattle.spec_interfaces.proofs.Rests.{starts, rests_on, locks_it, not_accepted}
@@ -28,7 +28,7 @@ use Rattle.ide_types.specs.declared.verdict.InterfaceVerdict.TheVariants as iv
 -- ---- a report under the lock that stands
 
 kept : (plan : Plan) (h : History) (e : Event) (w : Verdict) (x : Site)
-    → accepts_lock (around_at plan h x) x e w (interface_at plan h x) ≡ false
+    → accepts_lock (around_at_site plan h x) x e w (interface_at plan h x) ≡ false
     → IsReported plan h x → IsReported plan ((e, w) ∷ h) x
 unfolding devices registers_locked
 kept plan h e w x none was = record {
@@ -42,7 +42,7 @@ kept plan h e w x none was = record {
 }
 
 number_of : (plan : Plan) (x : Site) (view : View) (loss : Option Loss) (o : Option (List ℕ)) (n : ℕ) (report : List ℕ)
-    → v.Interface (iv.Reported n report) ≡ if_locked_or_running view (reported_as plan x loss o) → n ≡ x.number
+    → v.Interface (iv.Reported n report) ≡ if_locked_or_running view (report_verdict plan x loss o) → n ≡ x.number
 number_of plan x view loss o n report e = grind arith
 
 -- a report that the pair shows
@@ -110,7 +110,7 @@ still : (plan : Plan) (h : History) (e : Event) (w : Verdict) (x : Site) → loc
     → Leaves (managed_view h x) (managed_view ((e, w) ∷ h) x) → HasReport plan h x → HasReport plan ((e, w) ∷ h) x
 still plan h e w x none leaves has view reported =
     let was = leaves view reported in
-    kept plan h e w x (not_accepted (around_at plan h x) x e w (interface_at plan h x) none) (has was.0 was.1)
+    kept plan h e w x (not_accepted (around_at_site plan h x) x e w (interface_at plan h x) none) (has was.0 was.1)
 
 refused_not : (view : View) (z : Verdict) → view ≡ Locked → carries (if_unlocked view z) 3 ≡ false
 refused_not view z is = rw is refl
@@ -124,7 +124,7 @@ lock_turn plan h i loss w x own due has view reported =
     let none : carries w 3 ≡ false = ap (λ (z : Verdict). carries z 3) due ∙ refused_not (managed_view h x).view _ was.0
     in
     kept plan h (event.Interface (ie.Lock i loss)) w x
-    (not_accepted (around_at plan h x) x (event.Interface (ie.Lock i loss)) w (interface_at plan h x)
+    (not_accepted (around_at_site plan h x) x (event.Interface (ie.Lock i loss)) w (interface_at plan h x)
     (not_carried (i == x.number) (carries w 3) none)) (has was.0 was.1)
 
 own_turn : (plan : Plan) (h : History) (e : InterfaceEvent) (w : Verdict) (x : Site) → site_at plan x.number ≡ Some x
@@ -137,18 +137,15 @@ own_turn plan h (ie.Report i loss) (v.Interface (iv.Reported n report)) x at own
 own_turn plan h (ie.Report i loss) (v.Interface w) x at own cause has =
     still plan h (event.Interface (ie.Report i loss)) (v.Interface w) x refl
     (same_leaves (managed_view h x) _ (managed_own h (ie.Report i loss) (v.Interface w) x own)) has
-own_turn plan h (ie.Report i loss) w x at own cause has =
-    still plan h (event.Interface (ie.Report i loss)) w x refl
+own_turn plan h (ie.Report i loss) w x at own cause has = still plan h (event.Interface (ie.Report i loss)) w x refl
     (same_leaves (managed_view h x) _ (managed_own h (ie.Report i loss) w x own)) has
-own_turn plan h (ie.Start i loss) w x at own cause has =
-    still plan h (event.Interface (ie.Start i loss)) w x refl
+own_turn plan h (ie.Start i loss) w x at own cause has = still plan h (event.Interface (ie.Start i loss)) w x refl
     (as_leaves (managed_view h x) _ _ (managed_own h (ie.Start i loss) w x own) (start_leaves (managed_view h x) w)) has
 own_turn plan h (ie.Halt i loss) w x at own cause has =
     still plan h (event.Interface (ie.Halt i loss)) w x refl
     (as_leaves (managed_view h x) _ _ (managed_own h (ie.Halt i loss) w x own)
     (halt_leaves (draws h) (managed_view h x) w)) has
-own_turn plan h (ie.State i loss) w x at own cause has =
-    still plan h (event.Interface (ie.State i loss)) w x refl
+own_turn plan h (ie.State i loss) w x at own cause has = still plan h (event.Interface (ie.State i loss)) w x refl
     (as_leaves (managed_view h x) _ _ (managed_own h (ie.State i loss) w x own) (state_leaves (managed_view h x) w)) has
 own_turn plan h (ie.Bind i line stream loss) w x at own cause has =
     still plan h (event.Interface (ie.Bind i line stream loss)) w x refl
@@ -173,8 +170,7 @@ turn plan h (event.Reset link ends) (v.Reset l) x at cause has =
     still plan h (event.Reset link ends) (v.Reset l) x refl
     (as_leaves (managed_view h x) _ _ (managed_step h (event.Reset link ends) (v.Reset l) x)
     (broken_leaves (managed_view h x) (link == x.link))) has
-turn plan h e w x at cause has =
-    still plan h e w x refl (same_leaves (managed_view h x) _ (managed_step h e w x)) has
+turn plan h e w x at cause has = still plan h e w x refl (same_leaves (managed_view h x) _ (managed_step h e w x)) has
 
 -- ---- RUN
 
@@ -182,8 +178,7 @@ turn plan h e w x at cause has =
 asked_reported : (view : View) (b : Bool) (z w : Verdict) → w ≡ if_locked view (if_reported b z) → carries w 1 ≡ true
     → (view ≡ Locked) × (b ≡ true)
 asked_reported Locked true z w is carried = (refl, refl)
-asked_reported Locked false z w is carried =
-    absurd (true≢false (sym carried ∙ ap (λ (u : Verdict). carries u 1) is))
+asked_reported Locked false z w is carried = absurd (true≢false (sym carried ∙ ap (λ (u : Verdict). carries u 1) is))
 asked_reported Unlocked b z w is carried = absurd (true≢false (sym carried ∙ ap (λ (u : Verdict). carries u 1) is))
 asked_reported Running b z w is carried = absurd (true≢false (sym carried ∙ ap (λ (u : Verdict). carries u 1) is))
 asked_reported Doubt b z w is carried = absurd (true≢false (sym carried ∙ ap (λ (u : Verdict). carries u 1) is))

@@ -13,8 +13,8 @@ use Rattle.spec_interfaces.specs.Sites.{Site}
 use Rattle.spec_interfaces.specs.Views.{is_number, number_in}
 use Rattle.spec_interfaces.specs.Peers.{is_secure, live_at, live_by_id, any_leaves, greatest_on, receiver_at, peer_end}
 unfoldable use Rattle.spec_interfaces.specs.Devices.{devices}
-use Rattle.spec_interfaces.specs.Devices.{around_at, interface_at, interface_if_called, next_interface, is_stream_left}
-use Rattle.spec_interfaces.specs.Devices.{leaves, reset_call, is_bound_at}
+use Rattle.spec_interfaces.specs.Devices.{around_at_site, interface_at, interface_if_called, next_interface}
+use Rattle.spec_interfaces.specs.Devices.{is_stream_left, leaves, reset_call, is_bound_at}
 use Rattle.spec_interfaces.proofs.Binds.{AreLive, no_binding, next_live}
 use Rattle.spec_interfaces.proofs.Locks.{bound_at}
 use Rattle.ide_types.specs.declared.binding.Binding.{Binding}
@@ -87,9 +87,8 @@ some_if b j is = rw is refl
 
 end_secure : (h : History) (end : PortName) (stream : ℕ) → is_some (live_at h end stream) ≡ true
     → is_secure (history_status h end.side end.line stream) ≡ true
-end_secure h end stream is =
-    is_if (is_secure (history_status h end.side end.line stream)) (greatest_on (place_keys h (receiver_at end stream)))
-    is
+end_secure h end stream is = is_if (is_secure (history_status h end.side end.line stream))
+    (greatest_on (place_keys h (receiver_at end stream))) is
 
 still_live : (plan : Plan) (h : History) (e : InterfaceEvent) (w : Verdict) (stream : ℕ) (o : Option PortName)
     → w ≡ due plan h (event.Interface e) → is_some (option_and_then (λ end. live_at h end stream) o) ≡ true
@@ -114,19 +113,19 @@ live_on plan h x = live_by_id (live_at h) plan.peers x.link
 
 after : (plan : Plan) (h : History) (e : Event) (w : Verdict) (x : Site) → w ≡ due plan h e
     → AreLive (live_on plan h x) (interface_at plan h x).bindings → AreLive (live_on plan ((e, w) ∷ h) x)
-    (next_interface (around_at plan h x) (is_stream_left plan h e w x (interface_at plan h x)) x e w
+    (next_interface (around_at_site plan h x) (is_stream_left plan h e w x (interface_at plan h x)) x e w
     (interface_at plan h x)).bindings
 after plan h (event.Interface e) w x is are = λ stream binds_it.
     still_live plan h e w stream (peer_end plan.peers 0 x.link stream) is
-    (next_live (live_on plan h x) (is_number (number_in e) x.number) (around_at plan h x) x e w (interface_at plan h x)
+    (next_live (live_on plan h x) (is_number (number_in e) x.number) (around_at_site plan h x) x e w
+    (interface_at plan h x)
     refl
     are stream binds_it)
 after plan h (event.Reset l ends) (v.Reset k) x is are =
     reset_after (live_on plan h x) (live_on plan ((event.Reset l ends, v.Reset k) ∷ h) x) (l == x.link)
     (leaves h (event.Reset l ends) (v.Reset k) x) (interface_at plan h x) (bound_at plan h x) are
-after plan h e w x is are =
-    left_after (live_on plan h x) (live_on plan ((e, w) ∷ h) x) (leaves h e w x) (interface_at plan h x)
-    (is_stream_left plan h e w x (interface_at plan h x)) (bound_at plan h x) refl are
+after plan h e w x is are = left_after (live_on plan h x) (live_on plan ((e, w) ∷ h) x) (leaves h e w x)
+    (interface_at plan h x) (is_stream_left plan h e w x (interface_at plan h x)) (bound_at plan h x) refl are
 
 bound_live : (plan : Plan) (h : History) → CauseLaw plan h → (x : Site)
     → AreLive (live_on plan h x) (interface_at plan h x).bindings

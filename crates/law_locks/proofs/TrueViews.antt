@@ -16,7 +16,7 @@ use Rattle.spec_interfaces.specs.Exchanges.{carries, changes_device}
 use Rattle.spec_interfaces.specs.Views.{Managed, on_lock, on_report, on_start, on_halt, on_state, on_bind, view_broken}
 use Rattle.spec_interfaces.specs.Views.{view_told, on_operation, number_in, is_number, stop_breaks, view_at}
 unfoldable use Rattle.spec_interfaces.specs.Views.{managed_view}
-use Rattle.spec_interfaces.specs.Devices.{around_at, interface_if_called, lock_call, interface_asked, interface_at}
+use Rattle.spec_interfaces.specs.Devices.{around_at_site, interface_if_called, lock_call, interface_asked, interface_at}
 use Rattle.spec_interfaces.specs.Devices.{is_stream_left, reset_call}
 unfoldable use Rattle.spec_interfaces.specs.Devices.{devices}
 use Rattle.spec_interfaces.specs.Due.{unless_lost, if_unlocked, if_locked, if_reported, if_fresh, verdict_of_lock}
@@ -185,8 +185,7 @@ starts_run Error nonce done is = absurd cc
 start_done : (m : Managed) (t asked : DeviceTdi) (x : Site) (draw : ℕ) (answer : Result (Unit {0}) ℕ)
     → asked.state ≡ after_start t.state m.nonce → start_answer t.state m.nonce ≡ answer
     → After on_start 1 m t asked (started_as x draw answer)
-start_done m t asked x draw (Ok done) state e =
-    subst (IsTrueOf Running) (sym state) (starts_run t.state m.nonce done e)
+start_done m t asked x draw (Ok done) state e = subst (IsTrueOf Running) (sym state) (starts_run t.state m.nonce done e)
 start_done m t asked x draw (Err code) state e = tt
 
 start_fresh : (m : Managed) (t asked : DeviceTdi) (draw needs : ℕ) (w : Verdict) → IsTrueOf m.view t.state
@@ -233,9 +232,8 @@ halt_lost drawn m t asked is Reply n le = in_doubt m _ t asked (nat_le 1 n) (n =
 halt_true : (drawn : ℕ) (m : Managed) (t : DeviceTdi) (i needs : ℕ) (loss : Option Loss) → IsTrueOf m.view t.state
     → After (on_halt drawn) 1 m t (interface_after_call t StopInterface)
     (unless_lost loss 1 (v.Interface (iv.Halted i needs)))
-halt_true drawn m t i needs loss is =
-    unless (After (on_halt drawn) 1 m t (interface_after_call t StopInterface)) loss 1 _
-    (halt_lost drawn m t (interface_after_call t StopInterface) is) refl
+halt_true drawn m t i needs loss is = unless (After (on_halt drawn) 1 m t (interface_after_call t StopInterface)) loss 1
+    _ (halt_lost drawn m t (interface_after_call t StopInterface) is) refl
 
 told_true : (view : View) (state : ℕ) (s : TdiState) → IsTrueOf view s → IsTrueOf (view_told view state) s
 told_true Locked state s is = by (state == 1)
@@ -283,7 +281,7 @@ if_not b m n is = rw is refl
 
 interface_own : (plan : Plan) (h : History) (e : InterfaceEvent) (w : Verdict) (x : Site)
     → is_number (number_in e) x.number ≡ true → interface_at plan ((event.Interface e, w) ∷ h) x
-    ≡ interface_asked (around_at plan h x) x e w (interface_at plan h x)
+    ≡ interface_asked (around_at_site plan h x) x e w (interface_at plan h x)
 unfolding devices
 interface_own plan h e w x own = if_is (is_number (number_in e) x.number) _ _ own
 
@@ -300,9 +298,9 @@ called false c t = refl
 own_turn : (plan : Plan) (h : History) (e : InterfaceEvent) (w : Verdict) (x : Site) → site_at plan x.number ≡ Some x
     → is_number (number_in e) x.number ≡ true → InterfaceCause plan ((event.Interface e, w) ∷ h) → Holds plan h x
     → IsTrueOf (on_operation (draws h) e w (managed_view h x)).view
-    (interface_asked (around_at plan h x) x e w (interface_at plan h x)).state
+    (interface_asked (around_at_site plan h x) x e w (interface_at plan h x)).state
 own_turn plan h (ie.Lock i loss) w x at own cause is =
-    let a = around_at plan h x in
+    let a = around_at_site plan h x in
     let t = interface_at plan h x in
     let due = due_own plan h x (ie.Lock i loss) i w at refl own cause.0 in
     subst (λ (k : DeviceTdi). IsTrueOf (on_lock (managed_view h x) w).view k.state)
@@ -330,10 +328,10 @@ own_turn plan h (ie.Report i loss) w x at own cause is =
     subst (λ (view : View). IsTrueOf view (interface_at plan h x).state) (sym (report_view (managed_view h x) w)) is
 own_turn plan h (ie.Bind i line stream loss) w x at own cause is =
     subst (λ (view : View). IsTrueOf view
-    (interface_if_called (carries w 1) (BindStream stream ((around_at plan h x).live stream))
+    (interface_if_called (carries w 1) (BindStream stream ((around_at_site plan h x).live stream))
     (interface_at plan h x)).state)
     (sym (bind_view line (managed_view h x) w))
-    (called_true (view_at h x) (carries w 1) (BindStream stream ((around_at plan h x).live stream))
+    (called_true (view_at h x) (carries w 1) (BindStream stream ((around_at_site plan h x).live stream))
     (interface_at plan h x)
     refl is)
 own_turn plan h (ie.Unbind i line stream loss) w x at own cause is =
@@ -385,9 +383,8 @@ turn plan h (event.Reset link ends) (v.Reset l) x at cause is =
     reset_true (link == x.link) (is_stream_left plan h (event.Reset link ends) (v.Reset l) x (interface_at plan h x))
     (managed_view h x)
     (interface_at plan h x) is
-turn plan h e w x at cause is =
-    called_true (view_at h x) (is_stream_left plan h e w x (interface_at plan h x)) StreamLeft (interface_at plan h x)
-    refl is
+turn plan h e w x at cause is = called_true (view_at h x) (is_stream_left plan h e w x (interface_at plan h x))
+    StreamLeft (interface_at plan h x) refl is
 
 pub true_views : (plan : Plan) (h : History) → InterfaceCause plan h → (x : Site) → site_at plan x.number ≡ Some x
     → IsTrueOf (view_at h x) (interface_at plan h x).state

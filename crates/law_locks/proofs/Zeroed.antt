@@ -10,7 +10,7 @@ use Rattle.spec_interfaces.specs.Terms.{interface_after_call, bind_answer, unbin
 use Rattle.spec_interfaces.specs.Sites.{Site}
 use Rattle.spec_interfaces.specs.Exchanges.{carries, changes_device}
 use Rattle.spec_interfaces.specs.Views.{is_number, number_in}
-use Rattle.spec_interfaces.specs.Devices.{Around, around_at, interface_if_called, lock_call, next_interface}
+use Rattle.spec_interfaces.specs.Devices.{Around, around_at_site, interface_if_called, lock_call, next_interface}
 use Rattle.spec_interfaces.specs.Devices.{interface_at, is_stream_left, reset_call}
 unfoldable use Rattle.spec_interfaces.specs.Devices.{devices}
 use Rattle.interface_state.specs.Machine.{is_unlocked, new_lock, interface_after_lock}
@@ -42,8 +42,7 @@ after_stays t (LockInterface flags stream offset secure drawn) other held =
     locked_stays t (new_lock t flags stream offset) (lock_answer t flags offset secure drawn) held
 after_stays t (BindStream stream live) other held =
     ap is_unlocked (bound_state t stream (bind_answer t stream live)) ∙ held
-after_stays t (UnbindStream stream) other held =
-    ap is_unlocked (unbound_state t stream (unbind_answer t stream)) ∙ held
+after_stays t (UnbindStream stream) other held = ap is_unlocked (unbound_state t stream (unbind_answer t stream)) ∙ held
 after_stays t c other held = grind (arith, nat_tests)
 
 called_stays : (b : Bool) (c : Call) (t : DeviceTdi) → frees c ≡ false → is_unlocked t.state ≡ false
@@ -103,5 +102,6 @@ pub scrubs : (plan : Plan) (h : History) (e : Event) (w : Verdict) → Scrubs pl
 unfolding devices
 scrubs plan h e w i x bar offset at held freed closed =
     zero_then plan h e w x bar offset
-    (zeroed (around_at plan h x) (is_stream_left plan h e w x (interface_at plan h x)) x e w (interface_at plan h x) bar
+    (zeroed (around_at_site plan h x) (is_stream_left plan h e w x (interface_at plan h x)) x e w
+    (interface_at plan h x) bar
     held closed freed)

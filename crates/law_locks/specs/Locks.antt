@@ -57,8 +57,8 @@ pub record IsReported (plan : Plan) (h : History) (x : Site) : Type 0 where
 abbrev pub IsAttested : Plan → History → Type 0
 IsAttested plan h = (i : ℕ) (x : Site) → site_at plan i ≡ Some x → runs_at plan h x ≡ true → IsReported plan h x
 
-abbrev pub Attested : Plan → History → Type 0
-Attested plan h = AtEach (IsAttested plan) h
+abbrev pub ReportsAreShown : Plan → History → Type 0
+ReportsAreShown plan h = AtEach (IsAttested plan) h
 
 -- ---- the view
 
@@ -84,5 +84,5 @@ Scrubs plan h e w = (i : ℕ) (x : Site) (bar offset : ℕ) → site_at plan i �
     → is_unlocked (interface_at plan h x).state ≡ false → is_unlocked (interface_at plan ((e, w) ∷ h) x).state ≡ true
     → has_open_range x.plan.bars bar ≡ false → stored_byte plan ((e, w) ∷ h) x bar offset ≡ 0
 
-abbrev pub Scrubbed : Plan → History → Type 0
-Scrubbed plan h = AtPairs (Scrubs plan) h
+abbrev pub UnlockedIsScrubbed : Plan → History → Type 0
+UnlockedIsScrubbed plan h = AtPairs (Scrubs plan) h

@@ -2,20 +2,20 @@
 use Rattle.ide_types.specs.declared.plan.Plan.{Plan}
 use Rattle.spec_keys.specs.History.{History}
 use Rattle.spec_links.specs.Cause.{CauseLaw}
-use Rattle.law_locks.specs.Locks.{LockLaw, Attested, ViewsAreTrue, Scrubbed}
+use Rattle.law_locks.specs.Locks.{LockLaw, ReportsAreShown, ViewsAreTrue, UnlockedIsScrubbed}
 use Rattle.law_locks.specs.Runs.{OneLockPerKey, AnswersLaw}
 
 abbrev pub LockLawHolds : Type 0
 LockLawHolds = (plan : Plan) (h : History) → CauseLaw plan h → LockLaw plan h
 
 abbrev pub AttestedHolds : Type 0
-AttestedHolds = (plan : Plan) (h : History) → CauseLaw plan h → Attested plan h
+AttestedHolds = (plan : Plan) (h : History) → CauseLaw plan h → ReportsAreShown plan h
 
 abbrev pub ViewsAreTrueHolds : Type 0
 ViewsAreTrueHolds = (plan : Plan) (h : History) → CauseLaw plan h → ViewsAreTrue plan h
 
 abbrev pub ScrubbedHolds : Type 0
-ScrubbedHolds = (plan : Plan) (h : History) → CauseLaw plan h → Scrubbed plan h
+ScrubbedHolds = (plan : Plan) (h : History) → CauseLaw plan h → UnlockedIsScrubbed plan h
 
 abbrev pub OneLockPerKeyHolds : Type 0
 OneLockPerKeyHolds = (plan : Plan) (h : History) → CauseLaw plan h → OneLockPerKey plan h

@@ -30,5 +30,4 @@ pub read_origin_law : ReadOriginLawHolds
 read_origin_law plan fits h cause forged = read_origins plan fits (streams_fit plan fits) (draws plan) h cause forged
 
 pub bind_origin_law : BindOriginLawHolds
-bind_origin_law plan fits h cause forged =
-    bound_origins plan fits (streams_fit plan fits) (draws plan) h cause forged
+bind_origin_law plan fits h cause forged = bound_origins plan fits (streams_fit plan fits) (draws plan) h cause forged

@@ -198,8 +198,7 @@ sent_fits plan h port bytes more trusted ds own is =
 pair_fits : (plan : Plan) (h : History) (e : Event) (w : Verdict) → w ≡ due plan h e → PairFits plan h e w
 unfolding due
 pair_fits plan h (event.Interface e) w is = given_free plan h e w is
-pair_fits plan h (event.Send port bytes more trusted) w is =
-    subst (Fits plan h port bytes more trusted) (sym is)
+pair_fits plan h (event.Send port bytes more trusted) w is = subst (Fits plan h port bytes more trusted) (sym is)
     (here_fits plan h port bytes more trusted)
 pair_fits plan h e w is = tt
 

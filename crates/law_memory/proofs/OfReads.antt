@@ -285,8 +285,7 @@ first_of (b ∷ bs) = b
 completion_class : (byte : ℕ → ℕ) (r : MemReadView) (t : Tlp) → read_of (completion_bytes byte r) ≡ Ok t
     → class_of (header t) ≡ Cpl
 unfolding completion_bytes first_of
-completion_class byte r t is =
-    class_by (header t).has_payload (header t).lead.wide (header t).fields
+completion_class byte r t is = class_by (header t).has_payload (header t).lead.wide (header t).fields
     (ap first_of ((read_spells_tlp t (completion_bytes byte r)).1 is).spelled)
 
 -- ---- the completion

@@ -24,7 +24,7 @@ use Rattle.guarded_memory.specs.Laws.{is_from_floor, is_guarded, is_admitted}
 use Rattle.spec_interfaces.specs.Sites.{Site, site_at}
 use Rattle.spec_interfaces.specs.Exchanges.{carries, changes_device}
 unfoldable use Rattle.spec_interfaces.specs.Devices.{devices}
-use Rattle.spec_interfaces.specs.Devices.{Around, around_at, interface_at, interface_if_called, next_interface}
+use Rattle.spec_interfaces.specs.Devices.{Around, around_at_site, interface_at, interface_if_called, next_interface}
 use Rattle.spec_interfaces.specs.Devices.{is_stream_left, is_run, runs_at, reset_call}
 use Rattle.spec_interfaces.specs.Floors.{place_of, history_statuses, device_status, device_floor}
 use Rattle.spec_interfaces.specs.Laws.{IsLocked}
@@ -101,7 +101,8 @@ next_not a left e w x bar t held = asked_not a left e w x bar t held
 not_zeroed : (plan : Plan) (h : History) (e : Event) (w : Verdict) (x : Site) (bar : ℕ)
     → IsLocked plan ((e, w) ∷ h) x → sets_to_zero e w x bar ≡ false
 unfolding devices
-not_zeroed plan h e w x bar held = next_not (around_at plan h x) (is_stream_left plan h e w x (interface_at plan h x)) e
+not_zeroed plan h e w x bar held = next_not (around_at_site plan h x)
+    (is_stream_left plan h e w x (interface_at plan h x)) e
     w x bar
     (interface_at plan h x) held
 
@@ -114,8 +115,7 @@ record IsEnabled (os : List (Option Write)) (offset : ℕ) : Type 0 where
   enabled : enables write.span offset ≡ true
 
 one_later : (o : Option Write) (os : List (Option Write)) (offset : ℕ) → IsEnabled os offset → IsEnabled (o ∷ os) offset
-one_later o os offset at =
-    record { number = suc at.number; write = at.write; stands = at.stands; enabled = at.enabled }
+one_later o os offset at = record { number = suc at.number; write = at.write; stands = at.stands; enabled = at.enabled }
 
 changed_by : (os : List (Option Write)) (ws : List Write) (offset : ℕ)
     → byte_last_written (newest_first os ws) offset ≢ byte_last_written ws offset → IsEnabled os offset

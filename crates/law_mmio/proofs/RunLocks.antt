@@ -6,7 +6,7 @@ use Rattle.std.specs.Prelude.{is_ok}
 use Rattle.spec_interfaces.specs.Terms.{Plan, Event, Verdict, History, Lock, DeviceTdi, lock_answer}
 use Rattle.spec_interfaces.specs.Sites.{Site}
 use Rattle.spec_interfaces.specs.Exchanges.{carries}
-use Rattle.spec_interfaces.specs.Devices.{Around, around_at, interface_if_called, lock_call, next_interface}
+use Rattle.spec_interfaces.specs.Devices.{Around, around_at_site, interface_if_called, lock_call, next_interface}
 use Rattle.spec_interfaces.specs.Devices.{accepts_lock, is_run, runs_at, interface_at, locks_accepted, is_stream_left}
 unfoldable use Rattle.spec_interfaces.specs.Devices.{devices}
 use Rattle.interface_state.specs.Machine.{new_lock, interface_after_lock}
@@ -37,21 +37,21 @@ lock_rests a left x (event.Interface (ie.Lock i loss)) w t is =
 lock_rests a left x e w t is = absurd (true≢false (sym is))
 
 pub runs_unlocked : (plan : Plan) (h : History) (e : Event) (w : Verdict) (x : Site)
-    → runs_at plan ((e, w) ∷ h) x ≡ true → accepts_lock (around_at plan h x) x e w (interface_at plan h x) ≡ false
+    → runs_at plan ((e, w) ∷ h) x ≡ true → accepts_lock (around_at_site plan h x) x e w (interface_at plan h x) ≡ false
 unfolding devices
-runs_unlocked plan h e w x runs = by (cases_Bool (accepts_lock (around_at plan h x) x e w (interface_at plan h x)))
+runs_unlocked plan h e w x runs = by (cases_Bool (accepts_lock (around_at_site plan h x) x e w (interface_at plan h x)))
   where
-    by : (accepts_lock (around_at plan h x) x e w (interface_at plan h x) ≡ true)
-        ⊎ (accepts_lock (around_at plan h x) x e w (interface_at plan h x) ≡ false)
-        → accepts_lock (around_at plan h x) x e w (interface_at plan h x) ≡ false
+    by : (accepts_lock (around_at_site plan h x) x e w (interface_at plan h x) ≡ true)
+        ⊎ (accepts_lock (around_at_site plan h x) x e w (interface_at plan h x) ≡ false)
+        → accepts_lock (around_at_site plan h x) x e w (interface_at plan h x) ≡ false
     by (inl is) = absurd (true≢false (sym runs
-        ∙ lock_rests (around_at plan h x) (is_stream_left plan h e w x (interface_at plan h x)) x e w
+        ∙ lock_rests (around_at_site plan h x) (is_stream_left plan h e w x (interface_at plan h x)) x e w
         (interface_at plan h x) is))
     by (inr is) = is
 
 -- so it has as many locks as before
 pub same_locks : (plan : Plan) (h : History) (e : Event) (w : Verdict) (x : Site)
-    → accepts_lock (around_at plan h x) x e w (interface_at plan h x) ≡ false
+    → accepts_lock (around_at_site plan h x) x e w (interface_at plan h x) ≡ false
     → locks_accepted plan ((e, w) ∷ h) x ≡ locks_accepted plan h x
 unfolding devices
 same_locks plan h e w x none = rw none (omega arith)

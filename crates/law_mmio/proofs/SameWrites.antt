@@ -115,9 +115,8 @@ reset_clears plan w x bar i older known = elim (cases_Bool (i == x.number)) [
     by : (o : Option Site) → site_at plan i ≡ o → (i == x.number) ≡ false
         → Clears (reset_at plan w x.link o) false older (place_of plan x) bar
     by None is apart = refl
-    by (Some y) is apart =
-        elsewhere (InterfaceReset (place_of plan y)) (y.link == x.link) (changes_device w) (place_of plan x) bar older
-        (λ link. not_own plan x i y known is apart (eqb-true y.link x.link link)) refl
+    by (Some y) is apart = elsewhere (InterfaceReset (place_of plan y)) (y.link == x.link) (changes_device w)
+        (place_of plan x) bar older (λ link. not_own plan x i y known is apart (eqb-true y.link x.link link)) refl
 
 asked_clears : (plan : Plan) (e : Event) (w : Verdict) (x : Site) (bar : ℕ) (older : List Happened)
     → site_at plan x.number ≡ Some x

@@ -19,8 +19,8 @@ unfoldable use Rattle.spec_links.specs.Due.{due}
 use Rattle.spec_links.proofs.KeyVerdicts.{interface_due_quiet}
 use Rattle.spec_interfaces.specs.Sites.{Site}
 unfoldable use Rattle.spec_interfaces.specs.Devices.{devices}
-use Rattle.spec_interfaces.specs.Devices.{around_at, interface_at, interface_if_called, next_interface, is_stream_left}
-use Rattle.spec_interfaces.specs.Devices.{is_secure, has_secure_stream, reset_call}
+use Rattle.spec_interfaces.specs.Devices.{around_at_site, interface_at, interface_if_called, next_interface}
+use Rattle.spec_interfaces.specs.Devices.{is_stream_left, is_secure, has_secure_stream, reset_call}
 use Rattle.spec_interfaces.specs.Laws.{IsLocked}
 use Rattle.spec_interfaces.proofs.Binds.{accepts_secure}
 use Rattle.spec_interfaces.proofs.Locks.{Made, next_made}
@@ -131,17 +131,17 @@ interface_leaves_secure plan h e w side line stream is secure =
 -- before it
 before : (plan : Plan) (h : History) (e : Event) (w : Verdict) (x : Site)
     → (Held (interface_at plan h x).state → has_secure_stream h x ≡ true)
-    → Held (next_interface (around_at plan h x) (is_stream_left plan h e w x (interface_at plan h x)) x e w
+    → Held (next_interface (around_at_site plan h x) (is_stream_left plan h e w x (interface_at plan h x)) x e w
     (interface_at plan h x)).state → has_secure_stream h x ≡ true
 before plan h e w x earlier held =
-    let a = around_at plan h x in
+    let a = around_at_site plan h x in
     let t = interface_at plan h x in
     let has = has_lock (next_interface a (is_stream_left plan h e w x t) x e w t).state held in
     by has.lock (next_made a (is_stream_left plan h e w x t) x e w t has.lock has.stands)
   where
-    by : (l : Lock) → Made (around_at plan h x) x e w (interface_at plan h x) l → has_secure_stream h x ≡ true
+    by : (l : Lock) → Made (around_at_site plan h x) x e w (interface_at plan h x) l → has_secure_stream h x ≡ true
     by l (inl stood) = earlier (lock_held (interface_at plan h x).state l stood.0)
-    by l (inr made) = accepts_secure (around_at plan h x) x e w (interface_at plan h x) made.0
+    by l (inr made) = accepts_secure (around_at_site plan h x) x e w (interface_at plan h x) made.0
 
 not_left_by : (b c a : Bool) (t : DeviceTdi) → Held (interface_if_called ((b && not c) || a) StreamLeft t).state → b
     ≡ true → c ≡ true
@@ -158,13 +158,12 @@ other_link false b c a t held is = not_left_by b c a t held is
 
 -- and after it
 after : (plan : Plan) (h : History) (e : Event) (w : Verdict) (x : Site) → w ≡ due plan h e
-    → Held (next_interface (around_at plan h x) (is_stream_left plan h e w x (interface_at plan h x)) x e w
+    → Held (next_interface (around_at_site plan h x) (is_stream_left plan h e w x (interface_at plan h x)) x e w
     (interface_at plan h x)).state → has_secure_stream h x ≡ true → has_secure_stream ((e, w) ∷ h) x ≡ true
 after plan h (event.Interface e) w x is held secure =
     interface_leaves_secure plan h e w Device x.link x.plan.stream is secure
-after plan h (event.Reset l ends) (v.Reset k) x is held secure =
-    other_link (l == x.link) (has_secure_stream h x) (has_secure_stream ((event.Reset l ends, v.Reset k) ∷ h) x) _
-    (interface_at plan h x) held secure
+after plan h (event.Reset l ends) (v.Reset k) x is held secure = other_link (l == x.link) (has_secure_stream h x)
+    (has_secure_stream ((event.Reset l ends, v.Reset k) ∷ h) x) _ (interface_at plan h x) held secure
 after plan h e w x is held secure =
     not_left_by (has_secure_stream h x) (has_secure_stream ((e, w) ∷ h) x) _ (interface_at plan h x) held secure
 

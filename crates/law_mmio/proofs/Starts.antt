@@ -15,7 +15,7 @@ use Rattle.spec_interfaces.specs.Sites.{Site}
 use Rattle.spec_interfaces.specs.Exchanges.{carries, changes_device}
 use Rattle.spec_interfaces.specs.Views.{is_number, number_in}
 unfoldable use Rattle.spec_interfaces.specs.Devices.{devices}
-use Rattle.spec_interfaces.specs.Devices.{Around, around_at, interface_at, interface_if_called, next_interface}
+use Rattle.spec_interfaces.specs.Devices.{Around, around_at_site, interface_at, interface_if_called, next_interface}
 use Rattle.spec_interfaces.specs.Devices.{is_stream_left, is_run, runs_at, has_secure_stream, lock_call, reset_call}
 use Rattle.spec_interfaces.specs.Floors.{greatest_on, posted_receiver, draw_at_device, floor_after_event}
 unfoldable use Rattle.spec_interfaces.specs.Floors.{device_floor}
@@ -173,7 +173,7 @@ just_started : (plan : Plan) (h : History) (e : Event) (w : Verdict) (x : Site) 
     ≡ false → runs_at plan ((e, w) ∷ h) x ≡ true → IsStartedUnder plan ((e, w) ∷ h) x (device_floor plan ((e, w) ∷ h) x)
 unfolding devices
 just_started plan h e w x cause rests runs =
-    let it = starts_it (around_at plan h x) (is_stream_left plan h e w x (interface_at plan h x)) e w x
+    let it = starts_it (around_at_site plan h x) (is_stream_left plan h e w x (interface_at plan h x)) e w x
     (interface_at plan h x)
     (draw_at_device h x)
     (device_floor plan h x) rests runs in

@@ -16,7 +16,7 @@ use Rattle.spec_links.specs.History.{is_received_under}
 use Rattle.spec_links.specs.Memory.{admitted_writes, unit_ended}
 unfoldable use Rattle.spec_links.specs.Memory.{writes}
 use Rattle.spec_links.specs.Sent.{unit_accepted, reads_by}
-unfoldable use Rattle.spec_links.specs.Sent.{packets_held, writes_in, queued_in}
+unfoldable use Rattle.spec_links.specs.Sent.{packets_held, writes_in_list, queued_in}
 use Rattle.ide_prefix.specs.Packet.{packet_bytes}
 use Rattle.event_verdicts.specs.declared.verdict.Verdict.TheVariants as v
 
@@ -50,9 +50,8 @@ arrived_more plan xs more (Pass n) a is = mapped_more xs more n
 arrived_more plan xs more (Alter n at mask) a is = passed_more xs more n (altered_arrival plan at mask) a
     (packet_by_number xs n) refl
     is
-arrived_more plan xs more (Cut n len) a is =
-    passed_more xs more n (shortened_arrival plan len) a (packet_by_number xs n) refl
-    is
+arrived_more plan xs more (Cut n len) a is = passed_more xs more n (shortened_arrival plan len) a
+    (packet_by_number xs n) refl is
 arrived_more plan xs more e a is = is
 
 -- the list begins with the packets that had been sealed
@@ -103,8 +102,8 @@ unit_same plan h e port unit effects cause xs behind =
 -- ---- writes and reads
 
 pub writes_same : (plan : Plan) (h : History) → CauseLaw plan h → (xs : SealedList) → IsBehind plan h xs
-    → writes_in plan xs h ≡ writes plan h
-unfolding writes writes_in
+    → writes_in_list plan xs h ≡ writes plan h
+unfolding writes writes_in_list
 writes_same plan [] cause xs behind = refl
 writes_same plan ((e, Accepted port unit effects) ∷ h) cause xs behind =
     let earlier = behind_earlier plan h e (Accepted port unit effects) xs behind in

@@ -7,7 +7,7 @@ use Rattle.std.proofs.lemmas.Bool.{cases_Bool}
 use Rattle.ide_types.specs.declared.direction.Direction.{Direction}
 use Rattle.spec_links.specs.Terms.{Reset}
 use Rattle.spec_links.specs.Hops.{HopTlp, entering_end, clears_hop, is_forward_on}
-unfoldable use Rattle.spec_links.specs.Hops.{accepted_tlps_in, forwarded_count}
+unfoldable use Rattle.spec_links.specs.Hops.{accepted_tlps_in_list, forwarded_count}
 use Rattle.spec_links.specs.Memory.{accepted_tlps, hop_waiting, unit_ended}
 use Rattle.event_verdicts.specs.declared.verdict.Verdict.TheVariants as v
 use Rattle.law_reads.specs.Waiting.{WaitingFollows}
@@ -22,7 +22,7 @@ drop_more (suc n) (x ∷ xs) = let next : suc n + 1 ≡ suc (n + 1) = omega arit
 sealed_follows : (plan : Plan) (h : History) (e : Event) (ds : List SealedPacket) → CauseLaw plan ((e, Sealed ds) ∷ h)
     → (link : ℕ) (d : Direction) → hop_waiting plan ((e, Sealed ds) ∷ h) link d
     ≡ (if is_forward_on link d e then drop 1 (hop_waiting plan h link d) else hop_waiting plan h link d)
-unfolding accepted_tlps_in forwarded_count
+unfolding accepted_tlps_in_list forwarded_count
 sealed_follows plan h e ds cause link d =
     let n = forwarded_count h link d in
     let same = here_after plan h e (Sealed ds) cause link (entering_end link d) in
@@ -52,7 +52,7 @@ reset_follows : (plan : Plan) (h : History) (k : ℕ) (ends : List PortName) (l 
     → CauseLaw plan ((Reset k ends, v.Reset l) ∷ h) → (link : ℕ) (d : Direction)
     → hop_waiting plan ((Reset k ends, v.Reset l) ∷ h) link d
     ≡ (if clears_hop ends link then [] else hop_waiting plan h link d)
-unfolding accepted_tlps_in forwarded_count
+unfolding accepted_tlps_in_list forwarded_count
 reset_follows plan h k ends l cause link d =
     let same = here_after plan h (Reset k ends) (v.Reset l) cause link (entering_end link d) in
     elim (cases_Bool (clears_hop ends link)) [
@@ -61,7 +61,7 @@ reset_follows plan h k ends l cause link d =
     ]
 
 pub waiting_follows : WaitingFollows
-unfolding accepted_tlps_in forwarded_count
+unfolding accepted_tlps_in_list forwarded_count
 waiting_follows plan h e (Sealed ds) cause link d = sealed_follows plan h e ds cause link d
 waiting_follows plan h e (Accepted port unit effects) cause link d =
     accepted_follows plan h e port unit effects cause link d

@@ -13,7 +13,7 @@ use Rattle.event_verdicts.specs.declared.access.AccessVerdict.TheVariants as av
 use Rattle.event_verdicts.specs.declared.verdict.Verdict.TheVariants as v
 use Rattle.spec_links.specs.Due.{send_due, forward_out, forward_first}
 use Rattle.spec_links.specs.Hops.{HopTlp, has_hop, entering_end, leaving_end, clears_hop, is_forward_on}
-unfoldable use Rattle.spec_links.specs.Hops.{accepted_tlps_in, forwarded_count}
+unfoldable use Rattle.spec_links.specs.Hops.{accepted_tlps_in_list, forwarded_count}
 use Rattle.spec_links.specs.Memory.{accepted_tlps, hop_waiting, unit_ended}
 use Rattle.spec_links.proofs.HopFirst.{drop_first}
 use Rattle.law_reads.proofs.Taken.{here_after, taken_accepted, tlps_of}
@@ -80,7 +80,7 @@ sealed_within plan h e ds cause link d before = by (is_forward_on link d e) refl
 
 pub within : (plan : Plan) (h : History) → CauseLaw plan h → (link : ℕ) (d : Direction)
     → forwarded_count h link d ≤ length (accepted_tlps plan h link (entering_end link d))
-unfolding accepted_tlps_in forwarded_count
+unfolding accepted_tlps_in_list forwarded_count
 within plan [] cause link d = omega arith
 within plan ((e, Sealed ds) ∷ h) cause link d =
     let same = ap length (here_after plan h e (Sealed ds) cause link (entering_end link d)) in
@@ -106,11 +106,12 @@ within plan ((Reset k ends, v.Reset l) ∷ h) cause link d =
     by (clears_hop ends link) (let le = within plan h cause.1 link d in omega (arith, same, le))
   where
     by : (b : Bool) → forwarded_count h link d
-        ≤ length (accepted_tlps_in plan (sealed_packets plan ((Reset k ends, v.Reset l) ∷ h)) h link
+        ≤ length (accepted_tlps_in_list plan (sealed_packets plan ((Reset k ends, v.Reset l) ∷ h)) h link
         (entering_end link d))
         → (if b then 0 else forwarded_count h link d)
         ≤ length (if b then []
-        else accepted_tlps_in plan (sealed_packets plan ((Reset k ends, v.Reset l) ∷ h)) h link (entering_end link d))
+        else accepted_tlps_in_list plan (sealed_packets plan ((Reset k ends, v.Reset l) ∷ h)) h link
+        (entering_end link d))
     by true le = omega arith
     by false le = le
 within plan ((e, w) ∷ h) cause link d =

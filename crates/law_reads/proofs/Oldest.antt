@@ -8,7 +8,7 @@ use Rattle.std.specs.Option.{option_map_or}
 use Rattle.std.proofs.lemmas.Bool.{true≢false}
 use Rattle.spec_links.specs.Terms.{Write}
 use Rattle.spec_links.specs.Memory.{queued_reads, writes}
-use Rattle.spec_links.specs.Sent.{reads_taken, writes_in}
+use Rattle.spec_links.specs.Sent.{reads_taken, writes_in_list}
 use Rattle.trusted_memory.specs.Writes.{byte_last_written}
 use Rattle.trusted_memory.specs.Completions.{completion_bytes}
 use Rattle.script_events.specs.declared.event.AccessEvent.TheVariants as ae
@@ -48,8 +48,7 @@ first_means plan h link w take is = by (has_link plan link) (waiting_reads plan 
       known = known;
       read = r;
       oldest = drop_first (reads_taken h link) (queued_reads plan h link) r rs waits;
-      is =
-          is;
+      is = is;
     }
 
 -- the bytes that it seals: the completion, from what the writes so far left in memory
@@ -59,7 +58,8 @@ pub bytes_are : (plan : Plan) (h : History) (link : ℕ) (read : WaitingRead) �
 unfolding bytes_by
 bytes_are plan h link read cause oldest =
     ap (λ (o : Option WaitingRead). option_map_or
-    (λ (r : WaitingRead). completion_bytes (byte_last_written (writes_in plan (sealed_packets plan h) h)) r.read) o [])
+    (λ (r : WaitingRead). completion_bytes (byte_last_written (writes_in_list plan (sealed_packets plan h) h)) r.read) o
+    [])
     oldest
     ∙ ap (λ (ws : List Write). completion_bytes (byte_last_written ws) read.read)
     (writes_same plan h cause (sealed_packets plan h) ([], append-nil (sealed_packets plan h)))

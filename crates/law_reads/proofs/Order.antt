@@ -74,9 +74,8 @@ took_one plan h e w link n cause take same le = by (is_answer_on link e) refl
 pub takes_first : (plan : Plan) (h : History) → CauseLaw plan h → TakesFirst plan h
 unfolding reads_taken queued_in
 takes_first plan [] cause link = omega arith
-takes_first plan ((e, Sealed ds) ∷ h) cause link =
-    took_one plan h e (Sealed ds) link _ cause refl (ap length (here_after plan h e (Sealed ds) cause link))
-    (takes_first plan h cause.1 link)
+takes_first plan ((e, Sealed ds) ∷ h) cause link = took_one plan h e (Sealed ds) link _ cause refl
+    (ap length (here_after plan h e (Sealed ds) cause link)) (takes_first plan h cause.1 link)
 takes_first plan ((e, v.Access (av.Dropped i c)) ∷ h) cause link =
     took_one plan h e (v.Access (av.Dropped i c)) link _ cause refl
     (ap length (here_after plan h e (v.Access (av.Dropped i c)) cause link))

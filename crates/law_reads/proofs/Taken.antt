@@ -4,7 +4,7 @@ use Rattle.spec_links.proofs.Terms.{if◌then◌else◌, Plan, History, Event, V
 use Rattle.spec_links.proofs.Terms.{PortName, CauseLaw, SealedList, sealed_packets, Reset, is_same_port}
 use Rattle.spec_links.proofs.Growth.{packets_grow}
 use Rattle.spec_links.specs.Hops.{HopTlp, tlps_with, clears_hop}
-unfoldable use Rattle.spec_links.specs.Hops.{accepted_tlps_in}
+unfoldable use Rattle.spec_links.specs.Hops.{accepted_tlps_in_list}
 use Rattle.spec_links.specs.Memory.{accepted_tlps, plain_of, unit_ended}
 use Rattle.event_verdicts.specs.declared.verdict.Verdict.TheVariants as v
 use Rattle.law_reads.proofs.ByNumber.{IsBehind, behind_earlier, unit_same, unit_again}
@@ -14,9 +14,9 @@ abbrev pub tlps_of : Plan → PortName → UnitName → List Packet → List Hop
 tlps_of plan port unit ps = tlps_with (plain_of plan port unit ps) ps
 
 taken_same : (plan : Plan) (h : History) → CauseLaw plan h → (xs ys : SealedList) → IsBehind plan h xs
-    → IsBehind plan h ys → (link : ℕ) (end : PortName) → accepted_tlps_in plan xs h link end
-    ≡ accepted_tlps_in plan ys h link end
-unfolding accepted_tlps_in
+    → IsBehind plan h ys → (link : ℕ) (end : PortName) → accepted_tlps_in_list plan xs h link end
+    ≡ accepted_tlps_in_list plan ys h link end
+unfolding accepted_tlps_in_list
 taken_same plan [] cause xs ys left right link end = refl
 taken_same plan ((e, Accepted port unit effects) ∷ h) cause xs ys left right link end =
     let one = behind_earlier plan h e (Accepted port unit effects) xs left in
@@ -33,7 +33,7 @@ taken_same plan ((e, w) ∷ h) cause xs ys left right link end = taken_same plan
     (behind_earlier plan h e w xs left) (behind_earlier plan h e w ys right) link end
 
 pub here_after : (plan : Plan) (h : History) (e : Event) (w : Verdict) → CauseLaw plan ((e, w) ∷ h) → (link : ℕ)
-    (end : PortName) → accepted_tlps_in plan (sealed_packets plan ((e, w) ∷ h)) h link end
+    (end : PortName) → accepted_tlps_in_list plan (sealed_packets plan ((e, w) ∷ h)) h link end
     ≡ accepted_tlps plan h link end
 here_after plan h e w cause link end =
     let grown = packets_grow plan h e w in
@@ -47,7 +47,7 @@ pub taken_accepted : (plan : Plan) (h : History) (e : Event) (port : PortName) (
     ≡ (if is_same_port port end
     then accepted_tlps plan h link end ++ tlps_of plan port unit (unit_ended plan h e port unit)
     else accepted_tlps plan h link end)
-unfolding accepted_tlps_in
+unfolding accepted_tlps_in_list
 taken_accepted plan h e port unit effects cause link end =
     let before = here_after plan h e (Accepted port unit effects) cause link end in
     let same = unit_again plan h e port unit effects cause in

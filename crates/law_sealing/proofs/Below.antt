@@ -17,8 +17,7 @@ is_read bytes t is =
     record {
       head = record { fits = spells.fits.head; spelled = refl };
       size = spells.fits.size;
-      bytes =
-          spells.fits.bytes;
+      bytes = spells.fits.bytes;
     }
 
 pub is_cut : (p : Packet) → FitsPacket p → cut_of (packet_bytes p) ≡ Ok (IdePacket p)

@@ -66,8 +66,7 @@ module _ (plan : Plan) (fits : StreamsFit plan) (port : PortName) (stream : ℕ)
   aggregation = aggregation_of plan port.line stream
 
   same_draw : (xs : SealedList) (d : SealedPacket) → IsOf plan port stream live from class xs d
-      → (u : SubKind) (key : KeyName) → live u ≡ Some key
-      → is_same_sub d.sub u ≡ true → d.draw ≡ key.draw
+      → (u : SubKind) (key : KeyName) → live u ≡ Some key → is_same_sub d.sub u ≡ true → d.draw ≡ key.draw
   same_draw xs d of u key is here = cc (ap live (same_sub d.sub u here), of.live_is)
 
   -- what one packet does to an open unit
@@ -103,17 +102,15 @@ module _ (plan : Plan) (fits : StreamsFit plan) (port : PortName) (stream : ℕ)
 
   -- a posted packet has room in each count
   has_room : (xs : SealedList) (d : SealedPacket) → IsOf plan port stream live from class xs d
-      → Bounds plan port stream live from xs
-      → (u : SubKind) → is_posted u ≡ false → (key : KeyName) → live Pr ≡ Some key → is_posted d.sub ≡ true
-      → count xs u + aggregation ≤ 255 + unfinished xs Pr key.draw
+      → Bounds plan port stream live from xs → (u : SubKind) → is_posted u ≡ false → (key : KeyName)
+      → live Pr ≡ Some key → is_posted d.sub ≡ true → count xs u + aggregation ≤ 255 + unfinished xs Pr key.draw
   has_room xs d of bounds u other key is posted =
       let clear : unfinished xs Pr key.draw ≡ 0 → (count xs u + aggregation ≤ 255) ⊎ (count xs u ≡ 0) =
       λ empty. of.clear posted (rw (same_sub d.sub Pr posted, same_draw xs d of Pr key is posted) empty) u other in
       grind (arith, clear, bounds.open_room u other key is, aggregation_eight plan fits port.line stream)
 
   pub one_bounded : (xs : SealedList) (d : SealedPacket) (p : Packet) → IsOf plan port stream live from class xs d
-      → p.prefix.m ≡ d.m
-      → Bounds plan port stream live from xs → Bounds plan port stream live from (xs ++ (d, p) ∷ [])
+      → p.prefix.m ≡ d.m → Bounds plan port stream live from xs → Bounds plan port stream live from (xs ++ (d, p) ∷ [])
   one_bounded xs d p of m bounds = record {
     room = λ u key is.
         let one = unfinished-one xs d p of m u key is in
@@ -274,8 +271,7 @@ bounded plan fits facts [] law port stream = record {
   count = λ u other. omega arith;
   open_room = λ u other key is. inl refl;
 }
-bounded plan fits facts ((e, Sealed ds) ∷ h) law port stream =
-    keys_change plan fits facts h e (Sealed ds) law port stream
-    (sealing_bounded plan fits facts h e ds law port stream (bounded plan fits facts h law.1 port stream))
+bounded plan fits facts ((e, Sealed ds) ∷ h) law port stream = keys_change plan fits facts h e (Sealed ds) law port
+    stream (sealing_bounded plan fits facts h e ds law port stream (bounded plan fits facts h law.1 port stream))
 bounded plan fits facts ((e, w) ∷ h) law port stream = keys_change plan fits facts h e w law port stream
     (bounded plan fits facts h law.1 port stream)

@@ -10,8 +10,7 @@ use Rattle.event_verdicts.specs.declared.verdict.Operation.TheVariants as op
 use Rattle.event_verdicts.specs.declared.verdict.Verdict.TheVariants as v
 use Rattle.spec_keys.specs.Places.{KeyPlan}
 use Rattle.spec_keys.specs.Operations.{StreamStage, Idle, Establishing, Up, Refreshing, Work, Reach, StreamOperations}
-use Rattle.spec_keys.specs.Operations.{work_of}
-use Rattle.spec_keys.specs.Operations.{reach_of, makes_draw, manager_after_operation}
+use Rattle.spec_keys.specs.Operations.{work_of, reach_of, makes_draw, manager_after_operation}
 use Rattle.spec_keys.specs.Due.{PortView, ports_at, begun_if_pool_has, may_establish, may_refresh, unless_open}
 use Rattle.spec_keys.specs.Due.{if_secure, has_refresh, is_live_sender}
 unfoldable use Rattle.spec_keys.specs.Due.{key_due}
@@ -67,8 +66,7 @@ secure_finds pool next _ w finds = inr refl
 refresh_finds : (kp : KeyPlan) (next : ℕ) (o : StreamStage) (host : StreamStatus) (ports : PortView) (line stream : ℕ)
     (set : Bool) (w : Verdict) → (work_of op.Refresh o next).begins ≡ true
     → FindsBy kp.pool next op.Refresh (may_refresh kp line next o host (unless_open ports line stream set) w)
-refresh_finds kp next (Up current j) host ports line stream set w begins =
-    secure_finds kp.pool next host _
+refresh_finds kp next (Up current j) host ports line stream set w begins = secure_finds kp.pool next host _
     (open_finds kp.pool next ports line stream set _ (drawn_finds kp next op.Refresh w))
 refresh_finds kp next (Refreshing current j n) host ports line stream set w begins = absurd cc
 refresh_finds kp next _ host ports line stream set w begins = inr refl
@@ -104,9 +102,8 @@ draws_within kp ((event.Refresh line stream loss, w) ∷ h) cause =
     (λ begins makes. subst (FindsBy kp.pool (draws h) op.Refresh) (sym cause.0)
     (planned_finds kp.pool (draws h) op.Refresh (has_refresh kp line stream) _
     (refresh_finds kp (draws h) ((manager h).ops line stream) _ (ports_at h) line stream _ _ begins)))
-draws_within kp ((event.Stop line stream loss, w) ∷ h) cause =
-    begun_within kp.pool (manager h) op.Stop line stream (reach_of op.Stop w) (draws_within kp h cause.2)
-    (λ begins makes. absurd cc)
+draws_within kp ((event.Stop line stream loss, w) ∷ h) cause = begun_within kp.pool (manager h) op.Stop line stream
+    (reach_of op.Stop w) (draws_within kp h cause.2) (λ begins makes. absurd cc)
 draws_within kp ((event.Reset link ends, v.Reset l) ∷ h) cause = draws_within kp h cause.2
 draws_within kp ((event.Reset link ends, _) ∷ h) cause = draws_within kp h cause.2
 draws_within kp ((e, w) ∷ h) cause = draws_within kp h cause.2

@@ -94,8 +94,7 @@ front_is plan fits facts ((e, Sealed ds) ∷ h) law s j x up =
     base_is = base_kept plan facts h e (Sealed ds) law s j x up
 
     moved : ((i : ℕ) → i < j → sent_packets plan g s i ≡ sent_packets plan h s i)
-        → sum_sent plan h s (base h s.line s.stream) j
-        ≡ sum_sent plan g s (base g s.line s.stream) j
+        → sum_sent plan h s (base h s.line s.stream) j ≡ sum_sent plan g s (base g s.line s.stream) j
     moved kept =
         total-same from j (λ i. units_sent plan h s i) (λ i. units_sent plan g s i)
         (λ i above less. ap (λ ps. length (units ps)) (sym (kept i less)))

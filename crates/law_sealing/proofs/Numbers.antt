@@ -77,8 +77,7 @@ number_again : (n : ℕ) → n < 2 ^ 64 → big_number 8 (big_bytes 8 n) ≡ n
 number_again n less = big_number-reads_back 8 n [] less
 
 same_number : (d e : SealedPacket) → d.unit < 2 ^ 64 → e.unit < 2 ^ 64 → iv_used d ≡ iv_used e → d.unit ≡ e.unit
-same_number d e d_less e_less ivs =
-    sym (number_again d.unit d_less)
+same_number d e d_less e_less ivs = sym (number_again d.unit d_less)
     ∙ (ap (λ (iv : List ℕ). big_number 8 (drop 4 iv)) ivs ∙ number_again e.unit e_less)
 
 -- ---- packets of one sub-stream and draw
@@ -103,8 +102,7 @@ none_ends plan xs placed i k x y at also stream draw unit n z le less stands und
     done place = sub_stream_packets (take place xs) s x.0.draw
 
     next : done (suc n) ≡ done n ++ z.1 ∷ []
-    next =
-        ap (λ (ys : SealedList). sub_stream_packets ys s x.0.draw) (next_taken xs n z stands)
+    next = ap (λ (ys : SealedList). sub_stream_packets ys s x.0.draw) (next_taken xs n z stands)
         ∙ (sub_stream_packets-snoc (take n xs) z s x.0.draw ∙ rw under refl)
 
     by_end : (b : Bool) → z.1.prefix.m ≡ b → b ≡ false
@@ -142,8 +140,7 @@ module _ (plan : Plan) (fits : FitsPlan plan) (h : History) (law : CauseLaw plan
       ∙ (unit ∙ ap (λ (ps : List Packet). length (units ps) + 1) among.before)
 
   in_pool : (i : ℕ) (x : SealedPacket × Packet) → slice_get xs i ≡ Some x → x.0.draw < length plan.pool / 6
-  in_pool i x at =
-      omega (arith, below_draws plan h law i x at, draws_within (key_plan plan) h (key_cause plan h law))
+  in_pool i x at = omega (arith, below_draws plan h law i x at, draws_within (key_plan plan) h (key_cause plan h law))
 
   number_small : (i : ℕ) (x : SealedPacket × Packet) → slice_get xs i ≡ Some x → x.0.unit < 2 ^ 64
   number_small i x at = omega (arith, (unworn plan (draws_hold plan) h law).numbers i x at, fits.units_most)
@@ -170,5 +167,4 @@ module _ (plan : Plan) (fits : FitsPlan plan) (h : History) (law : CauseLaw plan
       }
 
 pub numbers_fresh : (plan : Plan) → FitsPlan plan → (h : History) → CauseLaw plan h → NumbersFresh plan h
-numbers_fresh plan fits h law =
-    record { counted = counted plan fits h law; fresh = fresh plan fits h law }
+numbers_fresh plan fits h law = record { counted = counted plan fits h law; fresh = fresh plan fits h law }

@@ -8,7 +8,7 @@ use Rattle.std.specs.Prelude.{◌≤◌, ◌++◌, Option, None, replicate, take
 use Rattle.std.proofs.Common.{refl}
 use Rattle.ide_types.specs.declared.plan.HopPlan.{HopPlan}
 use Rattle.ide_types.specs.declared.plan.PeerPlan.{PeerPlan}
-use Rattle.ide_types.specs.Fits.{FitsPlan, FitsLink, FitsStream, FitsAddresses, FitsHopIf, FitsPeer, is_aggregation}
+use Rattle.ide_types.specs.Fits.{FitsPlan, FitsLink, FitsStream, FitsAddresses, FitsHopIfAny, FitsPeer, is_aggregation}
 unfoldable use Rattle.spec_links.specs.Plan.{streams_by_line}
 use Rattle.spec_links.specs.Plan.{behind_links, behind_near, hop_by_link, hop_streams, in_eight, lone_stream}
 use Rattle.spec_links.specs.Plan.{peer_streams, streams_by_link}
@@ -74,7 +74,7 @@ lone_fits id aggregation most is = record {
   selector = (tt, omega arith, All-nil FitsAddresses);
 }
 
-hop_fits : (streams : List StreamPlan) (o : Option HopPlan) → FitsHopIf streams o → All FitsStream (hop_streams o)
+hop_fits : (streams : List StreamPlan) (o : Option HopPlan) → FitsHopIfAny streams o → All FitsStream (hop_streams o)
 hop_fits streams None fits = All-nil FitsStream
 hop_fits streams (Some o) fits = one_fits (lone_stream o.id 1) (lone_fits o.id 1 fits.id refl)
 

@@ -35,19 +35,17 @@ pub record IsOf (plan : Plan) (port : PortName) (stream : ℕ) (live : SubKind �
   pub sync : d.sync ≡ true → IsSyncOf d
   pub class_is : d.sync ≡ false → class ≡ d.sub
   -- if it begins a posted unit, no posted count gets too large within it
-  pub clear : is_posted d.sub ≡ true → length (open_unit (sub_stream_packets xs (lane_out port stream d.sub) d.draw))
-      ≡ 0
-      → (u : SubKind) → is_posted u ≡ false → posted_since_last xs (lane_out port stream u) from
-      + aggregation_of plan port.line
-      stream
-      ≤ 255 ⊎ (posted_since_last xs (lane_out port stream u) from ≡ 0)
+  pub clear : is_posted d.sub ≡ true
+      → length (open_unit (sub_stream_packets xs (lane_out port stream d.sub) d.draw)) ≡ 0 → (u : SubKind)
+      → is_posted u ≡ false
+      → posted_since_last xs (lane_out port stream u) from + aggregation_of plan port.line stream ≤ 255
+      ⊎ (posted_since_last xs (lane_out port stream u) from ≡ 0)
 
 abbrev pub AllOf : Plan → PortName → ℕ → (SubKind → Option KeyName) → ℕ → SubKind → SealedList → List SealedPacket
     → Type 0
 AllOf plan port stream live from class xs [] = Unit {0}
-AllOf plan port stream live from class xs (d ∷ ds) =
-    IsOf plan port stream live from class xs d ×
-    ((p : Packet) → AllOf plan port stream live from class (xs ++ (d, p) ∷ []) ds)
+AllOf plan port stream live from class xs (d ∷ ds) = IsOf plan port stream live from class xs d
+    × ((p : Packet) → AllOf plan port stream live from class (xs ++ (d, p) ∷ []) ds)
 
 -- ---- a description
 
@@ -80,8 +78,7 @@ module _ (plan : Plan) (facts : DrawFacts plan) (h : History) (law : CauseLaw pl
 
   -- that the posted count gets not too large within a unit that begins
   abbrev Clear : SealedList → SubKind → Type 0
-  Clear xs u =
-      is_posted s.class ≡ true → begins_unit (x.lane s.class) ≡ true
+  Clear xs u = is_posted s.class ≡ true → begins_unit (x.lane s.class) ≡ true
       → posted_since_last xs (lane u) from + aggregation ≤ 255 ⊎ (posted_since_last xs (lane u) from ≡ 0)
 
   -- it has a key, with which a unit may begin

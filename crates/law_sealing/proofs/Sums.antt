@@ -58,9 +58,8 @@ in_parts s j x under = (grind arith, grind (arith, nat_tests), same_stream (sub_
 
 -- the draws of each sub-stream never fall
 abbrev pub Rises : SealedList → Type 0
-Rises xs =
-    (s : SubStream) (i k : ℕ) (y z : SealedPacket × Packet) → i ≤ k → slice_get xs i ≡ Some y → slice_get xs k ≡ Some z
-    → is_same (sub_stream_of y.0) s ≡ true → is_same (sub_stream_of z.0) s ≡ true → y.0.draw ≤ z.0.draw
+Rises xs = (s : SubStream) (i k : ℕ) (y z : SealedPacket × Packet) → i ≤ k → slice_get xs i ≡ Some y → slice_get xs k
+    ≡ Some z → is_same (sub_stream_of y.0) s ≡ true → is_same (sub_stream_of z.0) s ≡ true → y.0.draw ≤ z.0.draw
 
 -- what is of a smaller draw was sealed before the place
 pub smaller_before : (xs : SealedList) (s : SubStream) (place d k : ℕ) (x : SealedPacket × Packet) → Rises xs
@@ -123,8 +122,7 @@ pub total_is : (xs : SealedList) (s : SubStream) (from n : ℕ)
     → AllByRecursion (λ (x : SealedPacket × Packet). is_same (sub_stream_of x.0) s ≡ true → x.0.draw < n) xs
     → total_in xs s from ≡ total from n (λ k. length (units (sub_stream_packets xs s k)))
 unfolding total_in
-total_is xs s from n below =
-    count_ends s from xs ∙ (sealed_total ends_one s from n xs below ∙ count_all xs s from n)
+total_is xs s from n below = count_ends s from xs ∙ (sealed_total ends_one s from n xs below ∙ count_all xs s from n)
 
 -- of two with the same sum, one nowhere above the other
 pub total-eq : (from n : ℕ) (f g : ℕ → ℕ) → ((k : ℕ) → from ≤ k → k < n → f k ≤ g k) → total from n f ≡ total from n g
@@ -139,8 +137,7 @@ total-eq from (suc n) f g le same k up less =
 pub total_within : (xs : SealedList) (s : SubStream) (from j : ℕ)
     → total from j (λ k. length (units (sub_stream_packets xs s k))) ≤ total_in xs s from
 unfolding total_in
-total_within xs s from j =
-    omega (arith, count_all xs s from j, count_ends s from xs, sealed_least ends_one s from j xs)
+total_within xs s from j = omega (arith, count_all xs s from j, count_ends s from xs, sealed_least ends_one s from j xs)
 
 -- ---- of a receiver
 

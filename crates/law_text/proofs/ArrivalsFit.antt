@@ -49,7 +49,7 @@ use Rattle.spec_links.specs.History.{SealedList, ArrivedBytes, arrival_of_event,
 use Rattle.spec_links.specs.History.{shortened_arrival, packet_by_number, sealed_packets, ahead_of_packet}
 use Rattle.spec_links.specs.History.{sub_stream_of, units_got, is_received_under, port_keys, on_draw, has_failed}
 use Rattle.spec_links.specs.History.{meets_counts, received_in, sent_bytes, sending_port}
-use Rattle.spec_links.specs.Due.{Ending, dump_due, arrival_due, ending_due, before_tag, before_tag_of, under_keys}
+use Rattle.spec_links.specs.Due.{Ending, dump_due, arrival_due, ending_due, before_tag, before_tag_of_cut, under_keys}
 use Rattle.spec_links.specs.Due.{is_mixed, is_overfull, receiving_sub_stream, next_unit_name, is_verified}
 use Rattle.spec_links.specs.Due.{unit_packets_ended, effects_of, through_due}
 use Rattle.spec_links.specs.Cause.{CauseLaw}
@@ -262,7 +262,7 @@ under_fits plan h port p there few stream (Some j) other is =
 
 cut_step_fits : (plan : Plan) → FitsPlan plan → (h : History) (a : ArrivedBytes) → FitsArrival plan a
     → length h < 2 ^ 28
-    → (r : Result CutValue PacketFault) → cut_of a.bytes ≡ r → FitsStep plan a.port (before_tag_of plan h a.port r)
+    → (r : Result CutValue PacketFault) → cut_of a.bytes ≡ r → FitsStep plan a.port (before_tag_of_cut plan h a.port r)
 cut_step_fits plan plan_fits h a fits few (Err f) cut = (fits.port, omega (arith, fits.size, cut_place a.bytes f cut))
 cut_step_fits plan plan_fits h a fits few (Ok PlainTlp) cut = fits.port
 cut_step_fits plan plan_fits h a fits few (Ok (IdePacket p)) cut = by_tests (has_stream plan a.port p.prefix.stream)
@@ -311,7 +311,7 @@ arrival_due_fits plan fits h cause few e allowed None is = tt
 arrival_due_fits plan fits h cause few e allowed (Some a) is =
     let arrives = arrival_fits plan fits h cause e allowed a is in
     settled_fits plan h a.port (before_tag plan h a)
-    (through_fits plan h a arrives (goes_through plan a.port a.bytes) (before_tag_of plan h a.port (cut_of a.bytes))
+    (through_fits plan h a arrives (goes_through plan a.port a.bytes) (before_tag_of_cut plan h a.port (cut_of a.bytes))
     (cut_step_fits plan fits h a arrives few (cut_of a.bytes) refl))
 
 pub dump_due_fits : (plan : Plan) → FitsPlan plan → (h : History) → CauseLaw plan h → length h < 2 ^ 28

@@ -44,9 +44,8 @@ leaving_known : (plan : Plan) (link : ℕ) (d : Direction) (hop : HopPlan) → l
     → link_hop (slice_get plan.links link) ≡ Some hop
     → is_some (stream_plan plan (leaving_end link d).line hop.id) ≡ true
 unfolding stream_plan
-leaving_known plan link d hop less is =
-    ap (λ (ss : List StreamPlan). is_some (with_id ss hop.id)) (leaving_row plan link d hop less is)
-    ∙ rw (eq-eqb hop.id hop.id refl) refl
+leaving_known plan link d hop less is = ap (λ (ss : List StreamPlan). is_some (with_id ss hop.id))
+    (leaving_row plan link d hop less is) ∙ rw (eq-eqb hop.id hop.id refl) refl
 
 waiting_fits : (plan : Plan) → FitsPlan plan → (h : History) → CauseLaw plan h → length h < 2 ^ 28 → (link : ℕ)
     (d : Direction) → has_hop plan link ≡ true → (xs : List HopTlp) → hop_waiting plan h link d ≡ xs
@@ -71,8 +70,6 @@ pub forward_due_fits : (plan : Plan) → FitsPlan plan → (h : History) → Cau
 forward_due_fits plan fits h cause few link d = by (has_hop plan link) refl
   where
     by : (b : Bool) → has_hop plan link ≡ b → Fits plan (due plan h (Forward link d))
-    by true known =
-        waiting_fits plan fits h cause few link d known (hop_waiting plan h link d) refl
+    by true known = waiting_fits plan fits h cause few link d known (hop_waiting plan h link d) refl
         (link_hop (slice_get plan.links link)) refl
-    by false none =
-        subst (Fits plan) (sym (forward_goes plan h link d false (hop_waiting plan h link d) none refl)) tt
+    by false none = subst (Fits plan) (sym (forward_goes plan h link d false (hop_waiting plan h link d) none refl)) tt

@@ -40,9 +40,10 @@ use Rattle.spec_interfaces.specs.Sites.{Site, site_at}
 use Rattle.spec_interfaces.specs.Views.{Managed, on_lock, on_report, on_start, on_halt, on_state, on_bind, on_operation}
 use Rattle.spec_interfaces.specs.Views.{managed_after, managed_view, stream_draw, number_in, view_broken}
 use Rattle.spec_interfaces.specs.Due.{AskedState, asked_state, unless_lost, if_unlocked, verdict_of_lock, lock_due}
-use Rattle.spec_interfaces.specs.Due.{if_locked_or_running, portions, reported_as, if_locked, if_reported, started_as}
-use Rattle.spec_interfaces.specs.Due.{verdict_of_bind, unbound_as, bind_due, unbind_due, op_status, start_due}
-use Rattle.spec_interfaces.specs.Due.{asked_due, interface_due, on_site, with_number, interface_verdict_due as own_due}
+use Rattle.spec_interfaces.specs.Due.{if_locked_or_running, portions, report_verdict, if_locked, if_reported}
+use Rattle.spec_interfaces.specs.Due.{started_as, verdict_of_bind, unbound_as, bind_due, unbind_due, op_status}
+use Rattle.spec_interfaces.specs.Due.{start_due, asked_due, interface_due, on_site, with_number}
+use Rattle.spec_interfaces.specs.Due.{interface_verdict_due as own_due}
 use Rattle.spec_interfaces.specs.Peers.{has_peer}
 unfoldable use Rattle.spec_interfaces.specs.Peers.{peer_end}
 use Rattle.ide_types.specs.Ports.{host_port, device_port}
@@ -127,7 +128,7 @@ few_portions : (size len : ℕ) → size ≤ 65535 → len ≤ 1140 → portions
 few_portions size len small short = omega (arith, div-le_self (len + size - 1) size, small, short)
 
 reported_fits : (plan : Plan) → FitsPlan plan → (x : Site) (loss : Option Loss) (o : Option Lock) → SiteFits x
-    → Fits plan (reported_as plan x loss (option_map (kept_report x.plan) o))
+    → Fits plan (report_verdict plan x loss (option_map (kept_report x.plan) o))
 reported_fits plan fits x loss None site = unless_fits plan loss 1 _ (omega arith) (omega arith, omega arith)
 reported_fits plan fits x loss (Some lock) site =
     unless_fits plan loss _ _ (few_portions plan.portion (length (kept_report x.plan lock)) fits.portion_most

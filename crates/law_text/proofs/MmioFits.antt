@@ -60,8 +60,7 @@ unless_bytes (Some cause) c w bytes = tt
 claimed_bytes : (o : Option Claim) (w : Write) (t : Bool) (stream draw : ℕ) → AreOctets w.payload
     → IfHappened (stored_by_claim o w t stream draw)
 claimed_bytes None w t stream draw bytes = tt
-claimed_bytes (Some c) w t stream draw bytes =
-    unless_bytes (mmio_cause c.status c.range w.span t stream draw) c w bytes
+claimed_bytes (Some c) w t stream draw bytes = unless_bytes (mmio_cause c.status c.range w.span t stream draw) c w bytes
 
 write_stored_bytes : (xs : List InterfaceStatus) (t : Bool) (stream draw : ℕ) (o : Option Write) → OfBytes o
     → IfHappened (write_happened xs t stream draw o)
@@ -116,8 +115,7 @@ halted_bytes plan w link (Some x) =
 reset_bytes : (plan : Plan) (w : Verdict) (link : ℕ) (o : Option Site)
     → AllByRecursion IfHappened (reset_at plan w link o)
 reset_bytes plan w link None = tt
-reset_bytes plan w link (Some x) =
-    if_bytes ((x.link == link) && changes_device w) (InterfaceReset (place_of plan x)) tt
+reset_bytes plan w link (Some x) = if_bytes ((x.link == link) && changes_device w) (InterfaceReset (place_of plan x)) tt
 
 asked_bytes : (plan : Plan) (e : Event) (w : Verdict) (link : ℕ)
     → AllByRecursion IfHappened (asked_happens plan e w link)
@@ -145,9 +143,8 @@ happened_bytes : (plan : Plan) (h : History) → CauseLaw plan h → (link : ℕ
     → AllByRecursion OfHappened (link_happenings plan h link)
 unfolding link_happenings
 happened_bytes plan [] cause link = tt
-happened_bytes plan ((e, w) ∷ h) cause link =
-    newest_bytes (happens plan h e w link) (link_happenings plan h link) (pair_bytes plan h cause.1 e w cause.0 link)
-    (happened_bytes plan h cause.1 link)
+happened_bytes plan ((e, w) ∷ h) cause link = newest_bytes (happens plan h e w link) (link_happenings plan h link)
+    (pair_bytes plan h cause.1 e w cause.0 link) (happened_bytes plan h cause.1 link)
 
 -- ---- what is shown
 

@@ -17,7 +17,7 @@ use Rattle.ide_types.specs.declared.plan.Plan.{Plan}
 use Rattle.ide_types.specs.Fits.{FitsPlan}
 use Rattle.ide_types.specs.Plans.{hop_has_id}
 use Rattle.ide_types.specs.Ends.{own_has_id, link_hop, peer_has_id, line_has, port_beside_end, hop_end, peer_end}
-use Rattle.ide_types.specs.Ends.{peer_end_at, end_at_port, end_at}
+use Rattle.ide_types.specs.Ends.{peer_end_at_port, end_at_port, end_at}
 use Rattle.ide_types.proofs.EndsFound.{port_is_one}
 use Rattle.spec_links.specs.Plan.{streams_of, with_id, stream_plan, has_link, has_port}
 use Rattle.spec_links.specs.Ports.{port_of, goes_to_hop, takes_none, outgoing_at, hop_lists, sealing_end, end_reached}
@@ -95,8 +95,7 @@ there_is plan fits e is = by (has_link plan e.line) refl is
     by true here is =
         let low = few_links plan fits e.line here in
         rw (lt-ltb e.line 8 low) (low_port e low)
-    by false other is =
-        let one = some_stream (streams_of plan e.line) is in with_stream plan fits e one.0 one.1
+    by false other is = let one = some_stream (streams_of plan e.line) is in with_stream plan fits e one.0 one.1
 
 pub port_is : (plan : Plan) → FitsPlan plan → (e : PortName) → has_port plan e ≡ true → is_port (port_of plan e) ≡ true
 port_is plan fits e is = of_port_at plan fits e (there_is plan fits e is)
@@ -144,8 +143,7 @@ found_is (p ∷ ps) n link id e is =
     by true false true has later is = here (device_port (peer_line n)) refl has is
     by true false false has later is =
         let f = later is in record { k = suc f.k; line = omega (arith, f.line); has = f.has }
-    by false b c has later is =
-        let f = later is in record { k = suc f.k; line = omega (arith, f.line); has = f.has }
+    by false b c has later is = let f = later is in record { k = suc f.k; line = omega (arith, f.line); has = f.has }
 
 peer_is : (plan : Plan) → FitsPlan plan → (link id : ℕ) (e : PortName) → peer_end plan.peers 0 link id ≡ Some e
     → is_port (port_beside_end plan.peers e) ≡ true
@@ -170,10 +168,9 @@ if_peer plan fits q id itself (Some e) found = peer_is plan fits q.line id e fou
 
 by_side : (plan : Plan) → FitsPlan plan → (s : Side) (l id : ℕ)
     → is_port (port_beside_end plan.peers (record { side = s; line = l })) ≡ true
-    → is_port (port_beside_end plan.peers (peer_end_at plan.peers (record { side = s; line = l }) id)) ≡ true
+    → is_port (port_beside_end plan.peers (peer_end_at_port plan.peers (record { side = s; line = l }) id)) ≡ true
 by_side plan fits Host l id itself = itself
-by_side plan fits Device l id itself =
-    if_peer plan fits (device_port l) id itself (peer_end plan.peers 0 l id) refl
+by_side plan fits Device l id itself = if_peer plan fits (device_port l) id itself (peer_end plan.peers 0 l id) refl
 
 -- the end that a stream's ID finds at a port
 pub found_at : (plan : Plan) → FitsPlan plan → (q : PortName) (id : ℕ) → is_port q ≡ true
@@ -184,20 +181,21 @@ found_at plan fits q id is = by (nat_lt q.line 8) refl
     itself = subst IsOne (sym (port_stays plan.peers q is)) is
 
     by_hop : (b : Bool) → nat_lt q.line 8 ≡ true
-        → is_port (port_beside_end plan.peers (if b then hop_end q.side q.line else peer_end_at plan.peers q id)) ≡ true
+        → is_port (port_beside_end plan.peers (if b then hop_end q.side q.line else peer_end_at_port plan.peers q id))
+        ≡ true
     by_hop true low = hop_is plan q.side q.line (ltb-true q.line 8 low)
     by_hop false low = by_side plan fits q.side q.line id itself
 
     by_own : (b : Bool) → nat_lt q.line 8 ≡ true → is_port (port_beside_end plan.peers (if b then q
         else if hop_has_id (link_hop (slice_get plan.links q.line)) id then hop_end q.side q.line
-        else peer_end_at plan.peers q id)) ≡ true
+        else peer_end_at_port plan.peers q id)) ≡ true
     by_own true low = itself
     by_own false low = by_hop (hop_has_id (link_hop (slice_get plan.links q.line)) id) low
 
     by : (b : Bool) → nat_lt q.line 8 ≡ b → is_port (port_beside_end plan.peers (if b then
         (if own_has_id (slice_get plan.links q.line) id then q
         else if hop_has_id (link_hop (slice_get plan.links q.line)) id then hop_end q.side q.line
-        else peer_end_at plan.peers q id) else q)) ≡ true
+        else peer_end_at_port plan.peers q id) else q)) ≡ true
     by true low = by_own (own_has_id (slice_get plan.links q.line) id) low
     by false high = itself
 
@@ -218,8 +216,7 @@ reached_is plan fits e bytes is = by (id_in bytes)
 has_hop : (plan : Plan) → FitsPlan plan → (link : ℕ) (x : Option LinkPlan) (bytes : List ℕ)
     → slice_get plan.links link ≡ x → hop_lists (link_hop x) (read_of bytes) ≡ true → link < 8
 has_hop plan fits link None bytes is lists = absurd (let never : ⊥ = cc in never)
-has_hop plan fits link (Some l) bytes is lists =
-    omega (arith, slice_get_within plan.links link l is, fits.links_most)
+has_hop plan fits link (Some l) bytes is lists = omega (arith, slice_get_within plan.links link l is, fits.links_most)
 
 pub sealing_is : (plan : Plan) → FitsPlan plan → (e : PortName) (bytes : List ℕ) → has_port plan e ≡ true
     → is_port (port_of plan (sealing_end plan e bytes)) ≡ true

@@ -83,9 +83,8 @@ due_lines plan h (e ∷ es) = due_lines plan (history_with_event plan h e) es �
 due_verdicts : (plan : Plan) → FitsPlan plan → (h : History) (es : List Event) → CauseLaw plan h → VerdictsFit plan h
     → length h + length es < 2 ^ 28 → AllByRecursion IsAllowed es → VerdictsFit plan (history_on plan h es)
 due_verdicts plan plan_fits h [] cause fits few each = fits
-due_verdicts plan plan_fits h (e ∷ es) cause fits few each =
-    due_verdicts plan plan_fits (history_with_event plan h e) es (refl, cause)
-    (due_fits plan plan_fits h cause (omega (arith, few)) e each.0, fits) (omega (arith, few)) each.1
+due_verdicts plan plan_fits h (e ∷ es) cause fits few each = due_verdicts plan plan_fits (history_with_event plan h e)
+    es (refl, cause) (due_fits plan plan_fits h cause (omega (arith, few)) e each.0, fits) (omega (arith, few)) each.1
 
 pub are_told : AreTold
 are_told plan plan_fits events allowed = record {

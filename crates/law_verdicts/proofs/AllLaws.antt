@@ -23,8 +23,7 @@ pub named_law : NamedLawHolds
 named_law plan h cause = pairs_due plan (IsNoneExactly plan) (none_exactly plan) h cause
 
 pub effect_law : EffectLawHolds
-effect_law plan h cause =
-    pairs_due plan (HasExactEffects plan) (λ g e w c. exact_effects plan g e w c.0) h cause
+effect_law plan h cause = pairs_due plan (HasExactEffects plan) (λ g e w c. exact_effects plan g e w c.0) h cause
 
 pub answer_law : AnswerLawHolds
 answer_law plan h cause = pairs_due plan (AnswersWhole plan) (answers_whole plan) h cause

@@ -168,7 +168,6 @@ answer_ends plan h link ds is =
 
 pub answers_whole : (plan : Plan) (h : History) (e : Event) (w : Verdict) → CauseLaw plan ((e, w) ∷ h)
     → AnswersWhole plan h e w
-answers_whole plan h (Access (ae.Answer link)) (Sealed ds) cause =
-    completes plan h link ds (read_law plan (draws plan) ((Access (ae.Answer link), Sealed ds) ∷ h) cause).0
-    (answer_ends plan h link ds cause.0)
+answers_whole plan h (Access (ae.Answer link)) (Sealed ds) cause = completes plan h link ds
+    (read_law plan (draws plan) ((Access (ae.Answer link), Sealed ds) ∷ h) cause).0 (answer_ends plan h link ds cause.0)
 answers_whole plan h e w cause = tt

@@ -305,8 +305,7 @@ effect_says plan policy n port unit p = by (is_sync_packet p) (at_switch plan po
         (not s && ((not c && b) && packet_asks_read plan policy.grants port unit p.prefix.t (read_head_of p.head))) n
     by true c b = record { queued = refl; full = refl }
     by false true b = record { queued = refl; full = refl }
-    by false false false =
-        neither _ n (device_neither (policy.statuses port.line) unit p (read_head_of p.head))
+    by false false false = neither _ n (device_neither (policy.statuses port.line) unit p (read_head_of p.head))
     by false false true = head_says plan policy n port unit p (read_head_of p.head)
 
 -- a port is a host's or a device's

@@ -7,7 +7,7 @@ use Rattle.spec_links.proofs.Terms.{UnitName, has_failed, is_quiet, first_that_h
 use Rattle.spec_links.proofs.Terms.{answer_first, site_answer, completion_verdict, outgoing_completion, judged_by}
 use Rattle.spec_links.proofs.Terms.{answer_judged, binding_cause, is_before, WaitingRead, waiting_reads, Site}
 use Rattle.spec_links.proofs.Terms.{site_of_requester, granted_to, live_key, lane_out, Cpl, ArrivedBytes, arrival_due}
-use Rattle.spec_links.proofs.Terms.{before_tag_of, has_link, sending_port, arrival_of_event, packet_by_number}
+use Rattle.spec_links.proofs.Terms.{before_tag_of_cut, has_link, sending_port, arrival_of_event, packet_by_number}
 use Rattle.spec_links.proofs.Terms.{sealed_packets, dump_due, stream_plan}
 use Rattle.spec_links.specs.Terms.{CutValue, PacketFault}
 unfoldable use Rattle.spec_links.proofs.Terms.{due, key_due, before_tag}
@@ -52,8 +52,7 @@ sealed_whole plan h e ds is =
 
 passed_whole : (plan : Plan) (h : History) (port : PortName) (p : Packet) (unit : UnitName)
     → Passed plan h port p unit → has_failed h port unit.stream ≡ false
-passed_whole plan h port p unit passed =
-    ap (λ (u : UnitName). has_failed h port u.stream) passed.named ∙ passed.secure
+passed_whole plan h port p unit passed = ap (λ (u : UnitName). has_failed h port u.stream) passed.named ∙ passed.secure
 
 -- ---- what fails
 
@@ -100,8 +99,7 @@ answer_by_fails plan h port interface draw (Some bound) out =
 answer_of_fails : (plan : Plan) (h : History) (port : PortName) (draw : ℕ) (o : Option Site) (out : Outgoing)
     → Fails h (site_answer plan h port draw o out)
 answer_of_fails plan h port draw None out = tt
-answer_of_fails plan h port draw (Some x) out =
-    answer_by_fails plan h port x.number draw (granted_to h (Some x)) out
+answer_of_fails plan h port draw (Some x) out = answer_by_fails plan h port x.number draw (granted_to h (Some x)) out
 
 answer_first_fails : (plan : Plan) (h : History) (port : PortName) (rs : List WaitingRead) (out : Outgoing)
     → Fails h (answer_first plan h port rs out)
@@ -110,15 +108,15 @@ answer_first_fails plan h port (r ∷ rs) out =
     answer_of_fails plan h port r.draw (site_of_requester plan port.line r.read.requester) out
 
 packet_fails : (plan : Plan) (h : History) (port : PortName) (p : Packet)
-    → Fails h (ending_due plan h port (before_tag_of plan h port (Ok (IdePacket p))))
-packet_fails plan h port p = by (ending_due plan h port (before_tag_of plan h port (Ok (IdePacket p)))) refl
+    → Fails h (ending_due plan h port (before_tag_of_cut plan h port (Ok (IdePacket p))))
+packet_fails plan h port p = by (ending_due plan h port (before_tag_of_cut plan h port (Ok (IdePacket p)))) refl
   where
-    by : (w : Verdict) → w ≡ ending_due plan h port (before_tag_of plan h port (Ok (IdePacket p))) → Fails h w
+    by : (w : Verdict) → w ≡ ending_due plan h port (before_tag_of_cut plan h port (Ok (IdePacket p))) → Fails h w
     by (v.Fail q stream sub cause) is = grind arith
     by w is = tt
 
 cut_fails : (plan : Plan) (h : History) (port : PortName) (r : Result CutValue PacketFault)
-    → Fails h (ending_due plan h port (before_tag_of plan h port r))
+    → Fails h (ending_due plan h port (before_tag_of_cut plan h port r))
 cut_fails plan h port (Err f) = tt
 cut_fails plan h port (Ok PlainTlp) = tt
 cut_fails plan h port (Ok (IdePacket p)) = packet_fails plan h port p
@@ -129,7 +127,7 @@ arrival_fails plan h None = tt
 arrival_fails plan h (Some a) = by (goes_through plan a.port a.bytes)
   where
     by : (b : Bool) → Fails h (ending_due plan h a.port
-        (if b then Err (through_due plan a.port) else before_tag_of plan h a.port (cut_of a.bytes)))
+        (if b then Err (through_due plan a.port) else before_tag_of_cut plan h a.port (cut_of a.bytes)))
     by true = tt
     by false = cut_fails plan h a.port (cut_of a.bytes)
 

@@ -5,7 +5,7 @@ use Rattle.spec_links.proofs.Terms.{ap, ◌∙◌, unless_open, draws, op_of, St
 use Rattle.spec_links.proofs.Terms.{stream_plan, History, Host, KeyPlan, Plan, Event, Verdict, if◌then◌else◌, is_some}
 use Rattle.spec_links.proofs.Terms.{history_status, has_link, List, [], ◌∷◌, Some, None, Result, Ok, Err, length, not}
 use Rattle.spec_links.proofs.Terms.{unwrap_or, InterfaceEvent, AllByRecursion, PortName, Packet, SealedPacket, CauseLaw}
-use Rattle.spec_links.proofs.Terms.{ArrivedBytes, arrival_due, before_tag_of, Access, WaitingRead, waiting_reads}
+use Rattle.spec_links.proofs.Terms.{ArrivedBytes, arrival_due, before_tag_of_cut, Access, WaitingRead, waiting_reads}
 use Rattle.spec_links.proofs.Terms.{send_due, answer_first, site_answer, completion_verdict, outgoing_completion}
 use Rattle.spec_links.proofs.Terms.{is_before, judged_by, answer_judged, binding_cause, first_that_holds, refusals}
 use Rattle.spec_links.proofs.Terms.{lanes_at, live_key, lane_out, Cpl, dump_due, Site, granted_to, site_of_requester}
@@ -35,12 +35,12 @@ use Rattle.spec_interfaces.specs.Terms.{View, has_register, kept_report, lock_of
 use Rattle.spec_interfaces.specs.Terms.{unbind_answer}
 use Rattle.spec_interfaces.specs.Sites.{site_at}
 use Rattle.spec_interfaces.specs.Views.{managed_view, stream_draw, number_in}
-use Rattle.spec_interfaces.specs.Devices.{around_at, interface_at}
+use Rattle.spec_interfaces.specs.Devices.{around_at_site, interface_at}
 use Rattle.spec_interfaces.specs.Peers.{has_peer}
 use Rattle.spec_interfaces.specs.Due.{unless_lost, host_status, if_unlocked, verdict_of_lock, lock_answer_at, lock_due}
-use Rattle.spec_interfaces.specs.Due.{asked_state, if_locked_or_running, portions, reported_as, if_locked, if_reported}
-use Rattle.spec_interfaces.specs.Due.{if_fresh, started_as, interface_due, on_site, verdict_of_bind, unbound_as}
-use Rattle.spec_interfaces.specs.Due.{op_status}
+use Rattle.spec_interfaces.specs.Due.{asked_state, if_locked_or_running, portions, report_verdict, if_locked}
+use Rattle.spec_interfaces.specs.Due.{if_reported, if_fresh, started_as, interface_due, on_site, verdict_of_bind}
+use Rattle.spec_interfaces.specs.Due.{unbound_as, op_status}
 unfoldable use Rattle.spec_interfaces.specs.Due.{interface_verdict_due}
 use Rattle.law_locks.proofs.{drop_first}
 use Rattle.law_locks.proofs.Answered.{reader_there}
@@ -102,7 +102,7 @@ unless_some (Some loss) n x is = if_either (nat_le 1 loss.exchange && nat_le los
 lock_some : (plan : Plan) (h : History) (x : Site) (loss : Option Loss)
     → IsSome (lock_due x (asked_state plan h x) loss)
 lock_some plan h x loss = by (managed_view h x).view (history_status h Host x.link x.plan.stream)
-    (lock_answer_at (around_at plan h x) x (interface_at plan h x))
+    (lock_answer_at (around_at_site plan h x) x (interface_at plan h x))
   where
     as_some : (answer : Result (List ℕ) ℕ) → IsSome (verdict_of_lock x answer)
     as_some answer = grind arith
@@ -112,7 +112,7 @@ lock_some plan h x loss = by (managed_view h x).view (history_status h Host x.li
     by view s answer = let q = unless_some loss 3 (verdict_of_lock x answer) (as_some answer) in grind arith
 
 report_some : (plan : Plan) (x : Site) (view : View) (loss : Option Loss) (o : Option (List ℕ))
-    → IsSome (if_locked_or_running view (reported_as plan x loss o))
+    → IsSome (if_locked_or_running view (report_verdict plan x loss o))
 report_some plan x view loss None = let q = unless_some loss 1 (v.RefusedDevice 1 4) refl in grind arith
 report_some plan x view loss (Some report) =
     let q = unless_some loss (portions plan.portion (length report)) (v.Interface (iv.Reported x.number report)) refl
@@ -161,9 +161,8 @@ own_exact plan h x (ie.Bind i line stream loss) n is =
     exact_if (has_peer plan.peers x.link line stream) _
     (bind_some x (managed_view h x).view (op_status (op_of h line stream)) (stream_draw h line stream)
     (managed_view h x).needs
-    line loss (bind_answer (interface_at plan h x) stream ((around_at plan h x).live stream)))
-own_exact plan h x (ie.Unbind i line stream loss) n is =
-    exact_if (has_peer plan.peers x.link line stream) _
+    line loss (bind_answer (interface_at plan h x) stream ((around_at_site plan h x).live stream)))
+own_exact plan h x (ie.Unbind i line stream loss) n is = exact_if (has_peer plan.peers x.link line stream) _
     (unbind_some x (managed_view h x).view line loss (unbind_answer (interface_at plan h x) stream))
 own_exact plan h x (ie.View i) n is = refl
 own_exact plan h x (ie.Write i register value) n is = exact_if (has_register x.plan register) _ refl
@@ -215,8 +214,7 @@ send_some plan h port (OnStream t stream) more trusted =
 forward_some : (plan : Plan) (h : History) (link : ℕ) (d : Direction) (xs : List HopTlp)
     → IsSome (forward_first plan h link d xs)
 forward_some plan h link d [] = refl
-forward_some plan h link d (x ∷ xs) =
-    send_some plan h (leaving_end link d) (forward_out plan h link d) false x.t
+forward_some plan h link d (x ∷ xs) = send_some plan h (leaving_end link d) (forward_out plan h link d) false x.t
 
 judged_some : (plan : Plan) (h : History) (port : PortName) (interface : ℕ) (bound : Binding) (o : Option BlockCause)
     (out : Outgoing) → IsSome (answer_judged plan h port out (judged_by interface bound o))
@@ -234,8 +232,7 @@ answer_by_some plan h port interface draw (Some bound) out =
 answer_of_some : (plan : Plan) (h : History) (port : PortName) (draw : ℕ) (o : Option Site) (out : Outgoing)
     → is_some o ≡ true → IsSome (site_answer plan h port draw o out)
 answer_of_some plan h port draw None out is = absurd cc
-answer_of_some plan h port draw (Some x) out is =
-    answer_by_some plan h port x.number draw (granted_to h (Some x)) out
+answer_of_some plan h port draw (Some x) out is = answer_by_some plan h port x.number draw (granted_to h (Some x)) out
 
 -- the requester of the oldest read is an interface of the link
 answer_some : (plan : Plan) (h : History) (link : ℕ) → CauseLaw plan h
@@ -258,19 +255,19 @@ answer_some plan h link cause = by (waiting_reads plan h link) refl
 -- ---- arrivals
 
 packet_not : (plan : Plan) (h : History) (port : PortName) (p : Packet)
-    → v.Nothing ≡ ending_due plan h port (before_tag_of plan h port (Ok (IdePacket p))) → ⊥
+    → v.Nothing ≡ ending_due plan h port (before_tag_of_cut plan h port (Ok (IdePacket p))) → ⊥
 packet_not plan h port p is = grind arith
 
 packet_some : (plan : Plan) (h : History) (port : PortName) (p : Packet)
-    → IsSome (ending_due plan h port (before_tag_of plan h port (Ok (IdePacket p))))
-packet_some plan h port p = by (ending_due plan h port (before_tag_of plan h port (Ok (IdePacket p)))) refl
+    → IsSome (ending_due plan h port (before_tag_of_cut plan h port (Ok (IdePacket p))))
+packet_some plan h port p = by (ending_due plan h port (before_tag_of_cut plan h port (Ok (IdePacket p)))) refl
   where
-    by : (w : Verdict) → w ≡ ending_due plan h port (before_tag_of plan h port (Ok (IdePacket p))) → IsSome w
+    by : (w : Verdict) → w ≡ ending_due plan h port (before_tag_of_cut plan h port (Ok (IdePacket p))) → IsSome w
     by v.Nothing is = absurd (packet_not plan h port p is)
     by w is = refl
 
 cut_value_some : (plan : Plan) (h : History) (port : PortName) (r : Result CutValue PacketFault)
-    → IsSome (ending_due plan h port (before_tag_of plan h port r))
+    → IsSome (ending_due plan h port (before_tag_of_cut plan h port r))
 cut_value_some plan h port (Err f) = refl
 cut_value_some plan h port (Ok PlainTlp) = refl
 cut_value_some plan h port (Ok (IdePacket p)) = packet_some plan h port p
@@ -282,7 +279,7 @@ arrival_exact plan h None = refl
 arrival_exact plan h (Some a) = by (goes_through plan a.port a.bytes)
   where
     by : (b : Bool) → IsSome (ending_due plan h a.port
-        (if b then Err (through_due plan a.port) else before_tag_of plan h a.port (cut_of a.bytes)))
+        (if b then Err (through_due plan a.port) else before_tag_of_cut plan h a.port (cut_of a.bytes)))
     by true = refl
     by false = cut_value_some plan h a.port (cut_of a.bytes)
 
@@ -308,8 +305,7 @@ due_exact plan h (event.Refresh line stream lose) cause =
     (refresh_some (key_plan plan) (op_of h line stream) (draws h) (history_status h Host line stream) (ports_at h) line
     stream (work_of op.Refresh (op_of h line stream) (draws h)).set _ (performed_some (ports_at h) line stream lose
     (work_of op.Refresh (op_of h line stream) (draws h))))
-due_exact plan h (event.Stop line stream lose) cause =
-    exact_if (is_some (stream_plan plan line stream)) _
+due_exact plan h (event.Stop line stream lose) cause = exact_if (is_some (stream_plan plan line stream)) _
     (performed_some (ports_at h) line stream lose (work_of op.Stop (op_of h line stream) (draws h)))
 due_exact plan h (event.Status line stream) cause = exact_if (is_some (stream_plan plan line stream)) _ refl
 due_exact plan h (event.Reset link ends) cause = exact_if (has_link plan link) _ refl
@@ -328,10 +324,8 @@ due_exact plan h (event.Interface (ie.Write i register value)) cause =
     site_exact plan h (ie.Write i register value) i refl
 due_exact plan h (event.Interface (ie.Flr i)) cause = site_exact plan h (ie.Flr i) i refl
 due_exact plan h (event.Interface (ie.Firmware i)) cause = site_exact plan h (ie.Firmware i) i refl
-due_exact plan h (event.Access (ae.Answer link)) cause =
-    exact_if (has_link plan link) _ (answer_some plan h link cause)
-due_exact plan h (event.Access (ae.Mmio i bar offset len)) cause =
-    range_exact plan h (site_at plan i) bar offset len
+due_exact plan h (event.Access (ae.Answer link)) cause = exact_if (has_link plan link) _ (answer_some plan h link cause)
+due_exact plan h (event.Access (ae.Mmio i bar offset len)) cause = range_exact plan h (site_at plan i) bar offset len
 due_exact plan h (event.Forward link d) cause =
     exact_if (has_hop plan link) _ (forward_some plan h link d (hop_waiting plan h link d))
 due_exact plan h (event.Send port bytes more trusted) cause =

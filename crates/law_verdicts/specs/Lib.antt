@@ -6,7 +6,7 @@ pub mod Statements
 pub use Rattle.law_verdicts.specs.Verdicts.{FailedLaw, NamedLaw, TrustLaw}
 pub use Rattle.law_verdicts.specs.Effects.{EffectLaw}
 pub use Rattle.law_verdicts.specs.Answers.{AnswerLaw}
-pub use Rattle.law_locks.specs.Locks.{Attested, LockLaw, Scrubbed, ViewsAreTrue}
+pub use Rattle.law_locks.specs.Locks.{ReportsAreShown, LockLaw, UnlockedIsScrubbed, ViewsAreTrue}
 pub use Rattle.law_locks.specs.Runs.{AnswersLaw, OneLockPerKey}
 -- what crates above cite
 pub use Rattle.law_locks.specs.Fronts.{AtEach, AtPairs}

@@ -44,8 +44,7 @@ changed_here (z ∷ xs) (suc i) f x y is at = changed_here xs i f x y is at
 
 seen_of : {A B : Type 0} (g : A → B) (o o' : Option A) (x y : A) → option_map g o' ≡ option_map g o → o ≡ Some x
     → o' ≡ Some y → g y ≡ g x
-seen_of g o o' x y same is at =
-    same_Some (g y) (g x)
+seen_of g o o' x y same is at = same_Some (g y) (g x)
     (ap (λ (p : Option _). option_map g p) (sym at) ∙ (same ∙ ap (λ (p : Option _). option_map g p) is))
 
 not_same : (i j : ℕ) → (i == j) ≡ false → i ≡ j → ⊥
@@ -265,8 +264,7 @@ module _ (plan : Plan) (v : EndsView) (k : KeeperView) (links : AreLinks plan v 
 
   rests_at : (end : PortName) (e : PortEnd) (q : LinePlace) → line_place end.line ≡ q → IsAtNone v end.side q
       → AllFollow v (with_port_on v end e)
-  rests_at end e q is none =
-      subst (λ (p : LinePlace). AllFollow v (with_port_at_place v end.side p e)) (sym is)
+  rests_at end e q is none = subst (λ (p : LinePlace). AllFollow v (with_port_at_place v end.side p e)) (sym is)
       (none_follow v end.side q e none)
 
   -- ---- no switch

@@ -44,7 +44,7 @@ use Rattle.spec_links.specs.Plan.{has_port, is_same_port}
 use Rattle.spec_links.specs.Ports.{port_of, at_switch, goes_through, end_reached}
 use Rattle.spec_links.specs.History.{ArrivedBytes}
 use Rattle.spec_links.specs.Hops.{entering_end, tlps_with}
-use Rattle.spec_links.specs.Guarded.{happens_by, unit_happenings}
+use Rattle.spec_links.specs.Guarded.{happens_by_packets, unit_happenings}
 use Rattle.spec_links.specs.Memory.{Policy, Grants, effects_under_policy, plain_of}
 use Rattle.join_interfaces.specs.{stepped_arrival, stepped_cut, unit_tlps, waiting_reads_after, unit_in}
 use Rattle.ide_port.specs.Arrivals.{TakeStep}
@@ -73,7 +73,7 @@ either_way false xs = refl
 
 pub unread_turn : (plan : Plan) (o : Option PortName) (ps : List Packet) (statuses : ℕ → List InterfaceStatus)
     (e : Event) (xs : List LinkAccesses) → IsQuiet plan e → AccessesTurn (waiting_reads_after plan ps e (left_unread o))
-    same_floors (λ link. happens_by plan statuses ps e (left_unread o) link)
+    same_floors (λ link. happens_by_packets plan statuses ps e (left_unread o) link)
     (carried_next (unit_tlps plan ps (left_unread o)) e (left_unread o)) xs xs
 unread_turn plan None ps statuses e xs quiet = rests_all _ _ _ _ xs (λ k. record {
   reads_rest = λ ws. refl;
@@ -153,8 +153,7 @@ some_is (Some x) some = (x, refl)
 settled_more : (s : Side) (line : ℕ) (old w : EndsView) → Grows 1 old w
     → Grows 1 old (settled_by_side (record { side = s; line = line }) w)
 settled_more Host line old w grows = grows
-settled_more Device line old w grows =
-    grows_then 1 0 old w (settled_link w line) grows (settled_grows w line)
+settled_more Device line old w grows = grows_then 1 0 old w (settled_link w line) grows (settled_grows w line)
 
 settled_links : (s : Side) (line : ℕ) (plan : Plan) (w : EndsView) (k : KeeperView) → AreLinks plan w k
     → AreLinks plan (settled_by_side (record { side = s; line = line }) w) k
@@ -344,7 +343,7 @@ module _ (plan : Plan) (end : PortName) (link : ℕ) (d : Direction) (end_is : e
       by false = refl
 
   none_happens : (statuses : ℕ → List InterfaceStatus) (e : Event) → IsQuiet plan e → (answer : Came) (k : ℕ)
-      (older : List Happened) → newest_happened (happens_by plan statuses ended e (says answer) k) older ≡ older
+      (older : List Happened) → newest_happened (happens_by_packets plan statuses ended e (says answer) k) older ≡ older
   none_happens statuses e quiet (came.Malformed fault) k older =
       ap (λ (hs : List (Option Happened)). newest_happened hs older) (quiet _ k)
   none_happens statuses e quiet came.Plain k older =
@@ -462,10 +461,11 @@ lands_waiting plan m end0 bytes verdict old c xs new ys w stays way here less co
                 let low : is_link_line w.0 ≡ true =
                 (let least = at.less in let most = links.fits.links_most in grind (arith, nat_tests)) in
                 subst (λ (zs : List LinkAccesses). AccessesTurn (waiting_reads_after plan ended ev verdict) same_floors
-                (λ link. happens_by plan statuses ended ev verdict link)
+                (λ link. happens_by_packets plan statuses ended ev verdict link)
                 (carried_next (unit_tlps plan ended verdict) ev verdict) xs zs) (sym y.accesses_are)
                 (subst (λ (u : Verdict). AccessesTurn (waiting_reads_after plan ended ev u) same_floors
-                (λ link. happens_by plan statuses ended ev u link) (carried_next (unit_tlps plan ended u) ev u) xs
+                (λ link. happens_by_packets plan statuses ended ev u link) (carried_next (unit_tlps plan ended u) ev u)
+                xs
                 (slice_set xs w.0 (record a.0 { carried = y.queues }))) (sym x.verdict_is)
                 (turn_at _ _ _ _ xs w.0 a.0 (record a.0 { carried = y.queues }) a.1 (record {
                   reads_are = sym (no_more_reads plan end w.0 w.1 at.end_is switch ended t.port.delivered ev t.answer

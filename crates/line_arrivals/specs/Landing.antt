@@ -11,10 +11,10 @@ use Rattle.spec_links.specs.Ports.{port_of}
 use Rattle.spec_links.specs.Packets.{arrival_at}
 use Rattle.spec_links.specs.History.{ArrivedBytes}
 use Rattle.spec_links.specs.Memory.{effects_under_policy}
-use Rattle.spec_links.specs.Guarded.{asked_happens, happens_by}
+use Rattle.spec_links.specs.Guarded.{asked_happens, happens_by_packets}
 use Rattle.join_interfaces.specs.{BesidePorts, LinkPacket, stepped_arrival, PortsStandFor, unit_tlps}
 use Rattle.join_interfaces.specs.{waiting_reads_after, unit_in}
-use Rattle.join_arrivals.specs.{carried_next, KeeperView, grants_in, writes_by, InterfacesView, EndsView, WaitsAt}
+use Rattle.join_arrivals.specs.{carried_next, KeeperView, grants_in, writes_by, InterfacesView, EndsView, WaitsAtEnd}
 use Rattle.join_arrivals.specs.{AreLinks, IsBounded, state_of}
 use Rattle.trusted_memory.specs.{MemoryContents, Leads}
 use Rattle.hop_queues.specs.declared.queues.HopQueues.{HopQueues}
@@ -31,7 +31,7 @@ pub record ComesToSwitch (old : EndsView) (end : PortName) (bytes : List ℕ) (l
   where
     pub queues : HopQueues
     pub accesses_are : ys ≡ slice_set xs link (record a { carried = queues })
-    pub waits : WaitsAt old end bytes direction verdict (all_roomy a.carried) new queues
+    pub waits : WaitsAtEnd old end bytes direction verdict (all_roomy a.carried) new queues
 
 abbrev pub ComesTo : EndsView → PortName → List ℕ → ℕ → Direction → Verdict → List LinkAccesses → EndsView
     → List LinkAccesses → Type 0
@@ -49,11 +49,10 @@ arrival_on plan end bytes = Some (arrival_at plan end bytes)
 
 -- effects are by what the manager says, by the reads that wait and by how the devices' interfaces stand
 abbrev pub HasEffects : Plan → InterfacesView → EndsView → List LinkAccesses → BesidePorts → Type 0
-HasEffects plan m old xs b =
-    b.effects ≡ (λ port. effects_under_policy plan (policy_in m old xs) (port_of plan port))
+HasEffects plan m old xs b = b.effects ≡ (λ port. effects_under_policy plan (policy_in m old xs) (port_of plan port))
 
 -- if the ends are those of the plan, and stand for some history
-pub record LandsOn (plan : Plan) (m : InterfacesView) (end : PortName) (bytes : List ℕ) (verdict : Verdict)
+pub record LandsIfStanding (plan : Plan) (m : InterfacesView) (end : PortName) (bytes : List ℕ) (verdict : Verdict)
     (old : EndsView) (c : MemoryContents) (xs : List LinkAccesses) (new : EndsView) (d : MemoryContents)
     (ys : List LinkAccesses) (k : KeeperView) (packets : List LinkPacket) : Type 0 where
   pub links : AreLinks plan new k
@@ -66,7 +65,7 @@ pub record LandsOn (plan : Plan) (m : InterfacesView) (end : PortName) (bytes : 
   pub turn : (e : Event) → IsQuiet plan e
       → let ps = unit_in plan (state_of plan old k packets) (arrival_on plan end bytes) in
       AccessesTurn (waiting_reads_after plan ps e verdict) same_floors
-      (λ link. happens_by plan (policy_in m old xs).statuses ps e verdict link)
+      (λ link. happens_by_packets plan (policy_in m old xs).statuses ps e verdict link)
       (carried_next (unit_tlps plan ps verdict) e verdict) xs ys
 
 -- bytes that arrive at the port of an end
@@ -80,4 +79,4 @@ pub record Lands (plan : Plan) (m : InterfacesView) (end : PortName) (bytes : Li
   pub regions : d.regions ≡ c.regions
   pub stands : (k : KeeperView) (packets : List LinkPacket) (h : History) → AreLinks plan old k
       → PortsStandFor plan (state_of plan old k packets) h → has_port plan end ≡ true
-      → LandsOn plan m end bytes verdict old c xs new d ys k packets
+      → LandsIfStanding plan m end bytes verdict old c xs new d ys k packets

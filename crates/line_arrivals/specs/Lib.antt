@@ -9,13 +9,13 @@ pub use Rattle.join_arrivals.specs.Events.{operation_event}
 pub use Rattle.join_arrivals.specs.{carried_next}
 pub use Rattle.join_interfaces.specs.Verdicts.{NoBadInterfaceReply, outcome_verdict, op_event, report_of}
 pub use Rattle.all_ends.specs.{PairEnds, arrival_of, secure_or_live, unit_in, unit_tlps, waiting_reads_after}
-pub use Rattle.all_ends.specs.{cut_packets, new_ends, port_in, InterfacesView, keyed_if, live_for}
-pub use Rattle.all_ends.specs.{operated_on, status_for, stopped_if, manager_told, IsAtBothEnds, IsOperated, IsWalked}
-pub use Rattle.all_ends.specs.{KeeperView, Operates, ends_found, arrival_verdict, end_sent_verdict, grants_in}
+pub use Rattle.all_ends.specs.{cut_packets, new_ends, port_in, InterfacesView, keyed_if, live_for_operation}
+pub use Rattle.all_ends.specs.{operated_on, status_for_operation, stopped_if, manager_told, IsAtBothEnds, IsOperated}
+pub use Rattle.all_ends.specs.{IsWalked, KeeperView, Operates, ends_found, arrival_verdict, end_sent_verdict, grants_in}
 pub use Rattle.all_ends.specs.{packet_effect, packet_write, unit_writes, writes_by, LinkEnds, HostKeeper}
-pub use Rattle.all_ends.specs.AllEnds.{ArrivesAt, AsksAt, CallsAt, IsThere, OperatesAt, OperatesByPlace, OperatesOnLink}
-pub use Rattle.all_ends.specs.AllEnds.{OperatesOnPair, ResetsAt, SendsAt, both_of, drawn_on_line, drawn_at_place}
-pub use Rattle.all_ends.specs.AllEnds.{statuses_of, told_by_line, told_by_place, IsTakenAtHost}
+pub use Rattle.all_ends.specs.AllEnds.{ArrivesAtEnd, AsksAtLink, CallsAtLink, IsThere, OperatesAt, OperatesByPlace}
+pub use Rattle.all_ends.specs.AllEnds.{OperatesOnLink, OperatesOnPair, ResetsAt, SendsAtEnd, both_of, drawn_on_line}
+pub use Rattle.all_ends.specs.AllEnds.{drawn_at_place, statuses_of, told_by_line, told_by_place, IsTakenAtHost}
 pub use Rattle.all_ends.specs.Ends.{EndsView, all_cleared, bound_on, bound_trust, changed_at, cleared_ends, cleared_on}
 pub use Rattle.all_ends.specs.Ends.{cleared_place, far_hop_trust, line_place, link_trust, live_at_port, live_of}
 pub use Rattle.all_ends.specs.Ends.{peer_live, new_all_ends, pair_port, port_at_place, port_on, reset_all}

@@ -23,8 +23,7 @@ has_line_by plan line =
 -- what is sent at this side of a link goes to its hop
 abbrev pub is_left_to_hop : Option LinkPlan → Side → List ℕ → Bool
 is_left_to_hop None side bytes = false
-is_left_to_hop (Some l) side bytes =
-    takes_none (outgoing_of l.streams side bytes) && hop_lists l.hop (read_of bytes)
+is_left_to_hop (Some l) side bytes = takes_none (outgoing_of l.streams side bytes) && hop_lists l.hop (read_of bytes)
 
 abbrev pub goes_to_hop_by : Plan → PortName → List ℕ → Bool
 goes_to_hop_by plan end bytes = is_left_to_hop (slice_get plan.links end.line) end.side bytes

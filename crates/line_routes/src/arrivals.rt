@@ -3,7 +3,7 @@
 ghost use Rattle.std.specs.Prelude.{◌≡◌, ◌≤◌, length, slice_get};
 ghost use Rattle.ide_types.specs.Plans.{hop_has_id as hop_has_its};
 ghost use Rattle.ide_types.specs.Ends.{end_at_port as end_on_port, peer_end as end_of_peer};
-ghost use Rattle.ide_types.specs.Ends.{link_hop, peer_end_at as end_of_peer_at};
+ghost use Rattle.ide_types.specs.Ends.{link_hop, peer_end_at_port as end_of_peer_at};
 ghost use Rattle.spec_links.specs.Ports.{id_in as id_of, end_reached as reached_by, goes_through as is_through};
 ghost use Rattle.line_routes.specs.Rows.{hop_line_has as hop_line_has_id, lacks_hop_stream};
 
@@ -60,7 +60,7 @@ fn peer_end(peers: &[PeerPlan], link: u8, id: u8) -> Option<PortName>
     None
 }
 
-fn peer_end_at(peers: &[PeerPlan], port: PortName, id: u8) -> PortName
+fn peer_end_at_port(peers: &[PeerPlan], port: PortName, id: u8) -> PortName
     requires { length peers.now ≤ 8 }
     ensures { result ≡ end_of_peer_at peers.now port id }
 {
@@ -85,7 +85,7 @@ fn end_at_port(plan: &Plan, port: PortName, id: u8) -> PortName
     } else if hop_has(plan, port.line, id) {
         hop_end(port.side, port.line)
     } else {
-        peer_end_at(plan.peers.as_slice(), port, id)
+        peer_end_at_port(plan.peers.as_slice(), port, id)
     }
 }
 

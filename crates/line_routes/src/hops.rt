@@ -1,11 +1,10 @@
 //! Hops of links.
 
 ghost use Rattle.std.specs.Prelude.{◌≡◌, ◌<◌};
-ghost use Rattle.spec_keys.specs.Places.{is_line_reset};
 ghost use Rattle.spec_links.specs.Hops.{has_hop as has_hop_in, leaving_end as leaving_end_of};
 ghost use Rattle.spec_links.specs.Hops.{clears_hop as clears_hop_of};
 
-use ide_types::{Direction, PortName, Side, ValidPlan};
+use ide_types::{Direction, PortName, Side, ValidPlan, has_end_of_line};
 
 /// Whether a link has a hop (this profile).
 pub fn has_hop(plan: &ValidPlan, link: u64) -> bool
@@ -32,16 +31,10 @@ pub fn leaving_end(link: u8, direction: Direction) -> PortName
     }
 }
 
-fn is_line_reset(ends: &[PortName], line: u8) -> bool
-    ensures { result ≡ is_line_reset ends.now line }
-{
-    ends.iter().any(|end| end.line == line)
-}
-
 /// Whether these ends that a reset clears are of both segments of the link's hop (this profile).
 pub fn clears_hop(ends: &[PortName], link: u8) -> bool
     requires { link < 8 }
     ensures { result ≡ clears_hop_of ends.now link }
 {
-    is_line_reset(ends, 8 + link) && is_line_reset(ends, 16 + link)
+    has_end_of_line(ends, 8 + link) && has_end_of_line(ends, 16 + link)
 }

@@ -8,7 +8,7 @@ use Rattle.key_host.specs.Streams.{has_host, end_asked}
 use Rattle.ide_types.specs.declared.port.Side.TheVariants.{Host, Device}
 use Rattle.link_ends.specs.declared.end.LineEnd.{LineEnd}
 use Rattle.link_ends.specs.declared.pair.PairEnds.{PairEnds}
-use Rattle.link_ends.specs.LineEnds.{answered_end, line_end_after, call_at_end, end_in, with_end}
+use Rattle.link_ends.specs.LineEnds.{answered_end, line_end_after, call_at_end, line_end_in, with_end}
 use Rattle.link_ends.specs.PairKeepers.{NoMorePairUnits}
 use Rattle.link_ends.proofs.Ports.{PortMoves}
 use Rattle.ide_port.specs.{UnitsGrow}
@@ -85,14 +85,15 @@ end_after_units e None = stays 0 e.port
 end_after_units e (Some c) = called-units (call_at_end e.side c) e.port
 
 answered_units : (side : Side) (l : PairEnds) (request : List ℕ) (draw : ℕ)
-    → NoMorePairUnits l (with_end side (answered_end (end_in side l) request draw) l)
+    → NoMorePairUnits l (with_end side (answered_end (line_end_in side l) request draw) l)
 answered_units Host l request draw =
     record { near = end_after_units l.near (call_of request draw); far = stays 0 l.far.port }
 answered_units Device l request draw =
     record { near = stays 0 l.near.port; far = end_after_units l.far (call_of request draw) }
 
 pub pair_units : {A : Type 0} (o : Option A) (side : A → Side) (request : A → List ℕ) (draw : A → ℕ) (l l' : PairEnds)
-    → IsSome o → IfSome o (λ (a : A). l' ≡ with_end (side a) (answered_end (end_in (side a) l) (request a) (draw a)) l)
+    → IsSome o → IfSome o
+    (λ (a : A). l' ≡ with_end (side a) (answered_end (line_end_in (side a) l) (request a) (draw a)) l)
     → NoMorePairUnits l l'
 pair_units None side request draw l l' there is = absurd cc
 pair_units (Some a) side request draw l l' there is =

@@ -4,8 +4,8 @@ use Rattle.link_ends.proofs.Terms.{if◌then◌else◌, slice_get, slice_set, Si
 use Rattle.link_ends.proofs.Terms.{reply_bytes, object_spelling, Loss, Judged, Expected, Refused, Bad, StreamOutcome}
 use Rattle.link_ends.proofs.Terms.{NextExchange, is_last_receiver_go, StreamView, asked_of_unfinished, exchange_asked}
 use Rattle.link_ends.proofs.Terms.{request_asked, outcome_of, taken_stream, taken_calls, ManagerView, current}
-use Rattle.link_ends.proofs.Terms.{current_in, current_if_there, current_asked, asking_after, IsAsked, StreamState}
-use Rattle.link_ends.proofs.Terms.{all_called_at, StreamEnds, Exchanged, exchange_outcome, exchanged_unless_lost}
+use Rattle.link_ends.proofs.Terms.{current_in_list, current_if_there, current_asked, asking_after, IsAsked, StreamState}
+use Rattle.link_ends.proofs.Terms.{all_called_at_side, StreamEnds, Exchanged, exchange_outcome, exchanged_unless_lost}
 use Rattle.link_ends.proofs.Terms.{exchange_if_lost, came_to, ends_after_exchange, shown_stream, port_called, goes}
 use Rattle.link_ends.proofs.Terms.{judged_bytes, Found, DeviceEnd, asked_device, reply_given, LinkEnds, lost_message}
 use Rattle.link_ends.proofs.Terms.{Pool, KeeperView, HasStream, IsAtBothEnds, DiffersInStream, IsExchanged, ap, subst}
@@ -27,7 +27,7 @@ keeper_read m0 m l0 l place id host device e on st = ap (λ (vs : List StreamVie
 
 pub current_is : (m : ManagerView) (place : ℕ) (keeper : StreamView) → m.asking ≡ Some place
     → slice_get m.streams place ≡ Some keeper → current m ≡ current_asked place keeper (asked_of_unfinished keeper.op)
-current_is m place keeper asking read = ap (λ (o : Option ℕ). current_in m.streams o) asking ∙ ap
+current_is m place keeper asking read = ap (λ (o : Option ℕ). current_in_list m.streams o) asking ∙ ap
     (λ (o : Option StreamView). current_if_there place o) read
 
 -- what a manager asks, seen as the keeper shows it
@@ -130,7 +130,7 @@ pub exchange_ends : (m0 m m' : ManagerView) (l0 l l' : LinkEnds) (place id : ℕ
     → IsExchanged m0 l0 place id loss a e result m' l'
 exchange_ends m0 m m' l0 l l' place id host device e a loss result j y on st is result_is after moves port requester =
     let called : HasStream l0.host id
-    (all_called_at l0.host.name.side (taken_calls true a j e.keeper.id) e.host)
+    (all_called_at_side l0.host.name.side (taken_calls true a j e.keeper.id) e.host)
     l'.host =
     all_there l0.host l.host l'.host id host e.host (taken_calls true a j e.keeper.id) on.host_found st.host
     (rw st.id_is (taken_at id a j)) moves in
@@ -141,7 +141,7 @@ exchange_ends m0 m m' l0 l l' place id host device e a loss result j y on st is 
       streams = ap (λ (k : ManagerView). k.streams) after ∙ ap
           (λ (vs : List StreamView). slice_set vs place (taken_stream true a j e.keeper)) st.streams
           ∙ set_again m0.streams place e.keeper (taken_stream true a j e.keeper);
-      host = subst (λ (s : Side). HasStream l0.host id (all_called_at s (taken_calls true a j e.keeper.id) e.host)
+      host = subst (λ (s : Side). HasStream l0.host id (all_called_at_side s (taken_calls true a j e.keeper.id) e.host)
           l'.host)
           on.host_side called;
       device = port;

@@ -42,12 +42,13 @@ same_done id a b None same at = refl
 same_done id a b (Some c) same at = rw (same c.place at) refl
 
 program_at_all : (id sel draw : ℕ) (key : List ℕ) (counter : ℕ) → IsAt id (selected_place id sel) → (b : Bool)
-    → (counter == 1) ≡ b → CallAt id (reading_call draw (objects.object_or (KeyProg id sel 0 key counter) None))
+    → (counter == 1) ≡ b → CallAt id (reading_call draw (objects.object_or_fault (KeyProg id sel 0 key counter) None))
 program_at_all id sel draw key counter at true e = rw e at
 program_at_all id sel draw key counter at false e = rw e tt
 
 pub program_at : (id sel draw : ℕ) (key : List ℕ) (counter : ℕ) → IsAt id (selected_place id sel)
-    → (fault : Option KmFault) → CallAt id (reading_call draw (objects.object_or (KeyProg id sel 0 key counter) fault))
+    → (fault : Option KmFault) → CallAt id
+    (reading_call draw (objects.object_or_fault (KeyProg id sel 0 key counter) fault))
 program_at id sel draw key counter at None = program_at_all id sel draw key counter at (counter == 1) refl
 program_at id sel draw key counter at (Some fault) = tt
 

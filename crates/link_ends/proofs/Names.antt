@@ -57,7 +57,7 @@ placed line id (v ∷ vs) place is =
 pub record IsNamed (m : ManagerView) (line id : ℕ) (n : Named) : Type 0 where
   pub read : slice_get m.streams n.place ≡ Some n.stream
   pub first : first_named line id m.streams ≡ Some n.stream
-  pub link_is : n.stream.line ≡ line
+  pub line_is : n.stream.line ≡ line
   pub id_is : n.stream.id ≡ id
   pub sets : (w : StreamView) → slice_set m.streams n.place w ≡ set_named line id w m.streams
 
@@ -72,7 +72,7 @@ by_place m line id n (Some place) at is =
     subst (λ (k : Named). IsNamed m line id k) same (record {
       read = p.read;
       first = p.first;
-      link_is = true-same p.stream.line line tests.0;
+      line_is = true-same p.stream.line line tests.0;
       id_is = true-same p.stream.id id tests.1;
       sets = p.sets;
     })

@@ -1,11 +1,11 @@
 -- An operation on one stream, from where the manager begins it or goes on with it.
 use Rattle.link_ends.proofs.Terms.{◌≡◌, ℕ, Bool, true, false, [], refl, sym, ◌∙◌, arith, Option, Some, None, Ok, Err}
 use Rattle.link_ends.proofs.Terms.{option_map, option_and_then, if◌then◌else◌, slice_set, Side, Pool, live_set}
-use Rattle.link_ends.proofs.Terms.{six_keys, Loss, Operation, Work, work, work_of, op_at_exchange, makes_draw}
+use Rattle.link_ends.proofs.Terms.{six_keys, Loss, Operation, Work, new_work, work_of, op_at_exchange, makes_draw}
 use Rattle.link_ends.proofs.Terms.{StreamOutcome, op_name, programs, StreamView, HostView, host_view}
 use Rattle.link_ends.proofs.Terms.{asked_of_unfinished, refusal_of, ok_unless, begun_stream, begun_calls, ManagerView}
 use Rattle.link_ends.proofs.Terms.{Named, named_stream, begin_refusal, begun_manager, pool_begun, calls_begun, IsAsked}
-use Rattle.link_ends.proofs.Terms.{pair_at, stream_status, all_called_at, stream_stop_calls, WalkedEnds, walk_on}
+use Rattle.link_ends.proofs.Terms.{pair_at, stream_status, all_called_at_side, stream_stop_calls, WalkedEnds, walk_on}
 use Rattle.link_ends.proofs.Terms.{walked_ends_unless, begun_ends, event_walk, PortEnd, Found, found_stream}
 use Rattle.link_ends.proofs.Terms.{port_stream_status, live_in_port, LinkEnds, KeeperView, HasStream, IsAtBothEnds}
 use Rattle.link_ends.proofs.Terms.{DiffersInStream, IsWalked, Walks, IsOperated, ends_found, ap, subst}
@@ -14,7 +14,7 @@ use Rattle.key_host.specs.declared.operation.NamedOperation.{NamedOperation}
 use Rattle.key_host.specs.declared.operation.StreamOutcome.TheVariants as outcome
 use Rattle.key_host.specs.declared.operation.StreamRefusal.{StreamRefusal}
 use Rattle.join_keys.specs.Joined.{host_of}
-use Rattle.join_keys.proofs.Works.{begun_id, begun_link}
+use Rattle.join_keys.proofs.Works.{begun_id, begun_line}
 use Rattle.ide_types.specs.Lines.{is_hosted}
 use Rattle.key_host.specs.Streams.{has_host}
 use Rattle.ide_types.proofs.Places.{set_read}
@@ -46,7 +46,7 @@ not_refused o is = grind arith
 -- ---- what it asks when it begins, or goes on
 
 standing_first : (o : Operation) (set : Bool) (draw f : ℕ) (b : Bool)
-    → IsAsked true (asked_of_unfinished (op_at_exchange (work o set draw f b) 1))
+    → IsAsked true (asked_of_unfinished (op_at_exchange (new_work o set draw f b) 1))
 standing_first o set draw f b = grind arith
 
 begun_asked : (w : Work) (pool : Pool) (s : StreamView) → IsAsked true (asked_of_unfinished s.op)
@@ -140,7 +140,7 @@ module _ (k : KeeperView) (m1 : ManagerView) (pool1 : Pool) (l : LinkEnds) (host
       (refusal, hosted) at
       moves in
       let moved : HasStream l.host id
-      (all_called_at l.host.name.side (begun_calls true begun_work k.pool n.stream.id) host.state) host1 =
+      (all_called_at_side l.host.name.side (begun_calls true begun_work k.pool n.stream.id) host.state) host1 =
       all_there l.host l.host host1 id host host.state (begun_calls true begun_work k.pool n.stream.id) on.host_found
       (stream_stands l.host id host on.host_found)
       (rw at_name.id_is (begun_at id begun_work k.pool)) moved in
@@ -148,10 +148,11 @@ module _ (k : KeeperView) (m1 : ManagerView) (pool1 : Pool) (l : LinkEnds) (host
       (record { host = host1; device = l.device }) =
       record {
         id_is = begun_id true begun_work k.pool n.stream ∙ at_name.id_is;
-        hosted = ap is_hosted (begun_link true begun_work k.pool n.stream) ∙ hosted;
+        hosted = ap is_hosted (begun_line true begun_work k.pool n.stream) ∙ hosted;
         streams = ap (λ (m : ManagerView). m.streams) after;
         host = subst (λ (d : Side). HasStream l.host id
-            (all_called_at d (begun_calls true begun_work k.pool n.stream.id) host.state) host1) on.host_side moved;
+            (all_called_at_side d (begun_calls true begun_work k.pool n.stream.id) host.state) host1) on.host_side
+            moved;
         device = stream_stands l.device.port id device on.device_found;
         requester = refl;
       } in

@@ -21,8 +21,8 @@ use Rattle.key_host.specs.declared.exchange.Exchange.TheVariants as exchange
 use Rattle.join_keys.specs.Paired.{PairStreams, PairExchanged, pair_exchanged, pair_after, came_to_end}
 use Rattle.join_keys.specs.Paired.{pair_unless_lost}
 use Rattle.join_keys.proofs.PairTurns.{PairTurn, pair_puts, pair_goes, pair_stops, pair_turn}
-use Rattle.link_ends.specs.LineEnds.{own_direction, at_end, shown_end, line_end_after, answered_end, end_reply, end_in}
-use Rattle.link_ends.specs.LineEnds.{with_end}
+use Rattle.link_ends.specs.LineEnds.{own_direction, at_end, shown_end, line_end_after, answered_end, end_reply}
+use Rattle.link_ends.specs.LineEnds.{line_end_in, with_end}
 use Rattle.link_ends.specs.declared.end.LineEnd.{LineEnd}
 use Rattle.link_ends.specs.declared.pair.PairEnds.{PairEnds}
 use Rattle.link_ends.specs.PairKeepers.{IsAtBoth, DiffersInPair, IsPairExchanged}
@@ -124,8 +124,8 @@ module _ (m0 m : ManagerView) (l0 l : PairEnds) (place id : ℕ) (near far : Fou
     (st : DiffersInPair m0 l0 place id e m l)
     (asked : IsAsked false (Some a)) where
   pub is_pair_delivered : (side : Side) → end_asked false a ≡ side → after ≡ with_end side
-      (answered_end (end_in side l) (object_spelling (request_asked false a e.keeper)) a.draw) l
-      → reply ≡ end_reply (end_in side l) (object_spelling (request_asked false a e.keeper)) a.draw
+      (answered_end (line_end_in side l) (object_spelling (request_asked false a e.keeper)) a.draw) l
+      → reply ≡ end_reply (line_end_in side l) (object_spelling (request_asked false a e.keeper)) a.draw
       → IsPairDelivered l0 id a e after reply
   is_pair_delivered Host at after_is reply_is =
       let request : List ℕ = object_spelling (request_asked false a e.keeper) in

@@ -1,11 +1,11 @@
 -- An operation on one stream of a line that is keyed by messages at both ends, from where the manager begins it or goes
 -- on with it.
 use Rattle.link_ends.proofs.Terms.{◌≡◌, ℕ, Bool, false, List, [], refl, sym, ◌∙◌, arith, Option, Some, None, Ok, Err}
-use Rattle.link_ends.proofs.Terms.{slice_set, Pool, Loss, Operation, Work, work, work_of, op_at_exchange, StreamOutcome}
-use Rattle.link_ends.proofs.Terms.{op_name, StreamView, HostView, asked_of_unfinished, refusal_of, ok_unless}
-use Rattle.link_ends.proofs.Terms.{begun_stream, begun_calls, ManagerView, Named, named_stream, begin_refusal}
-use Rattle.link_ends.proofs.Terms.{begun_manager, pool_begun, calls_begun, IsAsked, PortEnd, Found, found_stream}
-use Rattle.link_ends.proofs.Terms.{KeeperView, HasStream, PlaceCall, ap, subst}
+use Rattle.link_ends.proofs.Terms.{slice_set, Pool, Loss, Operation, Work, new_work, work_of, op_at_exchange}
+use Rattle.link_ends.proofs.Terms.{StreamOutcome, op_name, StreamView, HostView, asked_of_unfinished, refusal_of}
+use Rattle.link_ends.proofs.Terms.{ok_unless, begun_stream, begun_calls, ManagerView, Named, named_stream}
+use Rattle.link_ends.proofs.Terms.{begin_refusal, begun_manager, pool_begun, calls_begun, IsAsked, PortEnd, Found}
+use Rattle.link_ends.proofs.Terms.{found_stream, KeeperView, HasStream, PlaceCall, ap, subst}
 use Rattle.key_host.specs.declared.operation.NamedOperation.{NamedOperation}
 use Rattle.key_host.specs.declared.operation.StreamOutcome.TheVariants as outcome
 use Rattle.key_host.specs.declared.operation.StreamRefusal.{StreamRefusal}
@@ -14,6 +14,7 @@ use Rattle.ide_types.specs.Lines.{is_hosted}
 use Rattle.link_ends.specs.declared.pair.PairEnds.{PairEnds}
 use Rattle.join_keys.specs.Joined.{host_of}
 use Rattle.join_keys.specs.Paired.{PairWalked, pair_walk, pair_walked_unless, begun_pair, pair_event}
+use Rattle.join_keys.proofs.Works.{begun_id, begun_line}
 use Rattle.link_ends.specs.PairKeepers.{IsAtBoth, DiffersInPair, IsPairWalked, PairWalks, IsPairOperated, pair_found}
 use Rattle.ide_types.proofs.Places.{set_read}
 use Rattle.link_ends.proofs.Ports.{PortMoves, stream_stands}
@@ -23,7 +24,7 @@ use Rattle.link_ends.proofs.Operates.{host_port_view, host_seen, refused_by, not
 -- ---- what it asks when it begins, or goes on
 
 standing_first : (o : Operation) (set : Bool) (draw f : ℕ) (b : Bool)
-    → IsAsked false (asked_of_unfinished (op_at_exchange (work o set draw f b) 1))
+    → IsAsked false (asked_of_unfinished (op_at_exchange (new_work o set draw f b) 1))
 standing_first o set draw f b = grind arith
 
 begun_asked : (w : Work) (pool : Pool) (s : StreamView) → IsAsked false (asked_of_unfinished s.op)
@@ -32,12 +33,6 @@ begun_asked w pool s asked = grind (arith, standing_first w.operation w.set w.dr
 
 pair_begun_calls : (w : Work) (pool : Pool) (id : ℕ) → begun_calls false w pool id ≡ []
 pair_begun_calls w pool id = grind arith
-
-pair_begun_link : (w : Work) (pool : Pool) (s : StreamView) → (begun_stream false w pool s).line ≡ s.line
-pair_begun_link w pool s = grind arith
-
-pair_begun_id : (w : Work) (pool : Pool) (s : StreamView) → (begun_stream false w pool s).id ≡ s.id
-pair_begun_id w pool s = grind arith
 
 -- ---- an operation of the name
 
@@ -123,8 +118,8 @@ module _ (k : KeeperView) (m1 : ManagerView) (pool1 : Pool) (l : PairEnds) (near
         let st : DiffersInPair k.manager l n.place id (begun_pair begun_work k.pool (pair_found n near far)) m1
         (record l { near = record l.near { port = near1 } }) =
         record {
-          id_is = pair_begun_id begun_work k.pool n.stream ∙ at_name.id_is;
-          paired = ap is_hosted (pair_begun_link begun_work k.pool n.stream) ∙ paired;
+          id_is = begun_id false begun_work k.pool n.stream ∙ at_name.id_is;
+          paired = ap is_hosted (begun_line false begun_work k.pool n.stream) ∙ paired;
           streams = ap (λ (m : ManagerView). m.streams) after;
           near = subst (λ (p : PortEnd). HasStream l.near.port id near.state p) (sym same)
               (stream_stands l.near.port id near on.near_found);

@@ -1,7 +1,7 @@
 -- One exchange after another, on a line that is keyed by messages at both ends.
 use Rattle.link_ends.proofs.Terms.{◌≡◌, ℕ, suc, zero, ◌+◌, ◌≤◌, Bool, true, false, refl, sym, ◌∙◌, arith, Option, Some}
-use Rattle.link_ends.proofs.Terms.{None, is_some, Loss, Operation, op_at_exchange, work, last_exchange_of, nat_tests}
-use Rattle.link_ends.proofs.Terms.{Judged, Expected, Refused, Bad, StreamOutcome, NextExchange, StreamView}
+use Rattle.link_ends.proofs.Terms.{None, is_some, Loss, Operation, op_at_exchange, new_work, last_exchange_of}
+use Rattle.link_ends.proofs.Terms.{nat_tests, Judged, Expected, Refused, Bad, StreamOutcome, NextExchange, StreamView}
 use Rattle.link_ends.proofs.Terms.{asked_of_unfinished, outcome_of, taken_stream, ManagerView, current, current_asked}
 use Rattle.link_ends.proofs.Terms.{asking_after, IsAsked, Found, ap, subst}
 use Rattle.key_slots.specs.{is_one}
@@ -18,7 +18,7 @@ use Rattle.link_ends.proofs.PairCarried.{pair_keeper_read}
 -- ---- the exchange after one that was acknowledged
 
 next_asked : (o : Operation) (set : Bool) (draw n k : ℕ) → 1 ≤ k → k ≤ last_exchange_of false o
-    → IsAsked false (asked_of_unfinished (op_at_exchange (work o set draw n false) k))
+    → IsAsked false (asked_of_unfinished (op_at_exchange (new_work o set draw n false) k))
 next_asked o set draw n k least most = grind arith
 
 goes_next : (a : NextExchange) (s : StreamView) → IsAsked false (Some a) → outcome_of false a Expected ≡ outcome.Next

@@ -1,7 +1,7 @@
 -- Calls of key management at a port, on one of its streams.
 use Rattle.link_ends.proofs.Terms.{◌≡◌, ℕ, Bool, true, List, [], ◌∷◌, refl, sym, ◌∙◌, rules, Option, Some, nat_lt, Side}
 use Rattle.link_ends.proofs.Terms.{Place, PlaceCall, place_at, CallsMove, programs, goes, stream_stop_calls}
-use Rattle.link_ends.proofs.Terms.{StreamState, sends_in, stream_after_call, all_called_at, PortEnd, Found}
+use Rattle.link_ends.proofs.Terms.{StreamState, sends_in, stream_after_call, all_called_at_side, PortEnd, Found}
 use Rattle.link_ends.proofs.Terms.{found_stream, changed_states, slot_pair_at, unfinished_at, called_port, HasStream}
 use Rattle.link_ends.proofs.Terms.{found_stream-id, found_stream-changed_states, ap, subst}
 use Rattle.ide_types.specs.declared.direction.Direction.{Direction}
@@ -48,14 +48,13 @@ AllAt id [] = Unit {0}
 AllAt id (c ∷ cs) = IsAt id c.place × AllAt id cs
 
 abbrev pub PortMoves : PortEnd → List PlaceCall → PortEnd → Type 0
-PortMoves before cs after =
-    CallsMove (λ port place. slot_pair_at port place) (λ port place. unfinished_at port place)
+PortMoves before cs after = CallsMove (λ port place. slot_pair_at port place) (λ port place. unfinished_at port place)
     (λ before call after. after ≡ called_port call before) before cs after
 
 -- one after another, they are calls of the stream
 pub all_there : (e e' e2 : PortEnd) (id : ℕ) (f : Found) (x : StreamState) (cs : List PlaceCall)
     → found_stream e.plans e.states id ≡ Some f → HasStream e id x e' → AllAt id cs
-    → PortMoves e' cs e2 → HasStream e id (all_called_at e.name.side cs x) e2
+    → PortMoves e' cs e2 → HasStream e id (all_called_at_side e.name.side cs x) e2
 all_there e e' e2 id f x [] is has at moves = subst (λ (p : PortEnd). HasStream e id x p) (sym moves) has
 all_there e e' e2 id f x (c ∷ cs) is has at moves =
     let step : HasStream e id (state_moved c e.name.side x) moves.0 =

@@ -1,5 +1,5 @@
 -- Words that several proofs take.
-pub use Rattle.join_keys.specs.Calls.{all_called_at}
+pub use Rattle.join_keys.specs.Calls.{all_called_at_side}
 pub use Rattle.link_ends.specs.DeviceEnds.{DeviceEnd, after_call, asked_device, reply_given}
 pub use Rattle.key_messages.specs.declared.place.Place.{Place}
 pub use Rattle.key_messages.specs.{PlaceCall, SlotsShown, reading_call, call_of, is_done, place_at, reply_bytes}
@@ -9,7 +9,7 @@ pub use Rattle.ide_port.specs.{Found, PortEnd, called_port, changed_states, foun
 pub use Rattle.ide_port.specs.{port_stream_status, unfinished_at}
 pub use Rattle.ide_types.specs.declared.port.Side.{Side}
 pub use Rattle.spec_keys.proofs.Tests.{both-true, same-true, true-same}
-pub use Rattle.spec_keys.specs.Operations.{Work, last_exchange_of, makes_draw, op_at_exchange, work, work_of}
+pub use Rattle.spec_keys.specs.Operations.{Work, last_exchange_of, makes_draw, op_at_exchange, new_work, work_of}
 pub use Rattle.key_slots.specs.{Pool, SlotPair, live_set, six_keys}
 pub use Rattle.link_ends.specs.Keepers.{Exchanges, HasStream, IsExchanged, IsAtBothEnds, IsOperated, IsWalked}
 pub use Rattle.link_ends.specs.Keepers.{KeeperView, KeysAlone, DiffersInStream, Walks, ends_found}
@@ -32,8 +32,8 @@ pub use Rattle.key_host.specs.Exchanges.{exchange_of, is_last_receiver_go, reque
 pub use Rattle.key_slots.specs.Wires.{WireKeys}
 pub use Rattle.key_host.specs.Local.{CallsMove, goes, stream_stop_calls, programs}
 pub use Rattle.key_host.specs.Managers.{Current, ManagerView, Named, asking_after, begin_refusal, begun_manager}
-pub use Rattle.key_host.specs.Managers.{calls_begun, calls_taken, current, current_asked, current_if_there, current_in}
-pub use Rattle.key_host.specs.Managers.{named_stream, named_in, op_named, pool_begun}
+pub use Rattle.key_host.specs.Managers.{calls_begun, calls_taken, current, current_asked, current_if_there}
+pub use Rattle.key_host.specs.Managers.{current_in_list, named_stream, named_in, op_named, pool_begun}
 pub use Rattle.key_host.specs.Operations.{op_name}
 pub use Rattle.key_host.specs.Streams.{HostView, StreamView, asked_of_unfinished, begun_calls, begun_stream}
 pub use Rattle.key_host.specs.Streams.{exchange_asked, host_view, is_named, ok_unless, outcome_of, refusal_of}

@@ -1,7 +1,7 @@
 -- One exchange after another.
 use Rattle.link_ends.proofs.Terms.{◌≡◌, ℕ, suc, zero, ◌+◌, ◌≤◌, Bool, true, false, refl, sym, ◌∙◌, arith, Option, Some}
-use Rattle.link_ends.proofs.Terms.{None, is_some, Loss, Operation, op_at_exchange, work, last_exchange_of, nat_tests}
-use Rattle.link_ends.proofs.Terms.{Judged, Expected, Refused, Bad, StreamOutcome, NextExchange, StreamView}
+use Rattle.link_ends.proofs.Terms.{None, is_some, Loss, Operation, op_at_exchange, new_work, last_exchange_of}
+use Rattle.link_ends.proofs.Terms.{nat_tests, Judged, Expected, Refused, Bad, StreamOutcome, NextExchange, StreamView}
 use Rattle.link_ends.proofs.Terms.{asked_of_unfinished, outcome_of, taken_stream, ManagerView, current, current_asked}
 use Rattle.link_ends.proofs.Terms.{asking_after, IsAsked, StreamEnds, Exchanged, exchange_outcome, ends_after_exchange}
 use Rattle.link_ends.proofs.Terms.{WalkedEnds, walk_on, goes_on, Found, LinkEnds, IsAtBothEnds, DiffersInStream}
@@ -14,7 +14,7 @@ use Rattle.link_ends.proofs.Carried.{keeper_read, current_is}
 -- ---- the exchange after one that was acknowledged
 
 next_asked : (o : Operation) (set : Bool) (draw n k : ℕ) → 1 ≤ k → k ≤ last_exchange_of true o
-    → IsAsked true (asked_of_unfinished (op_at_exchange (work o set draw n false) k))
+    → IsAsked true (asked_of_unfinished (op_at_exchange (new_work o set draw n false) k))
 next_asked o set draw n k least most = grind arith
 
 goes_next : (a : NextExchange) (s : StreamView) → IsAsked true (Some a) → outcome_of true a Expected ≡ outcome.Next

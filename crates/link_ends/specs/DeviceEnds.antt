@@ -20,8 +20,8 @@ abbrev pub DeviceEnd : Type 0
 DeviceEnd = Device
 
 abbrev pub new_device : ℕ → List StreamPlan → ℕ → ℕ → List InterfacePlan → List (List ℕ) → DeviceEnd
-new_device link plans limit requester interfaces nonces = record {
-  port = new_port (device_port link) plans limit;
+new_device line plans limit requester interfaces nonces = record {
+  port = new_port (device_port line) plans limit;
   requester = requester;
   interfaces = new_device_interfaces interfaces nonces;
 }

@@ -11,9 +11,9 @@ use Rattle.link_ends.specs.declared.ends.LinkEnds.{LinkEnds}
 
 -- no stream has keys
 abbrev pub new_ends : ℕ → List StreamPlan → ℕ → ℕ → List InterfacePlan → List (List ℕ) → LinkEnds
-new_ends link plans limit requester interfaces nonces = record {
-  host = new_port (port_at Host link) plans limit;
-  device = new_device link plans limit requester interfaces nonces;
+new_ends line plans limit requester interfaces nonces = record {
+  host = new_port (port_at Host line) plans limit;
+  device = new_device line plans limit requester interfaces nonces;
 }
 
 -- the port of a side

@@ -60,18 +60,20 @@ peer_drawn (Stop line stream) drew draw draws = draws
 
 -- the status of the stream that it asks for: of the interface's own at the host's port, of one between devices by the
 -- operations of the manager of keys
-abbrev pub status_for : ManagerView → Option StreamStatus → InterfaceOperation → StreamStatus
-status_for m host (Bind peer) = status_named (named_stream m peer.line peer.id)
-status_for m host (Unbind peer) = status_named (named_stream m peer.line peer.id)
-status_for m host op = status_or_idle host
+abbrev pub status_for_operation : ManagerView → Option StreamStatus → InterfaceOperation → StreamStatus
+status_for_operation m host (Bind peer) = status_named (named_stream m peer.line peer.id)
+status_for_operation m host (Unbind peer) = status_named (named_stream m peer.line peer.id)
+status_for_operation m host op = status_or_idle host
 
 -- what is Live at the device's end of the stream between devices that it names
-abbrev pub live_for : (ℕ → Option ℕ) → InterfaceOperation → Option ℕ
-live_for live (Bind peer) = live peer.id
-live_for live op = None
+abbrev pub live_for_operation : (ℕ → Option ℕ) → InterfaceOperation → Option ℕ
+live_for_operation live (Bind peer) = live peer.id
+live_for_operation live op = None
 
 abbrev pub operated_on : ℕ → InterfaceOperation → Option Loss → KeeperView → (ℕ → Option ℕ) → InterfaceManagerView
     → LinkEnds → HostTdi → Ended
 operated_on interface op loss k live m l i =
-    interface_operated interface op (status_for k.manager (port_stream_status l.host i.stream) op) k.pool.draws
-    (record { secure = secure_at l.device.port i.stream; live = live_for live op }) loss m l.device.interfaces i
+    interface_operated interface op (status_for_operation k.manager (port_stream_status l.host i.stream) op)
+    k.pool.draws
+    (record { secure = secure_at l.device.port i.stream; live = live_for_operation live op }) loss m l.device.interfaces
+    i

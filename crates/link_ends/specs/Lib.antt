@@ -14,5 +14,5 @@ pub use Rattle.join_keys.specs.Paired.{PairKeysKeptIn}
 pub use Rattle.join_keys.specs.Walks.{StreamEnds, WalkedEnds, begun_ends, event_walk, walk_on}
 pub use Rattle.ide_types.specs.Ports.{device_port}
 pub use Rattle.link_ends.specs.LineEnds.{own_direction, at_end, call_at_end, shown_end, unfinished_end, called_line_end}
-pub use Rattle.link_ends.specs.LineEnds.{line_end_after, answered_end, end_reply, new_pair, end_in, with_end}
+pub use Rattle.link_ends.specs.LineEnds.{line_end_after, answered_end, end_reply, new_pair, line_end_in, with_end}
 pub use Rattle.link_ends.specs.LineEnds.{reset_line_end, reset_pair}

@@ -56,9 +56,9 @@ new_pair line plans limit = record {
   far = record { side = Device; port = new_port (device_port line) plans limit };
 }
 
-abbrev pub end_in : Side → PairEnds → LineEnd
-end_in Host l = l.near
-end_in Device l = l.far
+abbrev pub line_end_in : Side → PairEnds → LineEnd
+line_end_in Host l = l.near
+line_end_in Device l = l.far
 
 abbrev pub with_end : Side → LineEnd → PairEnds → PairEnds
 with_end Host e l = record l { near = e }
@@ -68,4 +68,4 @@ abbrev pub reset_line_end : LineEnd → LineEnd
 reset_line_end e = record e { port = reset_port e.port }
 
 abbrev pub reset_pair : Side → PairEnds → PairEnds
-reset_pair side l = with_end side (reset_line_end (end_in side l)) l
+reset_pair side l = with_end side (reset_line_end (line_end_in side l)) l

@@ -10,7 +10,7 @@ ghost use Rattle.interface_ends.specs.Replies.{called_at};
 ghost use Rattle.ide_port.specs.{IsSentAtPort, PortUnitsAtMost};
 ghost use Rattle.link_ends.specs.DeviceEnds.{secure_at};
 
-use crate::wiring::{Owners, PeerStreams, SecureStreams, is_secure_at};
+use crate::wiring::{Owners, PeerStreams, SecureStreams, is_secure_at_port};
 use ide_port::{Port, SendBuffer, Sent};
 use ide_types::{InterfacePlan, Items, OutOfMemory, PortName, Side, StreamPlan};
 use interface_ends::DeviceInterfaces;
@@ -35,12 +35,12 @@ impl Device {
     ghost use Rattle.link_ends.specs.DeviceEnds.{new_device, settled_device, asked_device, reply_given};
     ghost use Rattle.link_ends.specs.DeviceEnds.{device_trusting};
 
-    /// The device of a link with these streams, without keys, and these interfaces, whose locks get these nonces; a key
+    /// The device of a line with these streams, without keys, and these interfaces, whose locks get these nonces; a key
     /// seals at most `limit` units. `requester` is the requester ID that it gives in its answer to QUERY, 0 if it has
     /// no interface.
     pub fn make(
         alloc: Global,
-        link: u8,
+        line: u8,
         plans: &[StreamPlan],
         limit: u64,
         requester: u16,
@@ -49,11 +49,11 @@ impl Device {
     ) -> Result<Device, OutOfMemory>
         requires streams { All FitsStream plans.now }
         requires interfaces { All FitsTdi interfaces.now }
-        ensures { IfOk result (λ d. d ≡ new_device link plans.now limit requester interfaces.now nonces.now) }
+        ensures { IfOk result (λ d. d ≡ new_device line plans.now limit requester interfaces.now nonces.now) }
     {
         let name = PortName {
             side: Side::Device,
-            line: link,
+            line,
         };
         let port = Port::make(alloc, name, plans, limit)?;
         let interfaces = DeviceInterfaces::make(alloc, interfaces, nonces)?;
@@ -92,7 +92,7 @@ impl Device {
     pub fn is_secure(&self, stream: u8) -> bool
         ensures { result ≡ secure_at self.now.port stream }
     {
-        is_secure_at(&self.port, stream)
+        is_secure_at_port(&self.port, stream)
     }
 
     /// Sends a TLP's bytes, as its port does; T is set if the TLP's owner is an interface in RUN and the TLP takes the

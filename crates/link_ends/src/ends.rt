@@ -22,12 +22,12 @@ pub struct LinkEnds {
 impl LinkEnds {
     ghost use Rattle.link_ends.specs.Ends.{new_ends, port_in, with_port, trusting_at};
 
-    /// The ends of a link with these streams, without keys; a key seals at most `limit` units. `requester` is the
-    /// requester ID that the device gives in its answer to QUERY, 0 if it has no interface; it has these interfaces,
-    /// whose locks get these nonces. Returns `OutOfMemory` for want of memory.
+    /// The ends of a line, a link or a hop's segment towards the host, with these streams, without keys; a key seals at
+    /// most `limit` units. `requester` is the requester ID that the device gives in its answer to QUERY, 0 if it has no
+    /// interface; it has these interfaces, whose locks get these nonces. Returns `OutOfMemory` for want of memory.
     pub fn make(
         alloc: Global,
-        link: u8,
+        line: u8,
         plans: &[StreamPlan],
         limit: u64,
         requester: u16,
@@ -36,14 +36,14 @@ impl LinkEnds {
     ) -> Result<LinkEnds, OutOfMemory>
         requires streams { All FitsStream plans.now }
         requires interfaces { All FitsTdi interfaces.now }
-        ensures { IfOk result (λ l. l ≡ new_ends link plans.now limit requester interfaces.now nonces.now) }
+        ensures { IfOk result (λ l. l ≡ new_ends line plans.now limit requester interfaces.now nonces.now) }
     {
         let name = PortName {
             side: Side::Host,
-            line: link,
+            line,
         };
         let host = Port::make(alloc, name, plans, limit)?;
-        let device = Device::make(alloc, link, plans, limit, requester, interfaces, nonces)?;
+        let device = Device::make(alloc, line, plans, limit, requester, interfaces, nonces)?;
         Ok(LinkEnds { host, device })
     }
 

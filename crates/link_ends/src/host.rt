@@ -12,7 +12,8 @@ ghost use Rattle.interface_host.specs.Managers.{reset_interface_manager as reset
 ghost use Rattle.interface_ends.specs.Replies.{settled_interfaces};
 ghost use Rattle.interface_ends.specs.Keepers.{Ended};
 ghost use Rattle.link_ends.specs.DeviceEnds.{secure_at, secure_or_live};
-ghost use Rattle.link_ends.specs.Hosts.{manager_told, keyed_if, keyed_at_end, stopped_if, live_for, status_for};
+ghost use Rattle.link_ends.specs.Hosts.{manager_told, keyed_if, keyed_at_end, stopped_if, live_for_operation};
+ghost use Rattle.link_ends.specs.Hosts.{status_for_operation};
 ghost use Rattle.link_ends.specs.Hosts.{pair_told, peer_drawn};
 
 use crate::ends::LinkEnds;
@@ -46,8 +47,8 @@ fn status_or_idle(status: Option<StreamStatus>) -> StreamStatus
 }
 
 // What is Live at the device's end of the stream between devices that an operation names.
-fn live_for<P: PeerStreams>(peers: &P, op: InterfaceOperation) -> Option<u32>
-    ensures { result ≡ live_for (P.live peers.now) op }
+fn live_for_operation<P: PeerStreams>(peers: &P, op: InterfaceOperation) -> Option<u32>
+    ensures { result ≡ live_for_operation (P.live peers.now) op }
 {
     match op {
         InterfaceOperation::Bind(peer) => peers.live(peer.id),
@@ -232,8 +233,12 @@ impl HostKeeper {
 
     // The status of the stream that an operation on an interface asks for: of its own at the host's port; of one
     // between devices as the manager of keys has it.
-    fn status_for(&self, op: InterfaceOperation, host: Option<StreamStatus>) -> StreamStatus
-        ensures { result ≡ status_for self.now.keys.manager host op }
+    fn status_for_operation(
+        &self,
+        op: InterfaceOperation,
+        host: Option<StreamStatus>,
+    ) -> StreamStatus
+        ensures { result ≡ status_for_operation self.now.keys.manager host op }
     {
         match op {
             InterfaceOperation::Bind(peer) | InterfaceOperation::Unbind(peer) => {
@@ -245,7 +250,7 @@ impl HostKeeper {
 
     /// Begins an operation on an interface of the link with these ends, and carries its exchanges until it is over, or
     /// `loss` loses one.
-    pub fn operate_on<P: PeerStreams>(
+    pub fn operate_interface<P: PeerStreams>(
         &mut self,
         ends: &mut LinkEnds,
         peers: &P,
@@ -268,10 +273,10 @@ impl HostKeeper {
         } }
     {
         let stream = self.interfaces.manager().stream(interface);
-        let status = self.status_for(op, ends.host.status(stream));
+        let status = self.status_for_operation(op, ends.host.status(stream));
         let said = StreamSaid {
             secure: ends.device.is_secure(stream),
-            live: live_for(peers, op),
+            live: live_for_operation(peers, op),
         };
         let draws = self.keys.draws();
         let device = &mut ends.device.interfaces;

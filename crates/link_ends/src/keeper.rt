@@ -10,7 +10,7 @@ ghost use Rattle.key_host.specs.Facts.{op_seen};
 ghost use Rattle.key_host.specs.Judging.{judged_exchange};
 ghost use Rattle.key_host.specs.Operations.{op_name};
 ghost use Rattle.key_host.specs.Streams.{has_host, end_asked, request_asked};
-ghost use Rattle.link_ends.specs.LineEnds.{answered_end, end_reply, end_in, with_end};
+ghost use Rattle.link_ends.specs.LineEnds.{answered_end, end_reply, line_end_in, with_end};
 ghost use Rattle.key_host.specs.Managers.{new_manager, named_stream, op_named, status_named, current, reset_manager};
 ghost use Rattle.key_slots.specs.{new_pool};
 ghost use Rattle.link_ends.specs.DeviceEnds.{asked_device, reply_given};
@@ -111,11 +111,11 @@ fn deliver_to_end(
     ensures ends { IfSome (current manager.now) (λ c.
         let side = end_asked (has_host c.stream) c.asked in
         let bytes = object_spelling (request_asked (has_host c.stream) c.asked c.stream) in
-        ends.new ≡ with_end side (answered_end (end_in side ends.old) bytes c.asked.draw) ends.old) }
+        ends.new ≡ with_end side (answered_end (line_end_in side ends.old) bytes c.asked.draw) ends.old) }
     ensures reply { IfSome (current manager.now) (λ c.
         let side = end_asked (has_host c.stream) c.asked in
         let bytes = object_spelling (request_asked (has_host c.stream) c.asked c.stream) in
-        reply.new.items ≡ end_reply (end_in side ends.old) bytes c.asked.draw) }
+        reply.new.items ≡ end_reply (line_end_in side ends.old) bytes c.asked.draw) }
     ensures request_room { 49 ≤ vec_capacity request.new }
     ensures reply_room { 8 ≤ vec_capacity reply.new }
 {

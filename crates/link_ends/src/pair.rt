@@ -16,7 +16,7 @@ pub struct PairEnds {
 }
 
 impl PairEnds {
-    ghost use Rattle.link_ends.specs.LineEnds.{new_pair, end_in, with_end, answered_end, end_reply, reset_pair};
+    ghost use Rattle.link_ends.specs.LineEnds.{new_pair, line_end_in, with_end, answered_end, end_reply, reset_pair};
 
     /// The ends of a line with this stream, without keys; a key seals at most `limit` units. Returns `OutOfMemory` for
     /// want of memory.
@@ -53,7 +53,7 @@ impl PairEnds {
 
     /// The end of a side, lent.
     pub fn end(&self, side: Side) -> &LineEnd
-        ensures { result.now ≡ end_in side self.now }
+        ensures { result.now ≡ line_end_in side self.now }
     {
         match side {
             Side::Host => &self.near,
@@ -65,8 +65,8 @@ impl PairEnds {
     /// number under which a KEY_PROG's key is kept. `reply` has 8 bytes of room.
     pub fn answer(&mut self, side: Side, request: &[u8], draw: u32, reply: &mut Vec<u8>)
         requires { vec_len reply.old + 8 ≤ vec_capacity reply.old }
-        ensures ends { self.new ≡ with_end side (answered_end (end_in side self.old) request.now draw) self.old }
-        ensures reply { reply.new.items ≡ reply.old.items ++ end_reply (end_in side self.old) request.now draw }
+        ensures ends { self.new ≡ with_end side (answered_end (line_end_in side self.old) request.now draw) self.old }
+        ensures reply { reply.new.items ≡ reply.old.items ++ end_reply (line_end_in side self.old) request.now draw }
         ensures capacity { vec_capacity reply.old ≤ vec_capacity reply.new }
     {
         match side {

@@ -34,7 +34,7 @@ fn says_secure(status: Option<StreamStatus>) -> bool
 }
 
 /// Whether the port has the stream, and it is Secure there.
-pub fn is_secure_at(port: &Port, stream: u8) -> bool
+pub fn is_secure_at_port(port: &Port, stream: u8) -> bool
     ensures { result ≡ secure_at port.now stream }
 {
     says_secure(port.status(stream))
@@ -51,7 +51,10 @@ impl<P: PeerStreams> StreamStates for SecureStreams<'_, P> {
     ghost is_secure = { λ s stream. secure_or_live s.port.now (P.live s.peers.now) stream };
 
     fn is_secure(&self, stream: u8) -> bool {
-        is_either(is_secure_at(self.port, stream), self.peers.live(stream))
+        is_either(
+            is_secure_at_port(self.port, stream),
+            self.peers.live(stream),
+        )
     }
 }
 

@@ -202,9 +202,8 @@ resets plan st h link ends stands = by_has (nat_lt link (length plan.links)) (du
 
 packets_step : (plan : Plan) (st : LinkState) (h : History) (e : Event) → is_of_packets e ≡ true
     → PortsStandFor plan st h → AllStep plan h e (step_of plan (beside_at plan h) st e)
-packets_step plan st h e is stands =
-    plain plan st h e (step_of plan (beside_at plan h) st e) (none_of_packets e is) stands
-    (packets_stand plan (facts plan) st h e is stands.ports_stand) (step_kept plan (beside_at plan h) st e is)
+packets_step plan st h e is stands = plain plan st h e (step_of plan (beside_at plan h) st e) (none_of_packets e is)
+    stands (packets_stand plan (facts plan) st h e is stands.ports_stand) (step_kept plan (beside_at plan h) st e is)
 
 no_interface : (e : InterfaceEvent) → IsNoOperation (Interface e)
 unfolding operates
@@ -236,8 +235,7 @@ no_absent line stream = refl
 
 absent : (plan : Plan) (st : LinkState) (h : History) → PortsStandFor plan st h → AllStep plan h Absent (v.Nothing, st)
 unfolding due
-absent plan st h stands =
-    plain plan st h Absent (v.Nothing, st) no_absent stands
+absent plan st h stands = plain plan st h Absent (v.Nothing, st) no_absent stands
     (quiet plan (facts plan) st h Absent v.Nothing stands.ports_stand refl refl no_absent) (refl, refl)
 
 pub steps : StepStands

@@ -3,14 +3,14 @@
 -- finds one and a stop brings none, so it is an establish, whose draw is then Base, and under draws from it on nothing
 -- was sealed or got.
 use Rattle.machine_operations.proofs.Terms.{◌≡◌, ℕ, ◌≤◌, Bool, true, false, Option, Some, List, [], ◌∷◌, refl, ap, sym}
-use Rattle.machine_operations.proofs.Terms.{◌∙◌, subst, arith, ◌||◌, ◌&&◌, ◌==◌, if◌then◌else◌, AllCome, AllowedIn}
-use Rattle.machine_operations.proofs.Terms.{AllowedOut, base, touches_after, busy_in, CauseLaw, ClearTouch, Cpl}
+use Rattle.machine_operations.proofs.Terms.{◌∙◌, subst, arith, ◌||◌, ◌&&◌, ◌==◌, if◌then◌else◌, AllCome, AllowsIncoming}
+use Rattle.machine_operations.proofs.Terms.{AllowsOutgoing, base, touches_after, busy_in, CauseLaw, ClearTouch, Cpl}
 use Rattle.machine_operations.proofs.Terms.{draws_made, due, place_at_end, eqb-refl, Establish, Event, has_failed}
 use Rattle.machine_operations.proofs.Terms.{got_same, got_since, has_live_in, has_live_out, History, in_keyed, is_quiet}
 use Rattle.machine_operations.proofs.Terms.{IsOperation, key_cause, key_of, key_plan, keyed_there, Keys, keys}
 use Rattle.machine_operations.proofs.Terms.{port_keys, keys_into, key_touched_in, key_touched_out, keys_out, place_keys}
 use Rattle.machine_operations.proofs.Terms.{lane_in, lane_out, LeadTo, Loss, manager, moments, touches_at, Npr, Off}
-use Rattle.machine_operations.proofs.Terms.{StreamStage, op_of, Operated, operates, Operation, out_keyed}
+use Rattle.machine_operations.proofs.Terms.{StreamStage, op_of, HasOperated, operates, Operation, out_keyed}
 use Rattle.machine_operations.proofs.Terms.{pending_packets, KeyPlace, place_in_sub_stream, Plan, port_at, PortName}
 use Rattle.machine_operations.proofs.Terms.{ports_at, posted_since_last, Pr, quiet_seals_none, Reach, reach_of, Refresh}
 use Rattle.machine_operations.proofs.Terms.{sealed_packets, sealed_same, Side, since_same, draws_started, Stop}
@@ -85,7 +85,7 @@ module _ (plan : Plan) (h : History) (e : Event) (x : Verdict) (line stream : �
   lead_out : (u : SubKind) → let port = port_at side line in
       let s = lane_out port stream u in
       let xs = sealed_packets plan h in
-      LeadTo (AllowedOut plan xs s) (key_touched_out (busy_in xs s)) (outs h line stream w r side u)
+      LeadTo (AllowsOutgoing plan xs s) (key_touched_out (busy_in xs s)) (outs h line stream w r side u)
       (port_keys h port s)
       (port_keys ((e, x) ∷ h) port s)
   lead_out u =
@@ -105,7 +105,7 @@ module _ (plan : Plan) (h : History) (e : Event) (x : Verdict) (line stream : �
 
   lead_in : (u : SubKind) → let port = port_at side line in
       let s = lane_in port stream u in
-      LeadTo (AllowedIn plan h port s) key_touched_in (ins h line stream w r side u) (port_keys h port s)
+      LeadTo (AllowsIncoming plan h port s) key_touched_in (ins h line stream w r side u) (port_keys h port s)
       (port_keys ((e, x) ∷ h) port s)
   lead_in u =
       let p = place_at_end line stream false side u in
@@ -255,7 +255,8 @@ module _ (plan : Plan) (h : History) (line stream : ℕ) (lose : Option Loss) (x
 module _ (plan : Plan) (h : History) (o : Operation) (line stream : ℕ) (lose : Option Loss) (x : Verdict) (r : Reach)
     (law : CauseLaw plan ((event_of_operation o line stream lose, x) ∷ h)) (reached : reach_of o x ≡ Some r) where
   each_operated : (side : Side) → let w = asked_work h o line stream in
-      Operated plan h (event_of_operation o line stream lose) x (port_at side line) stream (outs h line stream w r side)
+      HasOperated plan h (event_of_operation o line stream lose) x (port_at side line) stream
+      (outs h line stream w r side)
       (ins h line stream w r side)
   each_operated side =
       let e = event_of_operation o line stream lose in

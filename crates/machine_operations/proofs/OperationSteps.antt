@@ -4,9 +4,9 @@ use Rattle.machine_operations.proofs.Terms.{sym, ◌∙◌, arith, if◌then◌e
 use Rattle.machine_operations.proofs.Terms.{find-put, find-put_other, has_stream, History, Host, is_same_port}
 use Rattle.machine_operations.proofs.Terms.{IsOperation, kept_all, KeyFacts, LinkState, Touch, touched_at}
 use Rattle.machine_operations.proofs.Terms.{touched_found, touched_state, nat_tests, OperationSteps, Plan, port_at}
-use Rattle.machine_operations.proofs.Terms.{PortName, PortsStand, put_packets, quiet_everywhere, quiet_seals_none}
-use Rattle.machine_operations.proofs.Terms.{sealed_same, Side, stream_state_due, state_due_if_planned, touched_stream}
-use Rattle.machine_operations.proofs.Terms.{stays, StreamState, SubKind, Verdict}
+use Rattle.machine_operations.proofs.Terms.{PortName, StreamsAndPacketsStand, put_packets, quiet_everywhere}
+use Rattle.machine_operations.proofs.Terms.{quiet_seals_none, sealed_same, Side, stream_state_due, state_due_if_planned}
+use Rattle.machine_operations.proofs.Terms.{touched_stream, stays, StreamState, SubKind, Verdict}
 use Rattle.machine_operations.proofs.Operations.{manager_after_operation}
 
 -- a stream at a port as it was or as it stands for the history with the pair
@@ -52,7 +52,7 @@ another line stream q t host device = grind (arith, nat_tests)
 module _ (plan : Plan) (facts : KeyFacts plan) (st : LinkState) (h : History) (e : Event) (w : Verdict)
     (line stream : ℕ)
     (out into : Side → SubKind → List Touch)
-    (stands : PortsStand plan st h) (is : IsOperation plan h e w line stream out into) where
+    (stands : StreamsAndPacketsStand plan st h) (is : IsOperation plan h e w line stream out into) where
   -- an end of the line, when the slots of the other one are touched too
   touched_end : (side : Side) (ports : LinkState) → Found plan ports h (port_at side line) stream
       → Found plan (touched_at plan ports line stream out into side) ((e, w) ∷ h) (port_at side line) stream

@@ -4,13 +4,13 @@ use Rattle.machine_operations.proofs.Terms.{if◌then◌else◌, ◌&&◌, ◌||
 use Rattle.machine_operations.proofs.Terms.{each_sub, Event, has_failed, failed_next, fails_at, got_in, got_same}
 use Rattle.machine_operations.proofs.Terms.{got_since, has_live_key, has_live_in, has_live_out, held_same, History}
 use Rattle.machine_operations.proofs.Terms.{holds_in, is_keyed, is_quiet, key_in, keyed_in, port_keys, lane_in}
-use Rattle.machine_operations.proofs.Terms.{lane_out, Npr, on_in, Operated, OperationStands, Plan, PortName}
+use Rattle.machine_operations.proofs.Terms.{lane_out, Npr, on_in, HasOperated, OperationStands, Plan, PortName}
 use Rattle.machine_operations.proofs.Terms.{posted_count, posted_since_last, posted_sum, Pr, quiet_seals_none, rx_slot}
 use Rattle.machine_operations.proofs.Terms.{rx_slot_same, rx_slots, rx_state_due, RxSub, sealed_packets, sealed_same}
 use Rattle.machine_operations.proofs.Terms.{rested_stream, since_same, LaneSlots, slots_is, slots_touched}
 use Rattle.machine_operations.proofs.Terms.{stream_state_due, SubKind, SubStream, total_in, Touch, touched_stream}
-use Rattle.machine_operations.proofs.Terms.{tx_slots, tx_state_due, TxSub, units_same, units_since, Verdict, AllowedIn}
-use Rattle.machine_operations.proofs.Terms.{AllowedOut, busy_in, key_touched_in, key_touched_out}
+use Rattle.machine_operations.proofs.Terms.{tx_slots, tx_state_due, TxSub, units_same, units_since, Verdict}
+use Rattle.machine_operations.proofs.Terms.{AllowsIncoming, AllowsOutgoing, busy_in, key_touched_in, key_touched_out}
 use Rattle.machine_operations.proofs.SlotTouches.{all_touched, touched_in, touched_out, live_in_is, live_out_is}
 
 -- ---- quiet verdicts
@@ -69,7 +69,7 @@ ins_live plan h g port stream = let one = λ (u : SubKind). live_in_is plan g po
     (port_keys g port (lane_in port stream u)) in λ i. one Pr i || one Npr i || one Cpl i
 
 tx_touched : (plan : Plan) (h : History) (e : Event) (w : Verdict) (port : PortName) (stream : ℕ)
-    (out into : SubKind → List Touch) → Operated plan h e w port stream out into → (u : SubKind)
+    (out into : SubKind → List Touch) → HasOperated plan h e w port stream out into → (u : SubKind)
     → let s = lane_out port stream u in
     slots_touched true plan s (out u) (tx_slots plan (sealed_packets plan h) s (port_keys h port s))
     ≡ tx_slots plan (sealed_packets plan ((e, w) ∷ h)) s (port_keys ((e, w) ∷ h) port s)
@@ -77,12 +77,12 @@ tx_touched plan h e w port stream out into is u =
     let s = lane_out port stream u in
     let xs = sealed_packets plan h in
     let now = port_keys ((e, w) ∷ h) port s in
-    all_touched true plan s (AllowedOut plan xs s) (key_touched_out (busy_in xs s)) (tx_slots plan xs s)
+    all_touched true plan s (AllowsOutgoing plan xs s) (key_touched_out (busy_in xs s)) (tx_slots plan xs s)
     (touched_out plan xs s) (out u) (port_keys h port s) now (is.lead_out u)
     ∙ (λ i. tx_slots plan (sym (sealed_same plan h e w (quiet_seals_none w is.quiet)) i) s now)
 
 rx_touched : (plan : Plan) (h : History) (e : Event) (w : Verdict) (port : PortName) (stream : ℕ)
-    (out into : SubKind → List Touch) → Operated plan h e w port stream out into → (u : SubKind)
+    (out into : SubKind → List Touch) → HasOperated plan h e w port stream out into → (u : SubKind)
     → let s = lane_in port stream u in
     slots_touched false plan s (into u) (rx_slots plan h port s (port_keys h port s))
     ≡ rx_slots plan ((e, w) ∷ h) port s (port_keys ((e, w) ∷ h) port s)
@@ -98,7 +98,7 @@ rx_touched plan h e w port stream out into is u =
       units_same h e w s j none.0,
       λ n. held_same plan h e w s j n none.1,
     )) in
-    all_touched false plan s (AllowedIn plan h port s) key_touched_in (rx_slots plan h port s)
+    all_touched false plan s (AllowsIncoming plan h port s) key_touched_in (rx_slots plan h port s)
     (touched_in plan h port s) (into u) (port_keys h port s) keys (is.lead_into u)
     ∙ sym (slots_is _ _ (still false) (still true))
 
@@ -120,7 +120,7 @@ rx_new plan h g port stream u = record {
 }
 
 slots_new : (plan : Plan) (h : History) (e : Event) (w : Verdict) (port : PortName) (stream : ℕ)
-    (out into : SubKind → List Touch) → Operated plan h e w port stream out into
+    (out into : SubKind → List Touch) → HasOperated plan h e w port stream out into
     → touched_stream plan port stream out into (stream_state_due plan h port stream)
     ≡ rested_stream (each_sub (tx_new plan h ((e, w) ∷ h) port stream))
     (each_sub (rx_new plan h ((e, w) ∷ h) port stream)) (has_failed h port stream)
@@ -134,7 +134,7 @@ slots_new plan h e w port stream out into is =
     (has_failed h port stream)
 
 settled_is : (plan : Plan) (h : History) (e : Event) (w : Verdict) (port : PortName) (stream : ℕ)
-    (out into : SubKind → List Touch) → Operated plan h e w port stream out into
+    (out into : SubKind → List Touch) → HasOperated plan h e w port stream out into
     → rested_stream (each_sub (tx_new plan h ((e, w) ∷ h) port stream))
     (each_sub (rx_new plan h ((e, w) ∷ h) port stream)) (has_failed h port stream)
     ≡ stream_state_due plan ((e, w) ∷ h) port stream

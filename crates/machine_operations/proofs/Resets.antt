@@ -5,17 +5,17 @@
 use Rattle.machine_operations.proofs.Terms.{◌≡◌, ◌≢◌, ℕ, zero, suc, ◌+◌, ◌*◌, ◌==◌, Bool, true, false, Some, None, List}
 use Rattle.machine_operations.proofs.Terms.{[], ◌∷◌, length, map, refl, ap, sym, ◌∙◌, subst, arith, if◌then◌else◌, ◌&&◌}
 use Rattle.machine_operations.proofs.Terms.{◌||◌, is_some, slice_set, base, clears, Cpl, Device, draws_made, due}
-use Rattle.machine_operations.proofs.Terms.{each_sub, no_stream, has_failed, failed_next, failed_there}
-use Rattle.machine_operations.proofs.Terms.{fails_at, find, find_op, first_ports, FirstStands, found_by_id}
-use Rattle.machine_operations.proofs.Terms.{get_or-set_other, get_or-set_same, got_in, has_live_in, has_live_out}
-use Rattle.machine_operations.proofs.Terms.{History, Host, Idle, is_on, kept_all, Keys, keys, port_keys, keys_into}
-use Rattle.machine_operations.proofs.Terms.{keys_out, lane_in, lane_out, LinkState, manager, moments, nat_tests}
-use Rattle.machine_operations.proofs.Terms.{no_keys, Npr, StreamStage, op_at, op_of, Plan, port_at}
-use Rattle.machine_operations.proofs.Terms.{port_place, PortName, PortsStand, posted_count, posted_sum, Pr, Reset}
-use Rattle.machine_operations.proofs.Terms.{reset_state, rx_slots, sealed_packets, sealed_same, sent_direction, Side}
-use Rattle.machine_operations.proofs.Terms.{slice_index_or, stream_state_due, state_due_if_planned, PortsStandFor}
-use Rattle.machine_operations.proofs.Terms.{stream_plan, streams_by_line, streams_of, StreamState, SubKind}
-use Rattle.machine_operations.proofs.Terms.{total_in, tx_slots, units_since, with_id, within, place_in_sub_stream}
+use Rattle.machine_operations.proofs.Terms.{each_sub, no_stream, has_failed, failed_next, failed_there, fails_at, find}
+use Rattle.machine_operations.proofs.Terms.{find_op, first_ports, FirstStands, found_by_id, get_or-set_other}
+use Rattle.machine_operations.proofs.Terms.{get_or-set_same, got_in, has_live_in, has_live_out, History, Host, Idle}
+use Rattle.machine_operations.proofs.Terms.{is_on, kept_all, Keys, keys, port_keys, keys_into, keys_out, lane_in}
+use Rattle.machine_operations.proofs.Terms.{lane_out, LinkState, manager, moments, nat_tests, no_keys, Npr, StreamStage}
+use Rattle.machine_operations.proofs.Terms.{op_at, op_of, Plan, port_at, port_place, PortName, StreamsAndPacketsStand}
+use Rattle.machine_operations.proofs.Terms.{posted_count, posted_sum, Pr, Reset, reset_state, rx_slots, sealed_packets}
+use Rattle.machine_operations.proofs.Terms.{sealed_same, sent_direction, Side, slice_index_or, stream_state_due}
+use Rattle.machine_operations.proofs.Terms.{state_due_if_planned, PortsStandFor, stream_plan, streams_by_line}
+use Rattle.machine_operations.proofs.Terms.{streams_of, StreamState, SubKind, total_in, tx_slots, units_since, with_id}
+use Rattle.machine_operations.proofs.Terms.{within, place_in_sub_stream}
 use Rattle.event_verdicts.specs.declared.verdict.Verdict.TheVariants as v
 use Rattle.ide_types.specs.declared.stream.StreamPlan.{StreamPlan}
 use Rattle.machine_operations.proofs.Worked.{Still, StillAt, untouched, still_stands, still_standing}
@@ -127,9 +127,8 @@ filled {A} ss rows i id x there = by_known (is_some (with_id ss id)) refl
     by_known : (b : Bool) → is_some (with_id ss id) ≡ b → found_by_id ss (slice_index_or (slice_set rows i row) i []) id
         ≡ (if b then Some x else None)
     by_known false none = not_found ss _ id none
-    by_known true known =
-        ap (λ (xs : List A). found_by_id ss xs id) (get_or-set_same rows i row [] (within ss rows i id (there known))) ∙
-        (all_found ss id x ∙ rw known refl)
+    by_known true known = ap (λ (xs : List A). found_by_id ss xs id)
+        (get_or-set_same rows i row [] (within ss rows i id (there known))) ∙ (all_found ss id x ∙ rw known refl)
 
 -- ---- the ports after a reset
 
@@ -282,8 +281,8 @@ not_reset plan h l ends port none = record {
   based = λ stream. refl;
 }
 
-reset_streams : (plan : Plan) (st : LinkState) (h : History) (l : ℕ) (ends : List PortName) → PortsStand plan st h
-    → (port : PortName) (t : ℕ)
+reset_streams : (plan : Plan) (st : LinkState) (h : History) (l : ℕ) (ends : List PortName)
+    → StreamsAndPacketsStand plan st h → (port : PortName) (t : ℕ)
     → find plan (reset_state plan st ends) port t ≡ state_due_if_planned plan ((Reset l ends, v.Reset l) ∷ h) port t
 unfolding find stream_plan
 reset_streams plan st h l ends stands port t =
@@ -392,8 +391,7 @@ pub reset_nothing : (plan : Plan) (st : LinkState) (h : History) (l : ℕ) (ends
 unfolding manager
 reset_nothing plan st h l ends stands is = record {
   ports_stand = still_stands plan st h (Reset l ends) v.Nothing stands.ports_stand is (reset_still plan h l ends);
-  ops_is =
-      stands.ops_is;
+  ops_is = stands.ops_is;
   draws_is = stands.draws_is;
 }
 

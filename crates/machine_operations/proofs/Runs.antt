@@ -4,7 +4,7 @@
 -- waits for its GO is greater than the one that is On and than all that were used or got GO. One that waits for the
 -- older one was not used.
 use Rattle.machine_operations.proofs.Terms.{◌≡◌, ℕ, ◌<◌, ◌≤◌, Bool, true, false, List, [], ◌∷◌, refl, ap, sym, ◌∙◌}
-use Rattle.machine_operations.proofs.Terms.{subst, arith, not, if◌then◌else◌, AllCome, AllowedIn, AllowedOut}
+use Rattle.machine_operations.proofs.Terms.{subst, arith, not, if◌then◌else◌, AllCome, AllowsIncoming, AllowsOutgoing}
 use Rattle.machine_operations.proofs.Terms.{touches_after, busy_in, ClearTouch, Comes, Goes, GoTouch, History, is_open}
 use Rattle.machine_operations.proofs.Terms.{key_in, key_touched_in, key_touched_out, Keys, keys, keys_of, LeadTo}
 use Rattle.machine_operations.proofs.Terms.{Loaded, nat_tests, new_key, no_keys, Off, On, Plan, PortName, ProgramTouch}
@@ -129,7 +129,7 @@ pub record Knows (xs : SealedList) (s : SubStream) (ts : List Touch) : Type 0 wh
 module _ (plan : Plan) (xs : SealedList) (s : SubStream) (r : Bool → Bool) where
   -- more touches, but for a refused KEY_PROG, lead from these keys to those after all
   abbrev pub OutLead : List Touch → List Touch → Keys → Type 0
-  OutLead ts more ks = LeadTo (AllowedOut plan xs s) (key_touched_out (busy_in xs s)) (taken_touches r more) ks
+  OutLead ts more ks = LeadTo (AllowsOutgoing plan xs s) (key_touched_out (busy_in xs s)) (taken_touches r more) ks
       (keys true (touches_after ts more))
 
   out_later : (ts more : List Touch) → Knows xs s ts → AllCome true ts more → are_later more ≡ true
@@ -165,7 +165,7 @@ module _ (plan : Plan) (xs : SealedList) (s : SubStream) (r : Bool → Bool) whe
       rest = out_later (ProgramTouch k j ∷ ts) more (record { busy = knows.busy; unsent = knows.unsent }) come.1 first
 
       by_answer : (b : Bool) → refuses true (keys true ts) k ≡ b
-          → LeadTo (AllowedOut plan xs s) (key_touched_out (busy_in xs s))
+          → LeadTo (AllowsOutgoing plan xs s) (key_touched_out (busy_in xs s))
           (if b then taken_touches r more else ProgramTouch k j ∷ taken_touches r more) (keys true ts)
           (keys true (touches_after (ProgramTouch k j ∷ ts) more))
       by_answer true denied = subst (OutLead (ProgramTouch k j ∷ ts) more) (refused_is true k j ts denied) rest
@@ -194,7 +194,7 @@ NewIn plan h port s ts = (j : ℕ) → draws_started ts ≤ j → receiving_key 
 
 module _ (plan : Plan) (h : History) (port : PortName) (s : SubStream) (r : Bool → Bool) where
   abbrev pub InLead : List Touch → List Touch → Keys → Type 0
-  InLead ts more ks = LeadTo (AllowedIn plan h port s) key_touched_in (taken_touches r more) ks
+  InLead ts more ks = LeadTo (AllowsIncoming plan h port s) key_touched_in (taken_touches r more) ks
       (keys false (touches_after ts more))
 
   in_later : (ts more : List Touch) → NewIn plan h port s ts → AllCome false ts more → are_later more ≡ true
@@ -224,7 +224,8 @@ module _ (plan : Plan) (h : History) (port : PortName) (s : SubStream) (r : Bool
       rest : InLead (ProgramTouch k j ∷ ts) more (keys false (ProgramTouch k j ∷ ts))
       rest = in_later (ProgramTouch k j ∷ ts) more new come.1 first
 
-      by_answer : (b : Bool) → refuses false (keys false ts) k ≡ b → LeadTo (AllowedIn plan h port s) key_touched_in
+      by_answer : (b : Bool) → refuses false (keys false ts) k ≡ b
+          → LeadTo (AllowsIncoming plan h port s) key_touched_in
           (if b then taken_touches r more else ProgramTouch k j ∷ taken_touches r more) (keys false ts)
           (keys false (touches_after (ProgramTouch k j ∷ ts) more))
       by_answer true denied = subst (InLead (ProgramTouch k j ∷ ts) more) (refused_is false k j ts denied) rest

@@ -1,6 +1,6 @@
 -- Slots that stand for keys still do after a touch.
 use Rattle.machine_operations.proofs.Terms.{◌≡◌, ℕ, Bool, true, false, List, [], ◌∷◌, refl, ap, sym, ◌∙◌, arith, not}
-use Rattle.machine_operations.proofs.Terms.{◌||◌, key_in, nat_tests, AllowedIn, AllowedOut, any_live, busy_in}
+use Rattle.machine_operations.proofs.Terms.{◌||◌, key_in, nat_tests, AllowsIncoming, AllowsOutgoing, any_live, busy_in}
 use Rattle.machine_operations.proofs.Terms.{ClearTouch, GoTouch, History, is_on, key_touched_in, key_touched_out, Keys}
 use Rattle.machine_operations.proofs.Terms.{LeadTo, Live, Loaded, new_key, On, open_unit, Plan, PortName, ProgramTouch}
 use Rattle.machine_operations.proofs.Terms.{rx_slots, SealedList, sealing_key, sub_stream_packets, slot_touched}
@@ -10,7 +10,7 @@ use Rattle.machine_operations.proofs.Terms.{waits}
 -- ---- receivers
 
 pub touched_in : (plan : Plan) (h : History) (port : PortName) (s : SubStream) (t : Touch) (keys : Keys)
-    → AllowedIn plan h port s t keys
+    → AllowsIncoming plan h port s t keys
     → slot_touched false plan s t (rx_slots plan h port s keys) ≡ rx_slots plan h port s (key_touched_in t keys)
 touched_in plan h port s (ProgramTouch k j) keys allowed = grind arith
 touched_in plan h port s (GoTouch k i) keys allowed = grind (arith, allowed)
@@ -27,7 +27,7 @@ new_is plan xs s j none = rw none refl
 
 module _ (plan : Plan) (xs : SealedList) (s : SubStream) where
   -- set by set, since the sets are told apart in what waits
-  loaded : (k : Bool) (j : ℕ) (keys : Keys) → AllowedOut plan xs s (ProgramTouch k j) keys
+  loaded : (k : Bool) (j : ℕ) (keys : Keys) → AllowsOutgoing plan xs s (ProgramTouch k j) keys
       → slot_touched true plan s (ProgramTouch k j) (tx_slots plan xs s keys)
       ≡ tx_slots plan xs s (key_touched_out (busy_in xs s) (ProgramTouch k j) keys)
   loaded true j keys allowed = grind (arith, nat_tests, allowed)
@@ -44,12 +44,12 @@ module _ (plan : Plan) (xs : SealedList) (s : SubStream) where
 
   stopped : (k : Bool) (keys : Keys) →
       ((j : ℕ) → sub_stream_packets xs s j ≡ [] → Live (sealing_key plan xs s j) ≡ Live (new_key plan s j))
-      → AllowedOut plan xs s (StopTouch k) keys
+      → AllowsOutgoing plan xs s (StopTouch k) keys
       → slot_touched true plan s (StopTouch k) (tx_slots plan xs s keys)
       ≡ tx_slots plan xs s (key_touched_out (busy_in xs s) (StopTouch k) keys)
   stopped k keys new allowed = grind (arith, nat_tests, allowed, new)
 
-  pub touched_out : (t : Touch) (keys : Keys) → AllowedOut plan xs s t keys
+  pub touched_out : (t : Touch) (keys : Keys) → AllowsOutgoing plan xs s t keys
       → slot_touched true plan s t (tx_slots plan xs s keys)
       ≡ tx_slots plan xs s (key_touched_out (busy_in xs s) t keys)
   touched_out (ProgramTouch k j) keys allowed = loaded k j keys allowed
@@ -68,9 +68,8 @@ pub all_touched : (sends : Bool) (plan : Plan) (s : SubStream) (Allowed : Touch 
     → (ts : List Touch) (before after : Keys) → LeadTo Allowed one ts before after
     → slots_touched sends plan s ts (slots before) ≡ slots after
 all_touched sends plan s Allowed one slots each [] before after lead = ap slots (sym lead)
-all_touched sends plan s Allowed one slots each (t ∷ ts) before after lead =
-    ap (slots_touched sends plan s ts) (each t before lead.0)
-    ∙ all_touched sends plan s Allowed one slots each ts (one t before) after lead.1
+all_touched sends plan s Allowed one slots each (t ∷ ts) before after lead = ap (slots_touched sends plan s ts)
+    (each t before lead.0) ∙ all_touched sends plan s Allowed one slots each ts (one t before) after lead.1
 
 -- ---- Live slots are those of draws that are On
 

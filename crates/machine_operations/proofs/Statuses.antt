@@ -2,10 +2,10 @@
 use Rattle.machine_operations.proofs.Terms.{◌≡◌, ℕ, Bool, true, false, Some, refl, ap, ◌∙◌, arith, ◌&&◌, ◌||◌, any_live}
 use Rattle.machine_operations.proofs.Terms.{Cpl, Device, place_at_end, failed_there, has_all, has_all_live, has_key}
 use Rattle.machine_operations.proofs.Terms.{has_stream, History, Host, in_keyed, keyed_there, port_keys, place_keys}
-use Rattle.machine_operations.proofs.Terms.{lane_in, lane_out, LinkState, Npr, out_keyed, Plan, port_at, PortsStand, Pr}
-use Rattle.machine_operations.proofs.Terms.{rx_slots, sealed_packets, Side, has_some_live, stream_state_due}
-use Rattle.machine_operations.proofs.Terms.{state_due_if_planned, machine_status, keyed_status, history_status}
-use Rattle.machine_operations.proofs.Terms.{status_if_planned, SubKind, tx_slots}
+use Rattle.machine_operations.proofs.Terms.{lane_in, lane_out, LinkState, Npr, out_keyed, Plan, port_at}
+use Rattle.machine_operations.proofs.Terms.{StreamsAndPacketsStand, Pr, rx_slots, sealed_packets, Side, has_some_live}
+use Rattle.machine_operations.proofs.Terms.{stream_state_due, state_due_if_planned, machine_status, keyed_status}
+use Rattle.machine_operations.proofs.Terms.{history_status, status_if_planned, SubKind, tx_slots}
 use Rattle.machine_operations.proofs.SlotTouches.{live_in_is, live_out_is}
 
 -- ---- six tests
@@ -85,9 +85,9 @@ standing_failed : (plan : Plan) (h : History) (side : Side) (line stream : ℕ)
 unfolding stream_state_due
 standing_failed plan h side line stream = refl
 
-pub status_is : (plan : Plan) (st : LinkState) (h : History) → PortsStand plan st h → (side : Side) (line stream : ℕ)
-    → has_stream plan (port_at side line) stream ≡ true → machine_status plan st side line stream
-    ≡ history_status h side line stream
+pub status_is : (plan : Plan) (st : LinkState) (h : History) → StreamsAndPacketsStand plan st h
+    → (side : Side) (line stream : ℕ) → has_stream plan (port_at side line) stream ≡ true
+    → machine_status plan st side line stream ≡ history_status h side line stream
 status_is plan st h stands side line stream known =
     let here : state_due_if_planned plan h (port_at side line) stream
     ≡ Some (stream_state_due plan h (port_at side line) stream) = rw known refl in

@@ -5,8 +5,8 @@ pub use Rattle.machine_ports.proofs.Terms.{nat_lt, None, not, Ok, Option, option
 pub use Rattle.machine_ports.proofs.Terms.{subst, sym, true, ℕ, ◌&&◌, ◌+◌, ◌<◌, ◌==◌, ◌||◌, ◌∙◌, ◌∷◌, ◌≡◌, ◌≢◌, ◌≤◌}
 pub use Rattle.machine_ports.proofs.Terms.{Alter, ArrivedBytes, Arrive, CauseLaw, Cpl, Cut, Dump, Event, History}
 pub use Rattle.machine_ports.proofs.Terms.{IsNoOperation, KeyFacts, Keys, LinkState, Live, Loaded, Npr, Off, On, Pass}
-pub use Rattle.machine_ports.proofs.Terms.{Plan, PortName, PortsStand, Pr, RxSub, SealedList, Send, Sending, LaneSlots}
-pub use Rattle.machine_ports.proofs.Terms.{Status, Stepped, StreamState, SubKind, SubStream, TxSub, Verdict}
+pub use Rattle.machine_ports.proofs.Terms.{Plan, PortName, StreamsAndPacketsStand, Pr, RxSub, SealedList, Send, Sending}
+pub use Rattle.machine_ports.proofs.Terms.{LaneSlots, Status, Stepped, StreamState, SubKind, SubStream, TxSub, Verdict}
 pub use Rattle.machine_ports.proofs.Terms.{changed_by_id, each_sub, eqb-refl, has_failed, fails_at, found_by_id}
 pub use Rattle.machine_ports.proofs.Terms.{get_or-set_other, get_or-set_same, got_in, got_since, has_live_key, has_port}
 pub use Rattle.machine_ports.proofs.Terms.{has_stream, is_keyed, is_of_packets, is_on, is_quiet, is_same_port, key_in}
@@ -60,7 +60,8 @@ pub use Rattle.machine_ports.specs.Stream.{rested_stream, slots_at}
 pub use Rattle.machine_ports.specs.Touches.{slot_touched, slots_touched, taken_touches, touched_stream}
 pub use Rattle.machine_ports.specs.Stands.{FirstStands, PortsStandFor, StepStands, op_at, receiving_key}
 pub use Rattle.event_verdicts.specs.declared.verdict.Operation.{Operation}
-pub use Rattle.machine_operations.specs.Operations.{AllowedIn, AllowedOut, IsOperation, key_touched_in, key_touched_out}
-pub use Rattle.machine_operations.specs.Operations.{LeadTo, Operated, OperationStands, OperationSteps, busy_in}
+pub use Rattle.machine_operations.specs.Operations.{AllowsIncoming, AllowsOutgoing, IsOperation, key_touched_in}
+pub use Rattle.machine_operations.specs.Operations.{key_touched_out, LeadTo, HasOperated, OperationStands}
+pub use Rattle.machine_operations.specs.Operations.{OperationSteps, busy_in}
 pub use Rattle.std.specs.List.{slice_index_or}
 unfoldable pub use Rattle.tlp_layout.specs.Reading.{read_of}

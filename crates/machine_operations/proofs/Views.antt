@@ -4,10 +4,10 @@ use Rattle.machine_operations.proofs.Terms.{arith, if◌then◌else◌, at_each,
 use Rattle.machine_operations.proofs.Terms.{has_stream, History, is_live_slot, is_live_there, Keys, port_keys}
 use Rattle.machine_operations.proofs.Terms.{keys_into, keys_out, place_keys, lane_in, lane_out, LinkState, is_live_at}
 use Rattle.machine_operations.proofs.Terms.{nat_tests, no_keys, On, KeyPlace, Plan, port_at, PortName, ports_at}
-use Rattle.machine_operations.proofs.Terms.{ports_of, PortsStand, refuses, refuses_at, slots_refuse, rx_slots}
-use Rattle.machine_operations.proofs.Terms.{rx_state_due, RxSub, sealed_packets, SealedList, slot_in_set, slot_of}
-use Rattle.machine_operations.proofs.Terms.{LaneSlots, slots_at, stream_state_due, StreamState, SubStream, tx_slots}
-use Rattle.machine_operations.proofs.Terms.{tx_state_due, TxSub}
+use Rattle.machine_operations.proofs.Terms.{ports_of, StreamsAndPacketsStand, refuses, refuses_at, slots_refuse}
+use Rattle.machine_operations.proofs.Terms.{rx_slots, rx_state_due, RxSub, sealed_packets, SealedList, slot_in_set}
+use Rattle.machine_operations.proofs.Terms.{slot_of, LaneSlots, slots_at, stream_state_due, StreamState, SubStream}
+use Rattle.machine_operations.proofs.Terms.{tx_slots, tx_state_due, TxSub}
 use Rattle.spec_keys.specs.Keys.{refusal_if}
 use Rattle.machine_ports.proofs.{unplanned_keys}
 
@@ -55,7 +55,7 @@ known plan h law p false seen there out into =
     ∙ (into port s (port_keys h port s) ((facts plan).apart h law port s) ∙ ap (there false)
     (keys_into h port p.stream p.sub))
 
-reads : (plan : Plan) (st : LinkState) (h : History) → PortsStand plan st h
+reads : (plan : Plan) (st : LinkState) (h : History) → StreamsAndPacketsStand plan st h
     → (p : KeyPlace) (at : Option StreamState → Bool) (there : Keys → Bool) → at None ≡ there no_keys
     → at (Some (stream_state_due plan h (port_at p.side p.line) p.stream)) ≡ there (place_keys h p)
     → at (find plan st (port_at p.side p.line) p.stream) ≡ there (place_keys h p)
@@ -75,14 +75,14 @@ bare_refuses s k = grind arith
 bare_live : (s k : Bool) → false ≡ is_live_there (slot_of s no_keys k)
 bare_live s k = grind arith
 
-refuses_is : (plan : Plan) (st : LinkState) (h : History) → PortsStand plan st h → (p : KeyPlace) (k : Bool)
+refuses_is : (plan : Plan) (st : LinkState) (h : History) → StreamsAndPacketsStand plan st h → (p : KeyPlace) (k : Bool)
     → refuses_at p.sends p.sub k (find plan st (port_at p.side p.line) p.stream) ≡ refuses p.sends (place_keys h p) k
 refuses_is plan st h stands p k =
     reads plan st h stands p (refuses_at p.sends p.sub k) (λ ks. refuses p.sends ks k) (bare_refuses p.sends k)
     (known plan h stands.cause p p.sends (λ slots. slots_refuse slots k) (λ s ks. refuses s ks k) (refuses_out plan k)
     (refuses_into plan h k))
 
-live_is : (plan : Plan) (st : LinkState) (h : History) → PortsStand plan st h → (p : KeyPlace) (k : Bool)
+live_is : (plan : Plan) (st : LinkState) (h : History) → StreamsAndPacketsStand plan st h → (p : KeyPlace) (k : Bool)
     → (ports_of plan st).is_live p k ≡ (ports_at h).is_live p k
 live_is plan st h stands p k =
     reads plan st h stands p (is_live_at p.sends p.sub k) (λ ks. is_live_there (slot_of p.sends ks k))
@@ -92,6 +92,7 @@ live_is plan st h stands p k =
     (live_out plan k) (live_into plan h k))
 
 -- Operations read of the slots what the history says of the keys.
-pub ports_is : (plan : Plan) (st : LinkState) (h : History) → PortsStand plan st h → ports_of plan st ≡ ports_at h
+pub ports_is : (plan : Plan) (st : LinkState) (h : History) → StreamsAndPacketsStand plan st h → ports_of plan st
+    ≡ ports_at h
 ports_is plan st h stands = λ i. record
     { refusal = λ p k. refusal_if (refuses_is plan st h stands p k i); is_live = λ p k. live_is plan st h stands p k i }

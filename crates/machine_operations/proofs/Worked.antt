@@ -6,11 +6,11 @@ use Rattle.machine_operations.proofs.Terms.{has_failed, failed_live, find, got_s
 use Rattle.machine_operations.proofs.Terms.{has_live_out, has_stream, held_same, History, is_on, is_on_stream, is_quiet}
 use Rattle.machine_operations.proofs.Terms.{kept_all, Keys, port_keys, lane_in, lane_out, LinkState, Loss, manager}
 use Rattle.machine_operations.proofs.Terms.{moments, touched_state, touches_at, Npr, on_it, StreamStage, op_after_reach}
-use Rattle.machine_operations.proofs.Terms.{Operation, KeyPlace, place_in_sub_stream, Plan, PortName, PortsStand}
-use Rattle.machine_operations.proofs.Terms.{PortView, posted_since_last, posted_sum, Pr, put_op, quiet_seals_none}
-use Rattle.machine_operations.proofs.Terms.{Reach, reach_of, rx_slots, rx_slots_same, sealed_same, since_same}
-use Rattle.machine_operations.proofs.Terms.{stream_state_due, StreamState, SubKind, SubStream, total_in, touches}
-use Rattle.machine_operations.proofs.Terms.{tx_slots, units_same, units_since, Verdict, Work, work_done}
+use Rattle.machine_operations.proofs.Terms.{Operation, KeyPlace, place_in_sub_stream, Plan, PortName}
+use Rattle.machine_operations.proofs.Terms.{StreamsAndPacketsStand, PortView, posted_since_last, posted_sum, Pr, put_op}
+use Rattle.machine_operations.proofs.Terms.{quiet_seals_none, Reach, reach_of, rx_slots, rx_slots_same, sealed_same}
+use Rattle.machine_operations.proofs.Terms.{since_same, stream_state_due, StreamState, SubKind, SubStream, total_in}
+use Rattle.machine_operations.proofs.Terms.{touches, tx_slots, units_same, units_since, Verdict, Work, work_done}
 use Rattle.event_verdicts.specs.declared.verdict.Operation.TheVariants as op
 use Rattle.machine_ports.proofs.{seat_same}
 use Rattle.ide_types.specs.Lines.{is_hosted}
@@ -90,8 +90,9 @@ still_at plan h e x still port = record {
   based = still.based port.line;
 }
 
-pub still_stands : (plan : Plan) (st : LinkState) (h : History) (e : Event) (x : Verdict) → PortsStand plan st h → x
-    ≡ due plan h e → Still plan h e x → PortsStand plan st ((e, x) ∷ h)
+pub still_stands : (plan : Plan) (st : LinkState) (h : History) (e : Event) (x : Verdict)
+    → StreamsAndPacketsStand plan st h → x
+    ≡ due plan h e → Still plan h e x → StreamsAndPacketsStand plan st ((e, x) ∷ h)
 still_stands plan st h e x stands is still = record {
   cause = (is, stands.cause);
   streams = λ port stream. stands.streams port stream ∙ ap
@@ -133,8 +134,7 @@ asked_still plan h o line stream lose x is refused = record {
     none op.Stop refused p = rw refused (no_touch (is_on_stream p line stream))
 
     based : (o : Operation) → reach_of o x ≡ None → (l s : ℕ)
-        → base ((event_of_operation o line stream lose, x) ∷ h) l s
-        ≡ base h l s
+        → base ((event_of_operation o line stream lose, x) ∷ h) l s ≡ base h l s
     based op.Establish refused l s = rw
         (refused, no_end ((line == l) && (stream == s)) (asked_work h op.Establish line stream).begins) refl
     based op.Refresh refused l s = refl
@@ -143,27 +143,28 @@ asked_still plan h o line stream lose x is refused = record {
 -- ---- one that reached an exchange
 
 -- ports and packets are not those of the manager
-beside : (plan : Plan) (st : LinkState) (h : History) (line stream : ℕ) (o : StreamStage) (n : ℕ) → PortsStand plan st h
-    → PortsStand plan (record (put_op plan st line stream o) { draws = n }) h
+beside : (plan : Plan) (st : LinkState) (h : History) (line stream : ℕ) (o : StreamStage) (n : ℕ)
+    → StreamsAndPacketsStand plan st h
+    → StreamsAndPacketsStand plan (record (put_op plan st line stream o) { draws = n }) h
 unfolding find put_op
 beside plan st h line stream o n stands = record
     { cause = stands.cause; streams = stands.streams; packets = stands.packets }
 
 by_ports : (plan : Plan) (st : LinkState) (h g : History) (line stream : ℕ) (w : Work) (r : Reach)
-    → PortsStand plan st h → PortsStand plan
+    → StreamsAndPacketsStand plan st h → StreamsAndPacketsStand plan
     (touched_state plan st line stream (outs h line stream w r) (ins h line stream w r)) g
-    → PortsStand plan (work_done plan st line stream w (Some r)) g
+    → StreamsAndPacketsStand plan (work_done plan st line stream w (Some r)) g
 by_ports plan st h g line stream w r stands after =
     beside plan _ g line stream (op_after_reach (is_hosted line) w r) (draws_after st.draws w)
-    (subst (λ (ports : PortView). PortsStand plan
+    (subst (λ (ports : PortView). StreamsAndPacketsStand plan
     (touched_state plan st line stream (λ side u. touches_at ports w r (place_at_end line stream true side u))
     (λ side u. touches_at ports w r (place_at_end line stream false side u))) g)
     (sym (ports_is plan st h stands)) after)
 
 pub asked_stands : (plan : Plan) (st : LinkState) (h : History) (o : Operation) (line stream : ℕ) (lose : Option Loss)
-    (x : Verdict) → PortsStand plan st h
+    (x : Verdict) → StreamsAndPacketsStand plan st h
     → x ≡ due plan h (event_of_operation o line stream lose)
-    → PortsStand plan (work_done plan st line stream (asked_work h o line stream) (reach_of o x))
+    → StreamsAndPacketsStand plan (work_done plan st line stream (asked_work h o line stream) (reach_of o x))
     ((event_of_operation o line stream lose, x) ∷ h)
 asked_stands plan st h o line stream lose x stands is = by_reach (reach_of o x) refl
   where
@@ -173,7 +174,8 @@ asked_stands plan st h o line stream lose x stands is = by_reach (reach_of o x) 
     w : Work
     w = asked_work h o line stream
 
-    by_reach : (r : Option Reach) → reach_of o x ≡ r → PortsStand plan (work_done plan st line stream w r) ((e, x) ∷ h)
+    by_reach : (r : Option Reach) → reach_of o x ≡ r → StreamsAndPacketsStand plan (work_done plan st line stream w r)
+        ((e, x) ∷ h)
     by_reach None refused = still_stands plan st h e x stands is (asked_still plan h o line stream lose x is refused)
     by_reach (Some r) reached =
         by_ports plan st h ((e, x) ∷ h) line stream w r stands

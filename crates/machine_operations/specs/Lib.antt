@@ -8,8 +8,8 @@ pub use Rattle.machine_ports.specs.Machine.{whole_arrival, place_at_end, port_at
 pub use Rattle.machine_ports.specs.Machine.{refuses_at, slots_refuse, machine_status, status_if_planned, step_of}
 pub use Rattle.machine_ports.specs.Machine.{touches_at, verdict_of_taken}
 pub use Rattle.machine_ports.specs.Replies.{BoundCompletion, completion_first, site_completion, link_completion}
-pub use Rattle.machine_ports.specs.Stands.{PortsStand, PortsStandFor, beside_at, receiving_key, rx_slot, rx_slots}
-pub use Rattle.machine_ports.specs.Stands.{state_due_if_planned, tx_slots}
+pub use Rattle.machine_ports.specs.Stands.{StreamsAndPacketsStand, PortsStandFor, beside_at, receiving_key, rx_slot}
+pub use Rattle.machine_ports.specs.Stands.{rx_slots, state_due_if_planned, tx_slots}
 pub use Rattle.machine_ports.specs.Stream.{Accepted, Failed, Held, Insecure, NotKeyed, StreamState, PacketOutcome}
 pub use Rattle.machine_ports.specs.Stream.{receiving_draw, stream_outcome}
 pub use Rattle.machine_ports.specs.Touches.{slots_touched, taken_touches, touched_stream}

@@ -13,7 +13,7 @@ use Rattle.spec_keys.specs.History.{History, base}
 use Rattle.spec_keys.specs.Keys.{Touch, Program, Go, Stop, Clear, Keyed, Off, Loaded, On, Keys, no_keys, key_in}
 use Rattle.spec_keys.specs.Keys.{with_key}
 use Rattle.machine_ports.specs.Machine.{LinkState, new_key, touched_state}
-use Rattle.machine_ports.specs.Stands.{PortsStand, receiving_key, got_in, stream_state_due}
+use Rattle.machine_ports.specs.Stands.{StreamsAndPacketsStand, receiving_key, got_in, stream_state_due}
 use Rattle.machine_ports.specs.Touches.{touched_stream}
 
 -- ---- what a touch of an operation makes of keys; nothing is sealed or accepted
@@ -47,10 +47,10 @@ key_touched_out busy t keys = key_touched_in t keys
 -- ---- touches that are allowed
 
 -- a draw that gets GO is new at the place
-abbrev pub AllowedIn : Plan → History → PortName → SubStream → Touch → Keys → Type 0
-AllowedIn plan h port s (Go k i) keys =
+abbrev pub AllowsIncoming : Plan → History → PortName → SubStream → Touch → Keys → Type 0
+AllowsIncoming plan h port s (Go k i) keys =
     (j : ℕ) → key_in keys k ≡ Loaded j → receiving_key plan h port s j ≡ new_key plan s j
-AllowedIn plan h port s _ keys = Unit {0}
+AllowsIncoming plan h port s _ keys = Unit {0}
 
 -- a unit is unfinished under the draw
 abbrev pub busy_in : SealedList → SubStream → ℕ → Bool
@@ -58,15 +58,16 @@ busy_in xs s j = nat_lt 0 (length (open_unit (sub_stream_packets xs s j)))
 
 -- A KEY_PROG is taken if no other draw waits for the one in the set. A draw that gets GO is new, and greater than the
 -- other one. One that waits for one that is taken out has sealed nothing.
-abbrev pub AllowedOut : Plan → SealedList → SubStream → Touch → Keys → Type 0
-AllowedOut plan xs s (Program k j) keys = (i : ℕ) → key_in keys (not k) ≡ On i → waits (not k) i (key_in keys k) ≡ false
-AllowedOut plan xs s (Go k l) keys =
+abbrev pub AllowsOutgoing : Plan → SealedList → SubStream → Touch → Keys → Type 0
+AllowsOutgoing plan xs s (Program k j) keys = (i : ℕ) → key_in keys (not k) ≡ On i → waits (not k) i (key_in keys k)
+    ≡ false
+AllowsOutgoing plan xs s (Go k l) keys =
     (j : ℕ) → key_in keys k ≡ Loaded j
     → (sub_stream_packets xs s j ≡ []) × ((i : ℕ) → key_in keys (not k) ≡ On i → (waits k j (On i) ≡ true)
     × (waits (not k) i (On j) ≡ false))
-AllowedOut plan xs s (Stop k) keys =
+AllowsOutgoing plan xs s (Stop k) keys =
     (i : ℕ) → key_in keys (not k) ≡ On i → waits (not k) i (key_in keys k) ≡ true → sub_stream_packets xs s i ≡ []
-AllowedOut plan xs s _ keys = Unit {0}
+AllowsOutgoing plan xs s _ keys = Unit {0}
 
 -- each of these touches is allowed of the keys that those before it leave, and the last leaves these
 abbrev pub LeadTo : (Touch → Keys → Type 0) → (Touch → Keys → Keys) → List Touch → Keys → Keys → Type 0
@@ -78,15 +79,15 @@ LeadTo Allowed one (t ∷ ts) before after = Allowed t before × LeadTo Allowed 
 -- What an operation's pair owes of its keys at a port and stream: its touches lead to the keys after it; Base stays
 -- while a direction has a Live key; and if a direction without a Live key gets one, nothing from Base on was sealed or
 -- got there.
-pub record Operated (plan : Plan) (h : History) (e : Event) (w : Verdict) (port : PortName) (stream : ℕ) (out into :
+pub record HasOperated (plan : Plan) (h : History) (e : Event) (w : Verdict) (port : PortName) (stream : ℕ) (out into :
     SubKind → List Touch) : Type 0 where
   pub quiet : is_quiet w ≡ true
   pub lead_out : (u : SubKind) → let s = lane_out port stream u in
       let xs = sealed_packets plan h in
-      LeadTo (AllowedOut plan xs s) (key_touched_out (busy_in xs s)) (out u) (port_keys h port s)
+      LeadTo (AllowsOutgoing plan xs s) (key_touched_out (busy_in xs s)) (out u) (port_keys h port s)
       (port_keys ((e, w) ∷ h) port s)
   pub lead_into : (u : SubKind) → let s = lane_in port stream u in
-      LeadTo (AllowedIn plan h port s) key_touched_in (into u) (port_keys h port s) (port_keys ((e, w) ∷ h) port s)
+      LeadTo (AllowsIncoming plan h port s) key_touched_in (into u) (port_keys h port s) (port_keys ((e, w) ∷ h) port s)
   pub base_out : has_live_out h port stream ≡ true → has_live_out ((e, w) ∷ h) port stream ≡ true
       → base ((e, w) ∷ h) port.line stream ≡ base h port.line stream
   pub base_into : has_live_in h port stream ≡ true → has_live_in ((e, w) ∷ h) port stream ≡ true
@@ -104,7 +105,7 @@ pub record Operated (plan : Plan) (h : History) (e : Event) (w : Verdict) (port 
 abbrev pub OperationStands : Type 0
 OperationStands =
     (plan : Plan) (h : History) (e : Event) (w : Verdict) (port : PortName) (stream : ℕ) (out into : SubKind
-    → List Touch) → Operated plan h e w port stream out into
+    → List Touch) → HasOperated plan h e w port stream out into
     → touched_stream plan port stream out into (stream_state_due plan h port stream)
     ≡ stream_state_due plan ((e, w) ∷ h) port stream
 
@@ -116,7 +117,7 @@ pub record IsOperation (plan : Plan) (h : History) (e : Event) (w : Verdict) (li
   pub due_is : w ≡ due plan h e
   pub quiet : is_quiet w ≡ true
   pub alone : (l s : ℕ) → ((line == l) && (stream == s)) ≡ false → operates e l s ≡ false
-  pub each : (side : Side) → Operated plan h e w (record { side = side; line = line }) stream (out side) (into side)
+  pub each : (side : Side) → HasOperated plan h e w (record { side = side; line = line }) stream (out side) (into side)
 
 -- The state after an operation stands for the history with its pair.
 abbrev pub OperationSteps : Type 0
@@ -124,5 +125,5 @@ OperationSteps =
     (plan : Plan) → KeyFacts plan
     → (st : LinkState) (h : History) (e : Event) (w : Verdict) (line stream : ℕ)
     (out into : Side → SubKind → List Touch)
-    → PortsStand plan st h → IsOperation plan h e w line stream out into
-    → PortsStand plan (touched_state plan st line stream out into) ((e, w) ∷ h)
+    → StreamsAndPacketsStand plan st h → IsOperation plan h e w line stream out into
+    → StreamsAndPacketsStand plan (touched_state plan st line stream out into) ((e, w) ∷ h)

@@ -13,9 +13,8 @@ use Rattle.machine_ports.proofs.Terms.{meets_counts, aggregation_of, NotKeyed, N
 use Rattle.machine_ports.proofs.Terms.{pending_packets, Plan, PortName, Pr, receiving_sub_stream, rx_slots}
 use Rattle.machine_ports.proofs.Terms.{rx_state_due, RxSub, ending_due, slot_in_set, LaneSlots, stream_state_due}
 use Rattle.machine_ports.proofs.Terms.{SubKind, SubStream, sum_by-append, PacketOutcome, stream_outcome}
-use Rattle.machine_ports.proofs.Terms.{stream_outcome_by_keys}
-use Rattle.machine_ports.proofs.Terms.{Three, under_keys, next_unit_name, units_got, units_since, Verdict}
-use Rattle.machine_ports.proofs.Terms.{verdict_of_taken}
+use Rattle.machine_ports.proofs.Terms.{stream_outcome_by_keys, Three, under_keys, next_unit_name, units_got}
+use Rattle.machine_ports.proofs.Terms.{units_since, Verdict, verdict_of_taken}
 use Rattle.ide_types.specs.declared.sub.FailCause.TheVariants as fail
 use Rattle.event_verdicts.specs.declared.verdict.Verdict.TheVariants as v
 

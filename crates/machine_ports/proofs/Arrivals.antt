@@ -6,14 +6,13 @@ use Rattle.spec_links.specs.Due.{through_due}
 unfoldable use Rattle.spec_links.specs.Ports.{port_of, goes_through}
 use Rattle.machine_ports.proofs.Terms.{if◌then◌else◌, Bool, false, ◌≡◌, true, List, [], ◌∷◌, ◌++◌, Option, Some, None}
 use Rattle.machine_ports.proofs.Terms.{Result, Ok, Err, refl, ap, sym, ◌∙◌, subst, arith, Accepted, ArrivedBytes}
-use Rattle.machine_ports.proofs.Terms.{arrival_due, arrival_of_event, before_tag, before_tag_of, Came, due, effects_of}
-use Rattle.machine_ports.proofs.Terms.{Event, Failed, find, has_stream, Held, History, Insecure, IsNoOperation}
-use Rattle.machine_ports.proofs.Terms.{KeyFacts, LinkState, NotKeyed, Packet, packet_that_came, packet_word}
-use Rattle.machine_ports.proofs.Terms.{pending_packets, Plan, PortName, PortsStand, with_stream_state}
-use Rattle.machine_ports.proofs.Terms.{receiving_sub_stream, sealed_same, seals_none, ending_due, stream_state_due}
-use Rattle.machine_ports.proofs.Terms.{state_after, StreamState, stepped_packet, stepped_cut, stepped_arrival}
-use Rattle.machine_ports.proofs.Terms.{PacketOutcome}
-use Rattle.machine_ports.proofs.Terms.{verdict_of_taken}
+use Rattle.machine_ports.proofs.Terms.{arrival_due, arrival_of_event, before_tag, before_tag_of_cut, Came, due}
+use Rattle.machine_ports.proofs.Terms.{effects_of, Event, Failed, find, has_stream, Held, History, Insecure}
+use Rattle.machine_ports.proofs.Terms.{IsNoOperation, KeyFacts, LinkState, NotKeyed, Packet, packet_that_came}
+use Rattle.machine_ports.proofs.Terms.{packet_word, pending_packets, Plan, PortName, StreamsAndPacketsStand}
+use Rattle.machine_ports.proofs.Terms.{with_stream_state, receiving_sub_stream, sealed_same, seals_none, ending_due}
+use Rattle.machine_ports.proofs.Terms.{stream_state_due, state_after, StreamState, stepped_packet, stepped_cut}
+use Rattle.machine_ports.proofs.Terms.{stepped_arrival, PacketOutcome, verdict_of_taken}
 use Rattle.event_verdicts.specs.declared.verdict.Verdict.TheVariants as v
 use Rattle.ide_prefix.specs.declared.fault.PacketFault.{PacketFault}
 use Rattle.ide_prefix.specs.Faults.{packet_place}
@@ -33,7 +32,7 @@ seals_nothing : (beside : BesidePorts) (port : PortName) (p : Packet) (t : Packe
 seals_nothing beside port p t = grind arith
 
 module _ (plan : Plan) (facts : KeyFacts plan) (st : LinkState) (h : History) (e : Event) (still : IsNoOperation e)
-    (stands : PortsStand plan st h) where
+    (stands : StreamsAndPacketsStand plan st h) where
   after : (port : PortName) (p : Packet) → Came plan h e port p → (t : PacketOutcome) → Says plan h port p t
       → verdict_of_taken (beside_at plan h) port p t ≡ due plan h e
       → state_after (stream_state_due plan h port p.prefix.stream) p t
@@ -91,21 +90,19 @@ module _ (plan : Plan) (facts : KeyFacts plan) (st : LinkState) (h : History) (e
       (stands.packets ∙ ap kept_all (sym (sealed_same plan h e w (seals_nothing (beside_at plan h) port p t)))))
 
   by_found : (port : PortName) (p : Packet) → Came plan h e port p
-      → ending_due plan h port (before_tag_of plan h port (Ok (IdePacket p))) ≡ due plan h e
-      → (o : Option StreamState) → find plan st port p.prefix.stream ≡ o
-      → Steps plan h e (stepped_packet plan (beside_at plan h) st port p o)
-  by_found port p came is None found =
-      quiet plan facts st h e (v.Unknown (port_of plan port) p.prefix.stream) stands refl
-      (rw (not_kept plan st h port p.prefix.stream stands found) at is) still
+      → ending_due plan h port (before_tag_of_cut plan h port (Ok (IdePacket p))) ≡ due plan h e
+      → (o : Option StreamState)
+      → find plan st port p.prefix.stream ≡ o → Steps plan h e (stepped_packet plan (beside_at plan h) st port p o)
+  by_found port p came is None found = quiet plan facts st h e (v.Unknown (port_of plan port) p.prefix.stream) stands
+      refl (rw (not_kept plan st h port p.prefix.stream stands found) at is) still
   by_found port p came is (Some x) found =
       let kept = kept_is plan st h port p.prefix.stream x stands found in
       subst (λ (y : StreamState). find plan st port p.prefix.stream ≡ Some y
       → Steps plan h e (stepped_packet plan (beside_at plan h) st port p (Some y))) (sym kept.same)
       (standing_takes port p came (rw kept.known at is) kept.known) found
 
-  by_cut : (a : ArrivedBytes) → arrival_of_event plan h e ≡ Some a → (r : Result CutValue PacketFault) → cut_of a.bytes
-      ≡ r
-      → ending_due plan h a.port (before_tag_of plan h a.port r) ≡ due plan h e
+  by_cut : (a : ArrivedBytes) → arrival_of_event plan h e ≡ Some a → (r : Result CutValue PacketFault)
+      → cut_of a.bytes ≡ r → ending_due plan h a.port (before_tag_of_cut plan h a.port r) ≡ due plan h e
       → Steps plan h e (stepped_cut plan (beside_at plan h) st a.port r)
   by_cut a arrival (Err f) cut is = quiet plan facts st h e
       (v.Malformed (port_of plan a.port) (packet_word f) (packet_place f)) stands refl is still
@@ -121,7 +118,7 @@ module _ (plan : Plan) (facts : KeyFacts plan) (st : LinkState) (h : History) (e
   arrives (Some a) arrival is = by (goes_through plan a.port a.bytes) is
     where
       by : (b : Bool) → ending_due plan h a.port (if b then Err (through_due plan a.port)
-          else before_tag_of plan h a.port (cut_of a.bytes)) ≡ due plan h e
+          else before_tag_of_cut plan h a.port (cut_of a.bytes)) ≡ due plan h e
           → Steps plan h e (if b then (through_due plan a.port, st)
           else stepped_cut plan (beside_at plan h) st a.port (cut_of a.bytes))
       by true is = quiet plan facts st h e (through_due plan a.port) stands refl is still

@@ -2,15 +2,15 @@
 use Rattle.machine_ports.proofs.Terms.{◌≡◌, ℕ, ◌==◌, Bool, true, false, List, ◌∷◌, map, Some, None, refl, ap, sym, ◌∙◌}
 use Rattle.machine_ports.proofs.Terms.{subst, arith, if◌then◌else◌, ◌&&◌, due, Event, find, has_stream, History}
 use Rattle.machine_ports.proofs.Terms.{is_of_packets, is_quiet, is_same_port, IsNoOperation, kept_packet, KeyFacts}
-use Rattle.machine_ports.proofs.Terms.{LinkPacket, LinkState, nat_tests, operates, Packet, Plan, PortName, PortsStand}
-use Rattle.machine_ports.proofs.Terms.{with_stream_state, quiet_seals_none, same_port, sealed_packets, sealed_same}
-use Rattle.machine_ports.proofs.Terms.{SealedList, SealedPacket, stream_state_due, state_due_if_planned, Stepped}
-use Rattle.machine_ports.proofs.Terms.{StreamState, Verdict}
+use Rattle.machine_ports.proofs.Terms.{LinkPacket, LinkState, nat_tests, operates, Packet, Plan, PortName}
+use Rattle.machine_ports.proofs.Terms.{StreamsAndPacketsStand, with_stream_state, quiet_seals_none, same_port}
+use Rattle.machine_ports.proofs.Terms.{sealed_packets, sealed_same, SealedList, SealedPacket, stream_state_due}
+use Rattle.machine_ports.proofs.Terms.{state_due_if_planned, Stepped, StreamState, Verdict}
 use Rattle.machine_ports.proofs.Frames.{seals_at, takes_at, frame}
 
 -- the verdict is the one that is due, and the state after it stands for the history with it
 abbrev pub Steps : Plan → History → Event → Stepped → Type 0
-Steps plan h e r = (r.0 ≡ due plan h e) × PortsStand plan r.1 ((e, r.0) ∷ h)
+Steps plan h e r = (r.0 ≡ due plan h e) × StreamsAndPacketsStand plan r.1 ((e, r.0) ∷ h)
 
 abbrev pub kept_all : SealedList → List LinkPacket
 kept_all xs = map (λ (x : SealedPacket × Packet). kept_packet x.0.port x.1) xs
@@ -30,15 +30,15 @@ pub record IsKept (plan : Plan) (h : History) (port : PortName) (stream : ℕ) (
   pub same : x ≡ stream_state_due plan h port stream
 
 pub kept_is : (plan : Plan) (st : LinkState) (h : History) (port : PortName) (stream : ℕ) (x : StreamState)
-    → PortsStand plan st h → find plan st port stream ≡ Some x → IsKept plan h port stream x
+    → StreamsAndPacketsStand plan st h → find plan st port stream ≡ Some x → IsKept plan h port stream x
 kept_is plan st h port stream x stands found =
     let is : Some x ≡ (if has_stream plan port stream then Some (stream_state_due plan h port stream) else None) =
     sym found ∙
     stands.streams port stream in
     record { known = grind arith; same = grind arith }
 
-pub not_kept : (plan : Plan) (st : LinkState) (h : History) (port : PortName) (stream : ℕ) → PortsStand plan st h
-    → find plan st port stream ≡ None → has_stream plan port stream ≡ false
+pub not_kept : (plan : Plan) (st : LinkState) (h : History) (port : PortName) (stream : ℕ)
+    → StreamsAndPacketsStand plan st h → find plan st port stream ≡ None → has_stream plan port stream ≡ false
 not_kept plan st h port stream stands found =
     let is : None ≡ (if has_stream plan port stream then Some (stream_state_due plan h port stream) else None) =
     sym found ∙
@@ -47,7 +47,7 @@ not_kept plan st h port stream stands found =
 
 -- a stream of which a pair tells nothing stands for the history with the pair
 pub stays : (plan : Plan) → KeyFacts plan → (st : LinkState) (h : History) (e : Event) (w : Verdict)
-    → PortsStand plan st h → w ≡ due plan h e → (q : PortName) (t : ℕ) → operates e q.line t ≡ false
+    → StreamsAndPacketsStand plan st h → w ≡ due plan h e → (q : PortName) (t : ℕ) → operates e q.line t ≡ false
     → seals_at q t w ≡ false → takes_at q t w ≡ false → find plan st q t ≡ state_due_if_planned plan ((e, w) ∷ h) q t
 stays plan facts st h e w stands is q t still seals takes =
     stands.streams q t ∙ ap (λ (y : StreamState). if has_stream plan q t then Some y else None)
@@ -63,7 +63,8 @@ at_place port q stream t P same here =
 
 -- a state in which one stream at a port is new stands for the history with the pair
 pub changes : (plan : Plan) → KeyFacts plan → (st new : LinkState) (h : History) (e : Event) (w : Verdict)
-    (port : PortName) (stream : ℕ) (x : StreamState) → PortsStand plan st h → w ≡ due plan h e → IsNoOperation e
+    (port : PortName) (stream : ℕ) (x : StreamState) → StreamsAndPacketsStand plan st h → w ≡ due plan h e
+    → IsNoOperation e
     → has_stream plan port stream ≡ true → IsOnlyAt port stream w → find plan new port stream ≡ Some x →
     ((q : PortName) (t : ℕ) → (is_same_port port q && (stream == t)) ≡ false → find plan new q t ≡ find plan st q t)
     → x ≡ stream_state_due plan ((e, w) ∷ h) port stream → new.packets ≡ kept_all (sealed_packets plan ((e, w) ∷ h))
@@ -100,7 +101,7 @@ pub quiet_everywhere : (w : Verdict) → is_quiet w ≡ true → (q : PortName) 
 quiet_everywhere w none q t = grind arith
 
 pub quiet : (plan : Plan) → KeyFacts plan → (st : LinkState) (h : History) (e : Event) (w : Verdict)
-    → PortsStand plan st h → is_quiet w ≡ true → w ≡ due plan h e → IsNoOperation e → Steps plan h e (w, st)
+    → StreamsAndPacketsStand plan st h → is_quiet w ≡ true → w ≡ due plan h e → IsNoOperation e → Steps plan h e (w, st)
 quiet plan facts st h e w stands none is still = (
   is,
   record {

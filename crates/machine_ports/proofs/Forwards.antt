@@ -1,7 +1,7 @@
 -- A forward gets the verdict that is due, and the state after it stands for the history with it: the first TLP that
 -- waits is sent as any TLP is.
 use Rattle.machine_ports.proofs.Terms.{◌≡◌, ℕ, Bool, true, false, List, [], ◌∷◌, Err, refl, ◌∙◌, subst, Ok}
-use Rattle.machine_ports.proofs.Terms.{if◌then◌else◌, History, KeyFacts, LinkState, Plan, PortsStand}
+use Rattle.machine_ports.proofs.Terms.{if◌then◌else◌, History, KeyFacts, LinkState, Plan, StreamsAndPacketsStand}
 unfoldable use Rattle.machine_ports.proofs.Terms.{due}
 use Rattle.ide_types.specs.declared.direction.Direction.{Direction}
 use Rattle.script_events.specs.declared.event.Event.TheVariants.{Forward}
@@ -17,7 +17,8 @@ use Rattle.machine_ports.specs.Stands.{beside_at}
 use Rattle.machine_ports.proofs.Changes.{Steps}
 use Rattle.machine_ports.proofs.Sends.{by_outgoing, tells}
 
-module _ (plan : Plan) (facts : KeyFacts plan) (st : LinkState) (h : History) (stands : PortsStand plan st h)
+module _ (plan : Plan) (facts : KeyFacts plan) (st : LinkState) (h : History)
+    (stands : StreamsAndPacketsStand plan st h)
     (link : ℕ) (d : Direction) where
   by_waiting : (xs : List HopTlp) → hop_waiting plan h link d ≡ xs
       → forward_first plan h link d xs ≡ due plan h (Forward link d)

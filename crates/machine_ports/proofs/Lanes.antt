@@ -56,8 +56,7 @@ lanes_is plan h port stream live =
     λ i. record {
       aggregation = aggregation_of plan port.line stream;
       limit = plan.units_per_key;
-      failed =
-          (stream_state_due plan h port stream).failed;
+      failed = (stream_state_due plan h port stream).failed;
       lane = λ u. lane u i;
     }
 

@@ -1,10 +1,10 @@
 -- An answer to a read that waits gets the verdict that is due, and the state after it stands for the history with it:
 -- the port's key of completions is the history's, and a completion is sent as any TLP is.
 use Rattle.spec_keys.specs.Keys.{is_some_below}
-use Rattle.machine_ports.proofs.Terms.{◌≡◌, ℕ, Bool, true, false, List, [], ◌∷◌, Option, Some, None}
-use Rattle.machine_ports.proofs.Terms.{option_map, Err, refl, ap, sym, ◌∙◌, subst, arith, nat_tests, if◌then◌else◌}
-use Rattle.machine_ports.proofs.Terms.{unwrap_or, Cpl, Event, find, has_stream, History, is_quiet, KeyFacts, KeyName}
-use Rattle.machine_ports.proofs.Terms.{port_keys, lane_out, LinkState, live_key, LiveKey, Plan, PortName, PortsStand}
+use Rattle.machine_ports.proofs.Terms.{◌≡◌, ℕ, Bool, true, false, List, [], ◌∷◌, Option, Some, None, option_map, Err}
+use Rattle.machine_ports.proofs.Terms.{refl, ap, sym, ◌∙◌, subst, arith, nat_tests, if◌then◌else◌, unwrap_or, Cpl}
+use Rattle.machine_ports.proofs.Terms.{Event, find, has_stream, History, is_quiet, KeyFacts, KeyName, port_keys}
+use Rattle.machine_ports.proofs.Terms.{lane_out, LinkState, live_key, LiveKey, Plan, PortName, StreamsAndPacketsStand}
 use Rattle.machine_ports.proofs.Terms.{sealed_packets, send_due, stream_state_due, streams_of, StreamState, Verdict}
 unfoldable use Rattle.machine_ports.proofs.Terms.{due}
 use Rattle.ide_types.specs.declared.binding.Binding.{Binding}
@@ -54,7 +54,7 @@ draw_stands plan h port stream =
     by None = refl
     by (Some key) = refl
 
-draw_is : (plan : Plan) (st : LinkState) (h : History) (port : PortName) (stream : ℕ) → PortsStand plan st h
+draw_is : (plan : Plan) (st : LinkState) (h : History) (port : PortName) (stream : ℕ) → StreamsAndPacketsStand plan st h
     → (o : Option StreamState) → find plan st port stream ≡ o → has_stream plan port stream ≡ true
     → sealing_draw_at Cpl o ≡ draw_named (live_key h port (lane_out port stream Cpl))
 draw_is plan st h port stream stands None found known =
@@ -94,7 +94,8 @@ bytes_at plan h link = sent_bytes plan h (Access (ae.Answer link))
 abbrev key_at : History → ℕ → ℕ → Option KeyName
 key_at h link stream = live_key h (port_at Host link) (lane_out (port_at Host link) stream Cpl)
 
-module _ (plan : Plan) (facts : KeyFacts plan) (st : LinkState) (h : History) (stands : PortsStand plan st h)
+module _ (plan : Plan) (facts : KeyFacts plan) (st : LinkState) (h : History)
+    (stands : StreamsAndPacketsStand plan st h)
     (link : ℕ) where
   quiet_reply : (w : Verdict) → is_quiet w ≡ true → w ≡ due plan h (answer_event link)
       → Steps plan h (answer_event link) (w, st)

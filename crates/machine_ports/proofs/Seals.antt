@@ -163,8 +163,7 @@ module _ (plan : Plan) (closed : Bool) (ahead : SealedPacket → List ℕ) (port
       slots_more plan xs (xs ++ (d, p) ∷ []) s d.k d.draw (keys d.sub) p fits.live (key_more plan xs d p s here m)
 
   one_sub : (xs : SealedList) (keys : SubKind → Keys) (d : SealedPacket) (p : Packet)
-      → Fits closed ahead port stream from xs keys d → p.prefix.m ≡ d.m
-      → (u : SubKind)
+      → Fits closed ahead port stream from xs keys d → p.prefix.m ≡ d.m → (u : SubKind)
       → sealed_sub d p u (tx_at plan port stream from xs keys u)
       ≡ tx_at plan port stream from (xs ++ (d, p) ∷ []) (after_one port stream d keys) u
   one_sub xs keys d p fits m u = by_test (is_same_sub d.sub u) refl

@@ -20,7 +20,7 @@ use Rattle.machine_ports.proofs.Terms.{is_keyed, is_keyless, is_on, is_out, is_q
 use Rattle.machine_ports.proofs.Terms.{kept_packet, KeyFacts, KeyName, Keys, port_keys, lane_out, Lanes, lanes_at}
 use Rattle.machine_ports.proofs.Terms.{lanes_of, length-map, lesser, LinkPacket, LinkState, listed_seals, live_key}
 use Rattle.machine_ports.proofs.Terms.{aggregation_of, needs_posted, needs_sync, no_key, none_holds, Npr, on_live}
-use Rattle.machine_ports.proofs.Terms.{operates, Packet, Plan, PortName, PortsStand, posted_since_last, Pr}
+use Rattle.machine_ports.proofs.Terms.{operates, Packet, Plan, PortName, StreamsAndPacketsStand, posted_since_last, Pr}
 use Rattle.machine_ports.proofs.Terms.{with_stream_state, read_of, refusals, sealed_all, sealed_with_syncs}
 use Rattle.machine_ports.proofs.Terms.{sealed_by_is, sealed_packets, SealedList, SealedPacket, Send, stepped_on_stream}
 use Rattle.machine_ports.proofs.Terms.{stepped_send, streams_of, Sending, verdict_of_send, stream_state_due}
@@ -212,7 +212,8 @@ refusal_quiet b class = grind arith
 
 -- ---- a send if the ports stand for the history
 
-module _ (plan : Plan) (facts : KeyFacts plan) (st : LinkState) (h : History) (stands : PortsStand plan st h)
+module _ (plan : Plan) (facts : KeyFacts plan) (st : LinkState) (h : History)
+    (stands : StreamsAndPacketsStand plan st h)
     (e : Event) (on : is_of_packets e ≡ true) (more trusted : Bool) where
   pub tells : (port : PortName) (w : Verdict) → is_quiet w ≡ true → w ≡ due plan h e → Steps plan h e (w, st)
   tells port w none is = quiet plan facts st h e w stands none is
@@ -220,9 +221,8 @@ module _ (plan : Plan) (facts : KeyFacts plan) (st : LinkState) (h : History) (s
 
   -- the packets are sealed
   seals : (s : Sending) (t : Tlp) (ds : List SealedPacket) → has_stream plan s.port s.stream ≡ true
-      → is_some (find plan st s.port s.stream) ≡ true
-      → read_of (sent_bytes plan h e) ≡ Ok t → v.Sealed ds ≡ due plan h e
-      → has_live_out h s.port s.stream ≡ true → FitBehind plan h s ds
+      → is_some (find plan st s.port s.stream) ≡ true → read_of (sent_bytes plan h e) ≡ Ok t
+      → v.Sealed ds ≡ due plan h e → has_live_out h s.port s.stream ≡ true → FitBehind plan h s ds
       → Steps plan h e (stepped_answer plan st s t (stream_state_due plan h s.port s.stream) None ds)
   seals s t ds known found reads is live all =
       let closed = is_closed plan s.port.line s.stream in
@@ -291,8 +291,7 @@ module _ (plan : Plan) (facts : KeyFacts plan) (st : LinkState) (h : History) (s
       (sym (refused_keyless x s.class keyless)) ∙ is))
 
   sends_as : (s : Sending) (t : Tlp) → read_of (sent_bytes plan h e) ≡ Ok t
-      → verdict_of_send (lanes_at plan h s.port s.stream) s (length (sealed_packets plan h) + 1)
-      ≡ due plan h e
+      → verdict_of_send (lanes_at plan h s.port s.stream) s (length (sealed_packets plan h) + 1) ≡ due plan h e
       → (y : StreamState) → find plan st s.port s.stream ≡ Some y
       → Steps plan h e (stepped_on_stream plan st s t (Some y))
   sends_as s t reads is y found =
@@ -316,10 +315,8 @@ module _ (plan : Plan) (facts : KeyFacts plan) (st : LinkState) (h : History) (s
       by_live known false none = refuses s t (length (sealed_packets plan h) + 1) is none
 
   by_found : (s : Sending) (t : Tlp) → read_of (sent_bytes plan h e) ≡ Ok t → has_stream plan s.port s.stream ≡ true
-      → verdict_of_send (lanes_at plan h s.port s.stream) s (length (sealed_packets plan h) + 1)
-      ≡ due plan h e
-      → (o : Option StreamState) → find plan st s.port s.stream ≡ o
-      → Steps plan h e (stepped_on_stream plan st s t o)
+      → verdict_of_send (lanes_at plan h s.port s.stream) s (length (sealed_packets plan h) + 1) ≡ due plan h e
+      → (o : Option StreamState) → find plan st s.port s.stream ≡ o → Steps plan h e (stepped_on_stream plan st s t o)
   by_found s t reads known is None found = let other = not_kept plan st h s.port s.stream stands found in absurd cc
   by_found s t reads known is (Some y) found = sends_as s t reads is y found
 
@@ -345,7 +342,7 @@ pub if_steps : (plan : Plan) (h : History) (e : Event) (b : Bool) (x y : Stepped
 if_steps plan h e true x y one two = one refl
 if_steps plan h e false x y one two = two refl
 
-pub sends : (plan : Plan) → KeyFacts plan → (st : LinkState) (h : History) → PortsStand plan st h
+pub sends : (plan : Plan) → KeyFacts plan → (st : LinkState) (h : History) → StreamsAndPacketsStand plan st h
     → (bytes : List ℕ) (more trusted : Bool) (port : PortName) → Steps plan h (Send port bytes more trusted)
     (if may_send plan port
     then stepped_bytes plan (beside_at plan h) st (sealing_end plan port bytes) bytes more trusted

@@ -6,9 +6,9 @@ use Rattle.machine_ports.proofs.Terms.{refl, ap, sym, ◌∙◌, arith, if◌the
 use Rattle.machine_ports.proofs.Terms.{ArrivedBytes, arrival_due, Arrive, arrival_of_event, arrival_at_partner, Cut}
 use Rattle.machine_ports.proofs.Terms.{cut_short, due, Dump, dump_due, Event, has_port, History, is_of_packets}
 use Rattle.machine_ports.proofs.Terms.{IsNoOperation, KeyFacts, LinkPacket, LinkState, operates, packet_bytes}
-use Rattle.machine_ports.proofs.Terms.{packet_numbered, PacketsStand, Pass, whole_arrival, Plan, PortName, PortsStand}
-use Rattle.machine_ports.proofs.Terms.{quiet_test, sealed_packets, Send, shortened_arrival, packet_verdict}
-use Rattle.machine_ports.proofs.Terms.{stepped_arrival, Status, step_of}
+use Rattle.machine_ports.proofs.Terms.{packet_numbered, PacketsStand, Pass, whole_arrival, Plan, PortName}
+use Rattle.machine_ports.proofs.Terms.{StreamsAndPacketsStand, quiet_test, sealed_packets, Send, shortened_arrival}
+use Rattle.machine_ports.proofs.Terms.{packet_verdict, stepped_arrival, Status, step_of}
 use Rattle.event_verdicts.specs.declared.verdict.Verdict.TheVariants as v
 use Rattle.machine_ports.proofs.Changes.{Steps, none_of_packets, quiet}
 use Rattle.machine_ports.proofs.Numbers.{of_numbered}
@@ -25,14 +25,14 @@ none_status l s line stream = refl
 
 -- the machine finds what the event brings
 brought_to : (plan : Plan) → KeyFacts plan → (st : LinkState) (h : History) (e : Event) → is_of_packets e ≡ true
-    → PortsStand plan st h → (o : Option ArrivedBytes) → o ≡ arrival_of_event plan h e
+    → StreamsAndPacketsStand plan st h → (o : Option ArrivedBytes) → o ≡ arrival_of_event plan h e
     → arrival_due plan h (arrival_of_event plan h e) ≡ due plan h e
     → Steps plan h e (stepped_arrival plan (beside_at plan h) st o)
 brought_to plan facts st h e of stands o found is = arrives plan facts st h e (none_of_packets e of) stands o
     (sym found) (ap (arrival_due plan h) found ∙ is)
 
 given : (plan : Plan) → KeyFacts plan → (st : LinkState) (h : History) (port : PortName) (bytes : List ℕ)
-    → PortsStand plan st h → Steps plan h (Arrive port bytes)
+    → StreamsAndPacketsStand plan st h → Steps plan h (Arrive port bytes)
     (if has_port plan port
     then stepped_arrival plan (beside_at plan h) st (Some (arrival_at plan port bytes))
     else (v.Nothing, st))
@@ -48,7 +48,7 @@ given plan facts st h port bytes stands = by_port (has_port plan port) refl
         (Some (arrival_at plan port bytes)) is refl
     by_port false is = brought_to plan facts st h (Arrive port bytes) refl stands None is refl
 
-dumps : (plan : Plan) → KeyFacts plan → (st : LinkState) (h : History) (n : ℕ) → PortsStand plan st h
+dumps : (plan : Plan) → KeyFacts plan → (st : LinkState) (h : History) (n : ℕ) → StreamsAndPacketsStand plan st h
     → Steps plan h (Dump n) (packet_verdict n (packet_numbered st.packets n), st)
 unfolding due
 dumps plan facts st h n stands =

@@ -28,7 +28,7 @@ unfoldable pub use Rattle.spec_links.proofs.Senders.{listed_seals}
 pub use Rattle.spec_links.proofs.Tests.{eqb-refl, eqb-sym, is_same-refl, is_same_port-refl, same_in, same_port}
 pub use Rattle.spec_links.proofs.Tests.{same_stream, same_sub}
 pub use Rattle.spec_links.specs.Cause.{CauseLaw}
-pub use Rattle.spec_links.specs.Due.{Lane, Lanes, Sending, arrival_due, before_tag_of, described_seal, dump_due}
+pub use Rattle.spec_links.specs.Due.{Lane, Lanes, Sending, arrival_due, before_tag_of_cut, described_seal, dump_due}
 pub use Rattle.spec_links.specs.Due.{effects_of, first_that_holds, is_keyless, is_mixed, is_overfull, lane_contents}
 pub use Rattle.spec_links.specs.Due.{lanes_at, needs_sync, no_key, receiving_sub_stream, refusals, sealed_with_syncs}
 pub use Rattle.spec_links.specs.Due.{send_due, verdict_of_send}
@@ -55,17 +55,16 @@ pub use Rattle.machine_ports.specs.Machine.{port_place, stepped_on_stream, stepp
 pub use Rattle.machine_ports.specs.Machine.{stepped_arrival, packet_verdict, verdict_of_taken}
 pub use Rattle.spec_stream.specs.Stream.{unit_name}
 unfoldable pub use Rattle.machine_ports.specs.Machine.{find, with_stream_state, step_of}
-pub use Rattle.machine_ports.specs.Stands.{PacketsStand, PortsStand, got_in, is_of_packets, rx_slot, rx_slots}
-pub use Rattle.machine_ports.specs.Stands.{rx_state_due}
-pub use Rattle.machine_ports.specs.Stands.{sealing_key, state_due_if_planned, tx_slot, tx_slots, tx_state_due}
+pub use Rattle.machine_ports.specs.Stands.{PacketsStand, StreamsAndPacketsStand, got_in, is_of_packets, rx_slot}
+pub use Rattle.machine_ports.specs.Stands.{rx_slots, rx_state_due, sealing_key, state_due_if_planned, tx_slot, tx_slots}
+pub use Rattle.machine_ports.specs.Stands.{tx_state_due}
 unfoldable pub use Rattle.machine_ports.specs.Stands.{stream_state_due}
 pub use Rattle.machine_ports.specs.Stream.{Accepted, Failed, Held, Insecure, Live, LiveKey, NotKeyed, RxSub, LaneSlot}
 pub use Rattle.machine_ports.specs.Stream.{LaneSlots, StreamState, PacketOutcome, Three, TxSub, accepted_slots}
-pub use Rattle.machine_ports.specs.Stream.{accepted_sub}
-pub use Rattle.machine_ports.specs.Stream.{at_sub, outcome_of_checks, counted_unit, slot_without_packets, dropped_held}
-pub use Rattle.machine_ports.specs.Stream.{each_sub, ended_slots, gone_on, held_sub, holds_any, is_allowed, is_tagged}
-pub use Rattle.machine_ports.specs.Stream.{lane_of, lanes_of, live_in, live_sender, packet_under, posted_sum}
-pub use Rattle.machine_ports.specs.Stream.{slot_unless_older, sealed_all, sealed_slots, sealed_sub, set_sub}
+pub use Rattle.machine_ports.specs.Stream.{accepted_sub, at_sub, outcome_of_checks, counted_unit, slot_without_packets}
+pub use Rattle.machine_ports.specs.Stream.{dropped_held, each_sub, ended_slots, gone_on, held_sub, holds_any}
+pub use Rattle.machine_ports.specs.Stream.{is_allowed, is_tagged, lane_of, lanes_of, live_in, live_sender, packet_under}
+pub use Rattle.machine_ports.specs.Stream.{posted_sum, slot_unless_older, sealed_all, sealed_slots, sealed_sub, set_sub}
 pub use Rattle.machine_ports.specs.Stream.{slot_in_set, state_after, stream_outcome, stream_outcome_by_keys, with_slot}
 pub use Rattle.event_verdicts.specs.declared.verdict.SealedPacket.{SealedPacket}
 pub use Rattle.event_verdicts.specs.declared.verdict.UnitName.{UnitName}

@@ -7,7 +7,7 @@ pub mod Stands
 pub mod Through
 pub use Rattle.machine_ports.specs.Machine.{LinkState, LinkPacket, step_of, first_state, find, with_stream_state}
 pub use Rattle.machine_ports.specs.Machine.{find_op, put_op}
-pub use Rattle.machine_ports.specs.Stands.{PortsStand, PortsStandFor, StepStands, FirstStands, PacketsStand}
+pub use Rattle.machine_ports.specs.Stands.{StreamsAndPacketsStand, PortsStandFor, StepStands, FirstStands, PacketsStand}
 pub use Rattle.machine_ports.specs.Stands.{stream_state_due, state_due_if_planned}
 pub use Rattle.machine_ports.specs.Through.{ThroughStays}
 pub use Rattle.spec_links.specs.{devices, sites}

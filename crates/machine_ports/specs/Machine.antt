@@ -261,8 +261,7 @@ altered_to plan at mask x =
     then Some (brought_to plan x (slice_set x.bytes at (bit_xor (slice_index x.bytes at) mask))) else None
 
 abbrev pub cut_short : Plan → ℕ → LinkPacket → Option ArrivedBytes
-cut_short plan len x =
-    if nat_le len (length x.bytes) then Some (brought_to plan x (take len x.bytes)) else None
+cut_short plan len x = if nat_le len (length x.bytes) then Some (brought_to plan x (take len x.bytes)) else None
 
 abbrev pub packet_verdict : ℕ → Option LinkPacket → Verdict
 packet_verdict n None = v.Nothing
@@ -428,8 +427,7 @@ step_of plan beside st (Status line stream) = status_found plan st line stream (
 step_of plan beside st (Interface e) = (beside.answer e, st)
 step_of plan beside st (Access (ae.Answer link)) = stepped_reply plan beside st (port_at Host link) (beside.reply link)
 step_of plan beside st (Access (ae.Mmio interface bar offset len)) = (beside.shows interface bar offset len, st)
-step_of plan beside st (Forward link d) =
-    stepped_forward plan beside st (leaving_end link d) (beside.forward link d)
+step_of plan beside st (Forward link d) = stepped_forward plan beside st (leaving_end link d) (beside.forward link d)
 step_of plan beside st Absent = (v.Nothing, st)
 
 -- ---- the beginning

@@ -109,7 +109,7 @@ state_due_if_planned plan h port stream = if has_stream plan port stream then So
     else None
 
 -- the ports and the packets stand for a history
-pub record PortsStand (plan : Plan) (st : LinkState) (h : History) : Type 0 where
+pub record StreamsAndPacketsStand (plan : Plan) (st : LinkState) (h : History) : Type 0 where
   pub cause : CauseLaw plan h
   pub streams : (port : PortName) (stream : ℕ) → find plan st port stream ≡ state_due_if_planned plan h port stream
   pub packets : st.packets ≡ map (λ (x : SealedPacket × Packet). kept_packet x.0.port x.1) (sealed_packets plan h)
@@ -118,7 +118,7 @@ abbrev pub op_at : Plan → History → ℕ → ℕ → Option StreamStage
 op_at plan h line stream = if is_some (stream_plan plan line stream) then Some (op_of h line stream) else None
 
 pub record PortsStandFor (plan : Plan) (st : LinkState) (h : History) : Type 0 where
-  pub ports_stand : PortsStand plan st h
+  pub ports_stand : StreamsAndPacketsStand plan st h
   pub ops_is : (line stream : ℕ) → find_op plan st line stream ≡ op_at plan h line stream
   pub draws_is : st.draws ≡ draws h
 
@@ -160,5 +160,6 @@ is_of_packets _ = false
 abbrev pub PacketsStand : Type 0
 PacketsStand =
     (plan : Plan) → KeyFacts plan → (st : LinkState) (h : History) (e : Event) → is_of_packets e ≡ true
-    → PortsStand plan st h → ((step_of plan (beside_at plan h) st e).0 ≡ due plan h e)
-    × PortsStand plan (step_of plan (beside_at plan h) st e).1 ((e, (step_of plan (beside_at plan h) st e).0) ∷ h)
+    → StreamsAndPacketsStand plan st h → ((step_of plan (beside_at plan h) st e).0 ≡ due plan h e)
+    × StreamsAndPacketsStand plan (step_of plan (beside_at plan h) st e).1
+    ((e, (step_of plan (beside_at plan h) st e).0) ∷ h)

@@ -34,11 +34,11 @@ use Rattle.spec_links.specs.Memory.{queued_reads, waiting_reads, unit_ended, hop
 unfoldable use Rattle.spec_links.specs.Sent.{reads_taken, queued_in}
 use Rattle.spec_links.specs.Sent.{is_answer_on, reads_by, unit_accepted}
 unfoldable use Rattle.spec_links.specs.Guarded.{link_happenings}
-use Rattle.spec_links.specs.Guarded.{happens_by, verdict_unit}
+use Rattle.spec_links.specs.Guarded.{happens_by_packets, verdict_unit}
 use Rattle.machine_operations.proofs.{unplanned_keys, keys_into}
-use Rattle.machine_operations.specs.{LinkState, port_at, receiving_draw_at, PortsStand, state_due_if_planned, rx_slots}
+use Rattle.machine_operations.specs.{LinkState, port_at, receiving_draw_at, StreamsAndPacketsStand}
+use Rattle.machine_operations.specs.{state_due_if_planned, rx_slots, StreamState, receiving_draw}
 unfoldable use Rattle.machine_operations.specs.{stream_state_due}
-use Rattle.machine_operations.specs.{StreamState, receiving_draw}
 use Rattle.law_reads.proofs.Order.{here_after, takes_first}
 use Rattle.law_reads.proofs.ByNumber.{unit_again}
 use Rattle.law_reads.specs.Waiting.{tlps_ended, waiting_next}
@@ -93,12 +93,10 @@ waiting_is plan h e (v.Accepted port unit effects) ps law units link =
         ∙ ap (λ (ys : List WaitingRead). drop (reads_taken h link)
         (ys ++ reads_by unit.draw effects (unit_accepted plan xs h e port unit))) (sym here))
     by false here same = ap (drop (reads_taken h link)) (sym here)
-waiting_is plan h e (v.Sealed ds) ps law units link =
-    one_taken (is_answer_on link e) (reads_taken h link) (queued_reads plan h link) _
-    (here_after plan h e (v.Sealed ds) law link)
-waiting_is plan h e (v.Access (av.Dropped i c)) ps law units link =
-    one_taken (is_answer_on link e) (reads_taken h link) (queued_reads plan h link) _
-    (here_after plan h e (v.Access (av.Dropped i c)) law link)
+waiting_is plan h e (v.Sealed ds) ps law units link = one_taken (is_answer_on link e) (reads_taken h link)
+    (queued_reads plan h link) _ (here_after plan h e (v.Sealed ds) law link)
+waiting_is plan h e (v.Access (av.Dropped i c)) ps law units link = one_taken (is_answer_on link e) (reads_taken h link)
+    (queued_reads plan h link) _ (here_after plan h e (v.Access (av.Dropped i c)) law link)
 waiting_is plan h (event.Reset k ends) (v.Reset l) ps law units link = by (l == link)
     (here_after plan h (event.Reset k ends) (v.Reset l) law link)
   where
@@ -122,7 +120,7 @@ greatest_is plan h port s ks = by ks.first ks.second
     by (On i) (On j) = grind (arith, nat_tests)
     by a b = grind arith
 
-pub posted_draw_is : (plan : Plan) (st : LinkState) (h : History) → PortsStand plan st h
+pub posted_draw_is : (plan : Plan) (st : LinkState) (h : History) → StreamsAndPacketsStand plan st h
     → (port : PortName) (stream : ℕ)
     → posted_draw_at plan st port stream ≡ greatest_on (place_keys h (receiver_at port stream))
 unfolding stream_state_due
@@ -138,7 +136,7 @@ posted_draw_is plan st h stands port stream = elim (cases_Bool (is_some (stream_
       ∙ sym (ap greatest_on (unplanned_keys plan h stands.cause (receiver_at port stream) none))
 ]
 
-device_draw_is : (plan : Plan) (st : LinkState) (h : History) → PortsStand plan st h → (x : Site)
+device_draw_is : (plan : Plan) (st : LinkState) (h : History) → StreamsAndPacketsStand plan st h → (x : Site)
     → device_draw_at plan st x ≡ draw_at_device h x
 device_draw_is plan st h stands x = posted_draw_is plan st h stands (port_at Device x.link) x.plan.stream
 
@@ -151,7 +149,7 @@ floors_map plan h e w (x ∷ xs) = ap (λ (rest : List ℕ). device_floor plan (
     (floors_map plan h e w xs)
 
 pub floors_are : (plan : Plan) (st : LinkState) (h : History) (e : Event) (w : Verdict) (before after : List Face)
-    (floors : List ℕ) → PortsStand plan st h → before ≡ map (face_at plan h) (sites plan)
+    (floors : List ℕ) → StreamsAndPacketsStand plan st h → before ≡ map (face_at plan h) (sites plan)
     → after ≡ map (face_at plan ((e, w) ∷ h)) (sites plan) → floors ≡ map (device_floor plan h) (sites plan)
     → floors_after e (device_draw_at plan st) (sites plan) before after floors
     ≡ map (device_floor plan ((e, w) ∷ h)) (sites plan)
@@ -188,21 +186,21 @@ statuses_are plan h faces floors old same link =
 happens_same : (plan : Plan) (statuses : ℕ → List InterfaceStatus) (h : History) (ps : List Packet) (e : Event)
     (w : Verdict)
     (link : ℕ) → AreEnded plan h ps e w
-    → happens_by plan statuses ps e w link ≡ happens_by plan statuses (verdict_unit plan h e w) e w link
+    → happens_by_packets plan statuses ps e w link ≡ happens_by_packets plan statuses (verdict_unit plan h e w) e w link
 happens_same plan statuses h ps e (v.Accepted port unit effects) link units =
-    ap (λ (us : List Packet). happens_by plan statuses us e (v.Accepted port unit effects) link) units
+    ap (λ (us : List Packet). happens_by_packets plan statuses us e (v.Accepted port unit effects) link) units
 happens_same plan statuses h ps (event.Reset k ends) (v.Reset l) link units = refl
 happens_same plan statuses h ps e w link units = refl
 
 pub happened_is : (plan : Plan) (h : History) (e : Event) (w : Verdict) (ps : List Packet) (faces : List Face)
     (floors : List ℕ) → faces ≡ map (face_at plan h) (sites plan) → floors ≡ map (device_floor plan h) (sites plan)
     → AreEnded plan h ps e w → (link : ℕ)
-    → newest_happened (happens_by plan (λ l. face_statuses l (sites plan) faces floors) ps e w link)
+    → newest_happened (happens_by_packets plan (λ l. face_statuses l (sites plan) faces floors) ps e w link)
     (link_happenings plan h link) ≡ link_happenings plan ((e, w) ∷ h) link
 unfolding link_happenings
 happened_is plan h e w ps faces floors old same units link =
     ap (λ (hs : List (Option Happened)). newest_happened hs (link_happenings plan h link))
-    ((λ i. happens_by plan (λ l. statuses_are plan h faces floors old same l i) ps e w link)
+    ((λ i. happens_by_packets plan (λ l. statuses_are plan h faces floors old same l i) ps e w link)
     ∙ happens_same plan (history_statuses plan h) h ps e w link units)
 
 -- ---- the TLPs that wait at switches

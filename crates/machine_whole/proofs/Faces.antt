@@ -11,7 +11,7 @@ use Rattle.spec_interfaces.specs.Due.{interface_verdict_due, interface_due, on_s
 use Rattle.machine_whole.specs.Interfaces.{Face, Faces, new_faces, find_face, with_each, next_face, gives_nonce}
 use Rattle.machine_whole.specs.Interfaces.{is_true, faces_after, asked_due_of, answer_to, interface_answer}
 use Rattle.machine_whole.specs.Interfaces.{with_requester, t_of, peer_t_of, grant_of}
-use Rattle.machine_whole.specs.InterfacesStand.{ends_read, streams_at, face_at, FacesStandFor, FacesStand}
+use Rattle.machine_whole.specs.InterfacesStand.{ends_read, streams_at, face_at, FacesStandFor, FacesFollowHistory}
 
 -- ---- lists
 
@@ -143,6 +143,6 @@ grant_is plan fs h link requester stands =
     (requester_is plan h link requester fs stands.faces)
     ∙ grant_says plan h (site_of_requester plan link requester)
 
-pub faces_stand : FacesStand
+pub faces_stand : FacesFollowHistory
 faces_stand = record
     { first = first_stands; step = step_stands; answer = answer_is; t = t_is; peer = peer_is; grant = grant_is }

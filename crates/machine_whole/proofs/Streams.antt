@@ -1,5 +1,6 @@
 -- What the interfaces read of the ports is what the history says of streams, also of those that the plan does not have.
 use Rattle.std.proofs.Common.{◌≡◌, inl, inr, ℕ, ◌∷◌, ◌&&◌, Bool, true, false, [], None, refl, sym, ap, ◌∙◌, arith}
+use Rattle.std.proofs.Common.{if◌then◌else◌, Option, Some, List, ◌==◌}
 use Rattle.std.proofs.lemmas.Bool.{cases_Bool}
 use Rattle.std.specs.Prelude.{is_some, nat_lt, slice_get, suc, ◌+◌, ◌-◌, ◌≤◌, ◌||◌}
 use Rattle.ide_types.specs.declared.port.Side.{Side}
@@ -13,10 +14,9 @@ use Rattle.ide_types.specs.Ports.{keyed_status, host_port, device_port}
 unfoldable use Rattle.spec_keys.specs.History.{failed_there}
 use Rattle.spec_links.specs.Plan.{stream_plan}
 use Rattle.spec_links.specs.Cause.{CauseLaw}
-use Rattle.machine_operations.specs.{LinkState, find_op, port_at, machine_status, status_if_planned, PortsStand}
-use Rattle.machine_operations.specs.{state_due_if_planned, PortsStandFor}
+use Rattle.machine_operations.specs.{LinkState, find_op, port_at, machine_status, status_if_planned}
+use Rattle.machine_operations.specs.{StreamsAndPacketsStand, state_due_if_planned, PortsStandFor}
 use Rattle.machine_operations.proofs.{unplanned_keys}
-use Rattle.std.proofs.Common.{if◌then◌else◌, Option, Some, List, ◌==◌}
 use Rattle.spec_keys.specs.Operations.{StreamStage, Idle, Reach, reach_of, work_of}
 use Rattle.spec_keys.specs.Terms.{Operation}
 unfoldable use Rattle.spec_keys.specs.Due.{key_due}
@@ -95,8 +95,8 @@ unplanned_status plan h cause side line stream none =
 
 -- ---- all streams
 
-pub status_all : (plan : Plan) (st : LinkState) (h : History) → PortsStand plan st h → (side : Side) (line stream : ℕ)
-    → machine_status plan st side line stream ≡ history_status h side line stream
+pub status_all : (plan : Plan) (st : LinkState) (h : History) → StreamsAndPacketsStand plan st h
+    → (side : Side) (line stream : ℕ) → machine_status plan st side line stream ≡ history_status h side line stream
 status_all plan st h stands side line stream = elim (cases_Bool (is_some (stream_plan plan line stream))) [
   | inl known ↦ status_is plan st h stands side line stream known
   | inr none ↦
@@ -122,16 +122,17 @@ ops_all plan st h stands line stream = ap op_or_idle (stands.ops_is line stream)
     by true = refl
     by false = refl
 
-pub secure_all : (plan : Plan) (st : LinkState) (h : History) → PortsStand plan st h → machine_secure plan st
-    ≡ secure_of h
+pub secure_all : (plan : Plan) (st : LinkState) (h : History) → StreamsAndPacketsStand plan st h
+    → machine_secure plan st ≡ secure_of h
 secure_all plan st h stands = λ i line stream. is_secure (status_all plan st h stands Device line stream i)
 
-live_all : (plan : Plan) (st : LinkState) (h : History) → PortsStand plan st h → (end : PortName) (stream : ℕ)
-    → live_draw_at_end plan st end stream ≡ live_at h end stream
+live_all : (plan : Plan) (st : LinkState) (h : History) → StreamsAndPacketsStand plan st h
+    → (end : PortName) (stream : ℕ) → live_draw_at_end plan st end stream ≡ live_at h end stream
 live_all plan st h stands end stream = λ i. live_if
     (is_secure (status_all plan st h stands end.side end.line stream i)) (posted_draw_is plan st h stands end stream i)
 
-pub ends_all : (plan : Plan) (st : LinkState) (h : History) → PortsStand plan st h → ends_in plan st ≡ ends_read h
+pub ends_all : (plan : Plan) (st : LinkState) (h : History) → StreamsAndPacketsStand plan st h → ends_in plan st
+    ≡ ends_read h
 ends_all plan st h stands = λ i. record {
   secure = secure_all plan st h stands i;
   live = λ end stream. live_all plan st h stands end stream i;

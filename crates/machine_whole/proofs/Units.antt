@@ -16,33 +16,31 @@ use Rattle.spec_links.specs.Plan.{SubStream, has_stream}
 use Rattle.spec_links.specs.History.{sealed_packets, arrival_at_partner, altered_arrival, shortened_arrival}
 use Rattle.spec_links.specs.History.{arrived_packet, received_in, packets_in_hold, pending_packets, has_failed, on_draw}
 unfoldable use Rattle.spec_links.specs.History.{arrival_of_event}
-use Rattle.spec_links.specs.Due.{Ending, effects_of, due, ending_due, before_tag_of, under_keys, receiving_sub_stream}
-use Rattle.spec_links.specs.Due.{unit_packets_ended, through_due}
+use Rattle.spec_links.specs.Due.{Ending, effects_of, due, ending_due, before_tag_of_cut, under_keys}
+use Rattle.spec_links.specs.Due.{receiving_sub_stream, unit_packets_ended, through_due}
 unfoldable use Rattle.spec_links.specs.Due.{before_tag}
 use Rattle.spec_links.specs.Ports.{goes_through}
 use Rattle.spec_links.specs.Memory.{unit_ended}
 use Rattle.spec_links.proofs.Causes.{Came, Passed, AcceptedBy, accepted_by, unit_ending, packet_that_came}
 use Rattle.spec_links.proofs.Causes.{received_there, numbered}
 use Rattle.machine_operations.specs.{PacketOutcome, Insecure, NotKeyed, Failed, Held, Accepted, LinkState, find}
-use Rattle.machine_operations.specs.{verdict_of_taken, whole_arrival, altered_to, cut_short, PortsStand}
+use Rattle.machine_operations.specs.{verdict_of_taken, whole_arrival, altered_to, cut_short, StreamsAndPacketsStand}
 use Rattle.machine_operations.specs.{stream_state_due, state_due_if_planned, beside_at}
 use Rattle.machine_operations.proofs.{of_numbered, answer_is, packet_due, taken_at, Says, says}
 use Rattle.machine_whole.specs.Machine.{arrival_of, unit_taken, unit_found, unit_cut, unit_in}
 
 -- ---- what an event brings
 
-arrival_is : (plan : Plan) (st : LinkState) (h : History) → PortsStand plan st h → (e : Event) → arrival_of plan st e
-    ≡ arrival_of_event plan h e
+arrival_is : (plan : Plan) (st : LinkState) (h : History) → StreamsAndPacketsStand plan st h → (e : Event)
+    → arrival_of plan st e ≡ arrival_of_event plan h e
 unfolding arrival_of_event
 arrival_is plan st h stands (event.Pass n) =
     of_numbered st.packets (sealed_packets plan h) n stands.packets (option_and_then (whole_arrival plan))
     (option_map (λ x. arrival_at_partner plan x (packet_bytes x.1))) refl (λ x. refl)
-arrival_is plan st h stands (event.Alter n at mask) =
-    of_numbered st.packets (sealed_packets plan h) n stands.packets (option_and_then (altered_to plan at mask))
-    (option_and_then (altered_arrival plan at mask)) refl (λ x. refl)
-arrival_is plan st h stands (event.Cut n len) =
-    of_numbered st.packets (sealed_packets plan h) n stands.packets (option_and_then (cut_short plan len))
-    (option_and_then (shortened_arrival plan len)) refl (λ x. refl)
+arrival_is plan st h stands (event.Alter n at mask) = of_numbered st.packets (sealed_packets plan h) n stands.packets
+    (option_and_then (altered_to plan at mask)) (option_and_then (altered_arrival plan at mask)) refl (λ x. refl)
+arrival_is plan st h stands (event.Cut n len) = of_numbered st.packets (sealed_packets plan h) n stands.packets
+    (option_and_then (cut_short plan len)) (option_and_then (shortened_arrival plan len)) refl (λ x. refl)
 arrival_is plan st h stands (event.Arrive port bytes) = refl
 arrival_is plan st h stands e = refl
 
@@ -64,7 +62,7 @@ due_accepted : (plan : Plan) (h : History) (e : Event) (port : PortName) (unit :
 unfolding before_tag
 due_accepted plan h e port unit effects by =
     let p = by.packet in
-    let before = ap (before_tag_of plan h port) (sym by.came.cut)
+    let before = ap (before_tag_of_cut plan h port) (sym by.came.cut)
     ∙ read_there (goes_through plan port by.came.bytes) (through_due plan port) _ _ by.before in
     let keyed : (if has_failed h port p.prefix.stream then Err (v.Insecure port p.prefix.stream)
     else under_keys plan h port p (on_draw h port (receiving_sub_stream port p) p.prefix.k)
@@ -99,8 +97,8 @@ ended_is plan h e port unit p came passed_it =
     ∙ ap (λ (s : SubStream). pending_packets plan h s unit.draw ++ p ∷ [])
     (received_there plan h port p unit passed_it))
 
-found_standing : (plan : Plan) (st : LinkState) (h : History) → PortsStand plan st h → (port : PortName) (p : Packet)
-    → has_stream plan port p.prefix.stream ≡ true
+found_standing : (plan : Plan) (st : LinkState) (h : History) → StreamsAndPacketsStand plan st h
+    → (port : PortName) (p : Packet) → has_stream plan port p.prefix.stream ≡ true
     → unit_found plan port p (find plan st port p.prefix.stream) ≡ unit_taken (taken_at plan h port p)
 found_standing plan st h stands port p known =
     let here : state_due_if_planned plan h port p.prefix.stream
@@ -108,7 +106,7 @@ found_standing plan st h stands port p known =
     ap (unit_found plan port p) (stands.streams port p.prefix.stream ∙ here)
 
 pub unit_is : (plan : Plan) (st : LinkState) (h : History) (e : Event) (port : PortName) (unit : UnitName)
-    (effects : List Effect) → PortsStand plan st h
+    (effects : List Effect) → StreamsAndPacketsStand plan st h
     → v.Accepted port unit effects ≡ due plan h e → unit_in plan st (arrival_of plan st e)
     ≡ unit_ended plan h e port unit
 unit_is plan st h e port unit effects stands is =

@@ -31,7 +31,7 @@ use Rattle.spec_links.specs.Memory.{policy_at, effects_under_policy, admitted_wr
 use Rattle.spec_links.specs.Memory.{queued_reads, waiting_reads}
 unfoldable use Rattle.spec_links.specs.Sent.{reads_taken, queued_in}
 unfoldable use Rattle.spec_links.specs.Guarded.{link_happenings}
-use Rattle.spec_links.specs.Guarded.{mmio_by, happens_by}
+use Rattle.spec_links.specs.Guarded.{mmio_by_happenings, happens_by_packets}
 use Rattle.spec_interfaces.specs.{newest_happened}
 unfoldable use Rattle.spec_interfaces.specs.Floors.{device_floor}
 use Rattle.spec_interfaces.specs.Sites.{sites, site_of_requester}
@@ -57,7 +57,7 @@ use Rattle.machine_whole.specs.Accesses.{face_statuses, waiting_reads_after, acc
 use Rattle.machine_whole.specs.Stands.{AccessesStandFor, WholeStandsFor, WholeBegins, WholeSteps}
 use Rattle.machine_whole.proofs.Units.{unit_is}
 use Rattle.machine_whole.proofs.Streams.{answer_same, draw_same, ends_all, faces_same, streams_are}
-unfoldable use Rattle.spec_links.specs.Hops.{accepted_tlps_in, forwarded_count}
+unfoldable use Rattle.spec_links.specs.Hops.{accepted_tlps_in_list, forwarded_count}
 use Rattle.law_reads.specs.Waiting.{waiting_next}
 use Rattle.machine_whole.proofs.Accesses.{AreEnded, waiting_is, floors_are, statuses_are, happened_is, carried_is}
 
@@ -154,7 +154,7 @@ beside_is plan w h stands = λ i. record {
   effects = λ port. effects_under_policy plan (policy_is plan w h stands i) (port_of plan port);
   answer = λ e. answer_says plan w h stands e i;
   reply = λ link. reply_is plan w h stands link i;
-  shows = mmio_by plan (λ link. stands.accesses.happened link i);
+  shows = mmio_by_happenings plan (λ link. stands.accesses.happened link i);
   forward = λ link d. forward_of plan link (stands.accesses.carried link d i);
 }
 
@@ -199,7 +199,8 @@ accesses_are plan w h e x faces stands is next =
       floors = floors_are plan w.links h e x w.faces.list faces.list w.accesses.floors stands.links.ports_stand
           stands.faces.faces next.faces stands.accesses.floors;
       happened = λ link. ap (newest_happened
-          (happens_by plan (λ l. face_statuses l (sites plan) w.faces.list w.accesses.floors) (ended_unit plan w e) e x
+          (happens_by_packets plan (λ l. face_statuses l (sites plan) w.faces.list w.accesses.floors)
+          (ended_unit plan w e) e x
           link)) (stands.accesses.happened link)
           ∙ happened_is plan h e x (ended_unit plan w e) w.faces.list w.accesses.floors stands.faces.faces
           stands.accesses.floors units link;
@@ -248,7 +249,7 @@ pub whole_steps : WholeSteps
 whole_steps plan w h e stands = at_step plan w h e (beside_of plan w) (beside_is plan w h stands) stands
 
 pub whole_begins : WholeBegins
-unfolding stream_draw writes reads_taken queued_in device_floor link_happenings accepted_tlps_in forwarded_count
+unfolding stream_draw writes reads_taken queued_in device_floor link_happenings accepted_tlps_in_list forwarded_count
 whole_begins plan = record {
   links = first plan;
   faces = faces_stand.first plan;

@@ -22,7 +22,7 @@ use Rattle.spec_links.specs.Sent.{is_answer_on, reads_by}
 use Rattle.spec_links.specs.Hops.{HopTlp, tlps_with}
 use Rattle.spec_links.specs.Memory.{plain_of}
 use Rattle.spec_links.specs.Ports.{port_of}
-use Rattle.spec_links.specs.Guarded.{happens_by}
+use Rattle.spec_links.specs.Guarded.{happens_by_packets}
 use Rattle.machine_operations.specs.{LinkState, find, port_at, receiving_draw_at}
 use Rattle.law_reads.specs.Waiting.{waiting_next}
 
@@ -88,6 +88,6 @@ accesses_after plan st before after ps e w a = record {
   waiting = λ link. waiting_reads_after plan ps e w link (a.waiting link);
   floors = floors_after e (device_draw_at plan st) (sites plan) before.list after.list a.floors;
   happened = λ link. newest_happened
-      (happens_by plan (λ l. face_statuses l (sites plan) before.list a.floors) ps e w link) (a.happened link);
+      (happens_by_packets plan (λ l. face_statuses l (sites plan) before.list a.floors) ps e w link) (a.happened link);
   carried = λ link d. waiting_next (unit_tlps plan ps w) link d e w (a.carried link d);
 }

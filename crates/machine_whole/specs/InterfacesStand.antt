@@ -38,7 +38,7 @@ pub record FacesStandFor (plan : Plan) (fs : Faces) (h : History) : Type 0 where
   pub used : fs.used ≡ used_at plan h
 
 -- the first state stands for the empty history, and each step for one more pair, whatever its verdict
-pub record FacesStand : Type 0 where
+pub record FacesFollowHistory : Type 0 where
   pub first : (plan : Plan) → FacesStandFor plan (new_faces plan) []
   pub step : (plan : Plan) (fs : Faces) (h : History) (e : Event) (w : Verdict) → FacesStandFor plan fs h
       → FacesStandFor plan (faces_after plan (streams_at h) (ends_read ((e, w) ∷ h)) e w fs) ((e, w) ∷ h)

@@ -19,11 +19,10 @@ use Rattle.spec_interfaces.specs.Cause.{is_peer, owner_id, owners_link}
 use Rattle.machine_whole.specs.Interfaces.{Faces, new_faces, Streams, EndsRead, faces_after, interface_answer, t_of}
 use Rattle.machine_whole.specs.Interfaces.{peer_t_of, grant_of}
 use Rattle.machine_operations.specs.{forward_of, StreamState, PacketOutcome, Accepted, stream_outcome, BesidePorts}
-use Rattle.machine_operations.specs.{LinkState}
-use Rattle.machine_operations.specs.{find, find_op, machine_status, step_of, first_state, whole_arrival, altered_to}
-use Rattle.machine_operations.specs.{cut_short, packet_numbered, BoundCompletion, link_completion}
+use Rattle.machine_operations.specs.{LinkState, find, find_op, machine_status, step_of, first_state, whole_arrival}
+use Rattle.machine_operations.specs.{altered_to, cut_short, packet_numbered, BoundCompletion, link_completion}
 use Rattle.spec_links.specs.Memory.{Policy, effects_under_policy, admitted_writes, shown_if}
-use Rattle.spec_links.specs.Guarded.{mmio_by}
+use Rattle.spec_links.specs.Guarded.{mmio_by_happenings}
 use Rattle.spec_links.specs.History.{ArrivedBytes}
 use Rattle.spec_links.specs.Plan.{has_port, aggregation_of, is_closed}
 use Rattle.spec_links.specs.Ports.{port_of, at_switch}
@@ -114,8 +113,7 @@ abbrev pub arrival_of : Plan → LinkState → Event → Option ArrivedBytes
 arrival_of plan st (event.Pass n) = option_and_then (whole_arrival plan) (packet_numbered st.packets n)
 arrival_of plan st (event.Alter n at mask) = option_and_then (altered_to plan at mask) (packet_numbered st.packets n)
 arrival_of plan st (event.Cut n len) = option_and_then (cut_short plan len) (packet_numbered st.packets n)
-arrival_of plan st (event.Arrive port bytes) =
-    if has_port plan port then Some (arrival_at plan port bytes) else None
+arrival_of plan st (event.Arrive port bytes) = if has_port plan port then Some (arrival_at plan port bytes) else None
 arrival_of plan st e = None
 
 abbrev pub unit_taken : PacketOutcome → List Packet
@@ -161,7 +159,7 @@ beside_of plan w = record {
   effects = λ port. effects_under_policy plan (policy_of plan w) (port_of plan port);
   answer = λ e. interface_answer plan (whole_streams plan w) w.faces e (memory_shown plan w.written e);
   reply = machine_completion plan w;
-  shows = mmio_by plan w.accesses.happened;
+  shows = mmio_by_happenings plan w.accesses.happened;
   forward = λ link d. forward_of plan link (w.accesses.carried link d);
 }
 
@@ -200,5 +198,4 @@ whole_after plan w e verdict links =
 
 -- the verdict of an event, and the state after it
 abbrev pub whole_step : Plan → Whole → Event → Verdict × Whole
-whole_step plan w e =
-    let r = step_of plan (beside_of plan w) w.links e in (r.0, whole_after plan w e r.0 r.1)
+whole_step plan w e = let r = step_of plan (beside_of plan w) w.links e in (r.0, whole_after plan w e r.0 r.1)

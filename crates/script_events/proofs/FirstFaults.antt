@@ -103,19 +103,16 @@ marks_reads p m t Host k trusted = by_tests (bytes_eq m (codes "more")) (bytes_e
     by_tests : (b c : Bool) → bytes_eq m (codes "more") ≡ b → bytes_eq t (codes "trusted") ≡ c
         → Reads (word_test (codes "more") ∷ trusted_test p ∷ []) (m ∷ t ∷ [])
         (ok_or (if b && c then Some (true, true) else None) fault.Word >>= λ z. Ok (k z))
-    by_tests true true x y =
-        on_reads (word_test (codes "more")) m (trusted_test p ∷ []) (t ∷ []) (Ok (k (true, true))) x
-        (on_reads (trusted_test p) t [] [] (Ok (k (true, true))) (trusted ∙ rw y refl) (end_reads (k (true, true))))
-    by_tests true false x y =
-        on_reads (word_test (codes "more")) m (trusted_test p ∷ []) (t ∷ []) (Err fault.Word) x
+    by_tests true true x y = on_reads (word_test (codes "more")) m (trusted_test p ∷ []) (t ∷ []) (Ok (k (true, true)))
+        x (on_reads (trusted_test p) t [] [] (Ok (k (true, true))) (trusted ∙ rw y refl) (end_reads (k (true, true))))
+    by_tests true false x y = on_reads (word_test (codes "more")) m (trusted_test p ∷ []) (t ∷ []) (Err fault.Word) x
         (off_reads (trusted_test p) t [] [] (trusted ∙ rw y refl))
     by_tests false c x y = off_reads (word_test (codes "more")) m (trusted_test p ∷ []) (t ∷ []) x
 marks_reads p m t Device k trusted = by_test (bytes_eq m (codes "more")) (bytes_eq t (codes "trusted")) refl refl
   where
     by_test : (b c : Bool) → bytes_eq m (codes "more") ≡ b → bytes_eq t (codes "trusted") ≡ c
         → Reads {A = ScriptEvent} (word_test (codes "more") ∷ trusted_test p ∷ []) (m ∷ t ∷ []) (Err fault.Word)
-    by_test true c x y =
-        on_reads (word_test (codes "more")) m (trusted_test p ∷ []) (t ∷ []) (Err fault.Word) x
+    by_test true c x y = on_reads (word_test (codes "more")) m (trusted_test p ∷ []) (t ∷ []) (Err fault.Word) x
         (off_reads (trusted_test p) t [] [] (trusted ∙ (rw y (never c))))
     by_test false c x y = off_reads (word_test (codes "more")) m (trusted_test p ∷ []) (t ∷ []) x
 

@@ -126,15 +126,12 @@ letter_step : (d : ℕ) (p : PortName) (low high host device up down : Bool) →
     → is_port p ≡ true
 letter_step d p true true true device up down x e =
     subst (λ q. is_port q ≡ true) (some_some (host_port (d - 48)) p e) (below (d - 48) (omega (arith, leb-true d 55 x)))
-letter_step d p true true false true up down x e =
-    subst (λ q. is_port q ≡ true) (some_some (device_port (d - 48)) p e)
+letter_step d p true true false true up down x e = subst (λ q. is_port q ≡ true) (some_some (device_port (d - 48)) p e)
     (below_too (d - 48) (omega (arith, leb-true d 55 x)))
-letter_step d p true true false false true down x e =
-    subst (λ q. is_port q ≡ true) (some_some (device_port (near_hop_line (d - 48))) p e)
-    (upper (d - 48) (omega (arith, leb-true d 55 x)))
-letter_step d p true true false false false true x e =
-    subst (λ q. is_port q ≡ true) (some_some (host_port (far_hop_line (d - 48))) p e)
-    (lower (d - 48) (omega (arith, leb-true d 55 x)))
+letter_step d p true true false false true down x e = subst (λ q. is_port q ≡ true)
+    (some_some (device_port (near_hop_line (d - 48))) p e) (upper (d - 48) (omega (arith, leb-true d 55 x)))
+letter_step d p true true false false false true x e = subst (λ q. is_port q ≡ true)
+    (some_some (host_port (far_hop_line (d - 48))) p e) (lower (d - 48) (omega (arith, leb-true d 55 x)))
 letter_step d p true true false false false false x e = absurd (none_some p e)
 letter_step d p true false host device up down x e = absurd (none_some p e)
 letter_step d p false high host device up down x e = absurd (none_some p e)

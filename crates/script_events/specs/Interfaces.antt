@@ -34,8 +34,7 @@ bar_number b = if nat_le 48 b && nat_le b 53 then Some (b - 48) else None
 
 -- bar, and that digit
 abbrev pub bar_in : Text → Option Register
-bar_in (b ∷ a ∷ r ∷ digit ∷ []) =
-    if b == 98 && a == 97 && r == 114 then option_map Bar (bar_number digit) else None
+bar_in (b ∷ a ∷ r ∷ digit ∷ []) = if b == 98 && a == 97 && r == 114 then option_map Bar (bar_number digit) else None
 bar_in _ = None
 
 unfoldable pub register_in : Text → Option Register

@@ -3,8 +3,8 @@
 ghost use Rattle.std.specs.Prelude.{◌≡◌, map};
 ghost use Rattle.script_events.specs.Accesses.{mmio_in, access_event_by_word};
 
-use crate::parts::{length_at, one_number};
-use crate::words::number_at;
+use crate::parts::{length_or_fault, one_number};
+use crate::words::number_or_fault;
 use crate::{AccessEvent, LineFault};
 
 fn mmio(words: &[&[u8]]) -> Result<AccessEvent, LineFault>
@@ -13,10 +13,10 @@ fn mmio(words: &[&[u8]]) -> Result<AccessEvent, LineFault>
     let [interface, bar, offset, length] = words else {
         return Err(LineFault::Count);
     };
-    let interface = number_at(interface)?;
-    let bar = number_at(bar)?;
-    let offset = number_at(offset)?;
-    let length = length_at(length)?;
+    let interface = number_or_fault(interface)?;
+    let bar = number_or_fault(bar)?;
+    let offset = number_or_fault(offset)?;
+    let length = length_or_fault(length)?;
     Ok(AccessEvent::Mmio {
         interface,
         bar,

@@ -7,8 +7,8 @@ ghost use Rattle.script_events.specs.declared.fault.LineFault.TheVariants as fau
 ghost use Rattle.script_events.specs.Interfaces.{bar_in, register_in, register_value_in, write_event_in, memory_in};
 ghost use Rattle.script_events.specs.Interfaces.{asking_event_of, interface_event_by_word};
 
-use crate::parts::{asked, length_at, one_number};
-use crate::words::{number, number_at};
+use crate::parts::{asked, length_or_fault, one_number};
+use crate::words::{number, number_or_fault};
 use crate::{InterfaceEvent, LineFault};
 use ide_types::Register;
 
@@ -50,7 +50,7 @@ fn register(word: &[u8]) -> Option<Register>
     bar(word)
 }
 
-fn register_at(word: &[u8]) -> Result<Register, LineFault>
+fn register_or_fault(word: &[u8]) -> Result<Register, LineFault>
     ensures { result ≡ ok_or (register_in word.now) fault.Word }
 {
     register(word).ok_or(LineFault::Word)
@@ -83,8 +83,8 @@ fn write(words: &[&[u8]]) -> Result<InterfaceEvent, LineFault>
     let [interface, register, value_word] = words else {
         return Err(LineFault::Count);
     };
-    let interface = number_at(interface)?;
-    let register = register_at(register)?;
+    let interface = number_or_fault(interface)?;
+    let register = register_or_fault(register)?;
     let value = value(register, value_word).ok_or(LineFault::Number)?;
     Ok(InterfaceEvent::Write {
         interface,
@@ -99,8 +99,8 @@ fn memory(words: &[&[u8]]) -> Result<InterfaceEvent, LineFault>
     let [address, length] = words else {
         return Err(LineFault::Count);
     };
-    let address = number_at(address)?;
-    let length = length_at(length)?;
+    let address = number_or_fault(address)?;
+    let length = length_or_fault(length)?;
     Ok(InterfaceEvent::Memory { address, length })
 }
 

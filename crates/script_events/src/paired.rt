@@ -7,7 +7,7 @@ ghost use Rattle.script_events.specs.Paired.{side_of_word, more_in, peer_send_in
 ghost use Rattle.script_events.specs.Parse.{IsLineAnswer};
 
 use crate::parts::{asked, operation, two_numbers};
-use crate::words::{bytes_at, number_at};
+use crate::words::{bytes_at, number_or_fault};
 use crate::{HopEvent, LineError, LineFault, PeerEvent, ScriptEvent};
 use ide_types::Side;
 use std::alloc::Global;
@@ -46,7 +46,7 @@ pub(crate) fn peer_send(alloc: Global, words: &[&[u8]]) -> Result<ScriptEvent, L
     if marks.len() > 1 {
         return Err(LineError::Fault(LineFault::Count));
     }
-    let peer = number_at(peer)?;
+    let peer = number_or_fault(peer)?;
     let side = side_at(side)?;
     let bytes = bytes_at(alloc, bytes)?;
     let more = more_at(marks)?;

@@ -16,7 +16,10 @@ use crate::accesses::access_event;
 use crate::interfaces::interface_event;
 use crate::paired::{hop_event, peer_event, peer_send};
 use crate::parts::{one_number, operation, two_numbers};
-use crate::words::{any_port_at, bytes_at, is_printed, mask_at, number_at, port_at, words_of};
+use crate::words::{
+    any_port_or_fault, bytes_at, is_printed, mask_or_fault, number_or_fault, port_or_fault,
+    words_of,
+};
 use crate::{LINE_LIMIT, LineError, LineFault, ScriptEvent};
 use ide_types::Side;
 use std::alloc::Global;
@@ -27,9 +30,9 @@ fn alter(words: &[&[u8]]) -> Result<ScriptEvent, LineFault>
     let [packet, at, mask] = words else {
         return Err(LineFault::Count);
     };
-    let packet = number_at(packet)?;
-    let at = number_at(at)?;
-    let mask = mask_at(mask)?;
+    let packet = number_or_fault(packet)?;
+    let at = number_or_fault(at)?;
+    let mask = mask_or_fault(mask)?;
     Ok(ScriptEvent::Alter { packet, at, mask })
 }
 
@@ -57,7 +60,7 @@ fn send(alloc: Global, words: &[&[u8]]) -> Result<ScriptEvent, LineError>
     if marks.len() > 2 {
         return Err(LineError::Fault(LineFault::Count));
     }
-    let port = port_at(port)?;
+    let port = port_or_fault(port)?;
     let bytes = bytes_at(alloc, bytes)?;
     let (more, trusted) = marks_at(port.side, marks)?;
     Ok(ScriptEvent::Send {
@@ -74,7 +77,7 @@ fn arrive(alloc: Global, words: &[&[u8]]) -> Result<ScriptEvent, LineError>
     let [port, bytes] = words else {
         return Err(LineError::Fault(LineFault::Count));
     };
-    let port = any_port_at(port)?;
+    let port = any_port_or_fault(port)?;
     let bytes = bytes_at(alloc, bytes)?;
     Ok(ScriptEvent::Arrive { port, bytes })
 }

@@ -6,7 +6,7 @@ ghost use Rattle.script_events.specs.declared.fault.LineFault.TheVariants as fau
 ghost use Rattle.script_events.specs.Parts.{loss_in, number_and_loss, operation_in, one_number_in, two_numbers_in};
 ghost use Rattle.script_events.specs.Parts.{length_in};
 
-use crate::words::{lost_at, number, number_at};
+use crate::words::{lost_at, number, number_or_fault};
 use crate::{LineFault, Loss};
 
 // What is lost, by the last words of an operation.
@@ -19,7 +19,7 @@ pub(crate) fn loss(words: &[&[u8]]) -> Result<Option<Loss>, LineFault>
             if *lose != b"lose".as_slice() {
                 return Err(LineFault::Word);
             }
-            let exchange = number_at(exchange)?;
+            let exchange = number_or_fault(exchange)?;
             let lost = lost_at(lost)?;
             Ok(Some(Loss { exchange, lost }))
         }
@@ -33,7 +33,7 @@ pub(crate) fn one_number(words: &[&[u8]]) -> Result<u64, LineFault>
     let [number] = words else {
         return Err(LineFault::Count);
     };
-    number_at(number)
+    number_or_fault(number)
 }
 
 pub(crate) fn two_numbers(words: &[&[u8]]) -> Result<(u64, u64), LineFault>
@@ -42,8 +42,8 @@ pub(crate) fn two_numbers(words: &[&[u8]]) -> Result<(u64, u64), LineFault>
     let [first, second] = words else {
         return Err(LineFault::Count);
     };
-    let first = number_at(first)?;
-    let second = number_at(second)?;
+    let first = number_or_fault(first)?;
+    let second = number_or_fault(second)?;
     Ok((first, second))
 }
 
@@ -57,7 +57,7 @@ pub(crate) fn asked(words: &[&[u8]]) -> Result<(u64, Option<Loss>), LineFault>
     if !matches!(rest, [] | [_, _, _]) {
         return Err(LineFault::Count);
     }
-    let number = number_at(number)?;
+    let number = number_or_fault(number)?;
     let lose = loss(rest)?;
     Ok((number, lose))
 }
@@ -72,8 +72,8 @@ pub(crate) fn operation(words: &[&[u8]]) -> Result<(u64, u64, Option<Loss>), Lin
     if !matches!(rest, [] | [_, _, _]) {
         return Err(LineFault::Count);
     }
-    let first = number_at(first)?;
-    let second = number_at(second)?;
+    let first = number_or_fault(first)?;
+    let second = number_or_fault(second)?;
     let lose = loss(rest)?;
     Ok((first, second, lose))
 }
@@ -88,7 +88,7 @@ fn length(word: &[u8]) -> Option<u64>
     }
 }
 
-pub(crate) fn length_at(word: &[u8]) -> Result<u64, LineFault>
+pub(crate) fn length_or_fault(word: &[u8]) -> Result<u64, LineFault>
     ensures { result ≡ ok_or (length_in word.now) fault.Number }
 {
     length(word).ok_or(LineFault::Number)

@@ -119,7 +119,7 @@ pub(crate) fn number(word: &[u8]) -> Option<u64>
     }
 }
 
-pub(crate) fn number_at(word: &[u8]) -> Result<u64, LineFault>
+pub(crate) fn number_or_fault(word: &[u8]) -> Result<u64, LineFault>
     ensures { result ≡ ok_or (number_of_word word.now) fault.Number }
 {
     number(word).ok_or(LineFault::Number)
@@ -136,7 +136,7 @@ fn mask(word: &[u8]) -> Option<u8>
     }
 }
 
-pub(crate) fn mask_at(word: &[u8]) -> Result<u8, LineFault>
+pub(crate) fn mask_or_fault(word: &[u8]) -> Result<u8, LineFault>
     ensures { result ≡ ok_or (mask_in word.now) fault.Hex }
 {
     mask(word).ok_or(LineFault::Hex)
@@ -181,7 +181,7 @@ fn port(word: &[u8]) -> Option<PortName>
     }
 }
 
-pub(crate) fn port_at(word: &[u8]) -> Result<PortName, LineFault>
+pub(crate) fn port_or_fault(word: &[u8]) -> Result<PortName, LineFault>
     ensures { result ≡ ok_or (port_of_word word.now) fault.Word }
 {
     port(word).ok_or(LineFault::Word)
@@ -219,7 +219,7 @@ fn any_port(word: &[u8]) -> Option<PortName>
     }
 }
 
-pub(crate) fn any_port_at(word: &[u8]) -> Result<PortName, LineFault>
+pub(crate) fn any_port_or_fault(word: &[u8]) -> Result<PortName, LineFault>
     ensures { result ≡ ok_or (any_port_of_word word.now) fault.Word }
 {
     any_port(word).ok_or(LineFault::Word)

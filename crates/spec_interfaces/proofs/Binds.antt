@@ -31,8 +31,7 @@ abbrev pub AreLive : (ℕ → Option ℕ) → List Binding → Type 0
 AreLive live bs = (stream : ℕ) → binds stream bs ≡ true → is_some (live stream) ≡ true
 
 pub no_binding : (live : ℕ → Option ℕ) (bs : List Binding) → bs ≡ [] → AreLive live bs
-no_binding live bs none stream is =
-    absurd (true≢false (sym is ∙ ap (λ (cs : List Binding). binds stream cs) none))
+no_binding live bs none stream is = absurd (true≢false (sym is ∙ ap (λ (cs : List Binding). binds stream cs) none))
 
 ended_or : (live : ℕ → Option ℕ) (b : Bool) (bs : List Binding) → AreLive live bs → AreLive live (if b then [] else bs)
 ended_or live true bs are = no_binding live [] refl
@@ -105,13 +104,10 @@ called_live live tdi (call.LockInterface flags stream offset secure drawn) fits 
     lock_live live tdi (new_lock tdi flags stream offset) (lock_answer tdi flags offset secure drawn) are
 called_live live tdi (call.StartInterface nonce) fits are = left_live live tdi (after_start tdi.state nonce) are
 called_live live tdi call.StopInterface fits are = left_live live tdi ConfigUnlocked are
-called_live live tdi (call.BindStream stream said) fits are =
-    bind_live live tdi stream (bind_answer tdi stream said)
+called_live live tdi (call.BindStream stream said) fits are = bind_live live tdi stream (bind_answer tdi stream said)
     (λ draw is. ap is_some (sym fits) ∙ answer_live tdi stream draw said is) are
-called_live live tdi (call.UnbindStream stream) fits are =
-    unbind_live live tdi stream (unbind_answer tdi stream) are
-called_live live tdi (call.WriteRegister register value) fits are =
-    left_live live tdi
+called_live live tdi (call.UnbindStream stream) fits are = unbind_live live tdi stream (unbind_answer tdi stream) are
+called_live live tdi (call.WriteRegister register value) fits are = left_live live tdi
     (after_change (changes_listed (lock_flags tdi.state) tdi.registers register value) tdi.state) are
 called_live live tdi call.LevelReset fits are = left_live live tdi (after_failure tdi.state) are
 called_live live tdi call.FirmwareUpdate fits are = left_live live tdi (firmware_updated tdi.state) are
@@ -138,8 +134,7 @@ asked_live live a x (ie.Unbind i line stream loss) w tdi says are =
 asked_live live a x (ie.Write i register value) w tdi says are =
     called_if live (changes_device w) (call.WriteRegister register value) tdi tt are
 asked_live live a x (ie.Flr i) w tdi says are = called_if live (changes_device w) call.LevelReset tdi tt are
-asked_live live a x (ie.Firmware i) w tdi says are =
-    called_if live (changes_device w) call.FirmwareUpdate tdi tt are
+asked_live live a x (ie.Firmware i) w tdi says are = called_if live (changes_device w) call.FirmwareUpdate tdi tt are
 asked_live live a x (ie.Report i loss) w tdi says are = are
 asked_live live a x (ie.State i loss) w tdi says are = are
 asked_live live a x (ie.View i) w tdi says are = are
@@ -159,9 +154,8 @@ given_secure : (tdi : DeviceTdi) (flags offset : ℕ) (secure : Bool) (drawn : O
 given_secure tdi flags offset true drawn is = refl
 given_secure tdi flags offset false drawn is = grind arith
 
-pub accepts_secure : (a : Around) (x : Site) (e : Event) (w : Verdict) (tdi : DeviceTdi) → accepts_lock a x e w tdi
-    ≡ true
-    → a.secure ≡ true
+pub accepts_secure : (a : Around) (x : Site) (e : Event) (w : Verdict) (tdi : DeviceTdi)
+    → accepts_lock a x e w tdi ≡ true → a.secure ≡ true
 accepts_secure a x (event.Interface (ie.Lock i loss)) w tdi is =
     let given = is_ok (lock_answer tdi x.plan.flags x.plan.offset a.secure a.drawn) in
     given_secure tdi x.plan.flags x.plan.offset a.secure a.drawn (and_parts ((i == x.number) && carries w 3) given is).1

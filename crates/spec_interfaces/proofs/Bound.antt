@@ -38,9 +38,8 @@ owner_bound plan h link stream bytes (Some x) is e =
     record { interface = x; owns = is; runs = parts.0; bound = parts.1 }
 
 pub peer_seals_bound : PeerSealsBound
-peer_seals_bound plan h link bytes d fits has =
-    owner_bound plan h link d.stream bytes (owner_read plan link (read_of bytes)) refl
-    (unsynced d.sync _ (sym fits ∙ has))
+peer_seals_bound plan h link bytes d fits has = owner_bound plan h link d.stream bytes
+    (owner_read plan link (read_of bytes)) refl (unsynced d.sync _ (sym fits ∙ has))
 
 -- ---- the law
 

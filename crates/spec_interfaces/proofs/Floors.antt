@@ -191,6 +191,5 @@ places_apart plan i j x y first second link place =
 -- how it stands
 pub standing_placed : (plan : Plan) (h : History) (i : ℕ) (x : Site) → site_at plan i ≡ Some x
     → slice_get (history_statuses plan h x.link) (place_of plan x) ≡ Some (device_status plan h x)
-standing_placed plan h i x is =
-    slice_get-map (device_status plan h) (link_sites plan x.link) (place_of plan x)
+standing_placed plan h i x is = slice_get-map (device_status plan h) (link_sites plan x.link) (place_of plan x)
     ∙ ap (option_map (device_status plan h)) (site_placed plan i x is)

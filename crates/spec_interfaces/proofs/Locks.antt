@@ -4,11 +4,10 @@ use Rattle.std.proofs.Common.{Ok, Err, if◌then◌else◌, refl, sym, ap, ◌�
 use Rattle.std.proofs.lemmas.Bool.Decides.{nat_tests}
 use Rattle.std.specs.Prelude.{is_ok}
 use Rattle.spec_interfaces.specs.Terms.{Plan, Event, InterfaceEvent, Verdict, History, Registers, Lock, DeviceTdi}
-use Rattle.spec_interfaces.specs.Terms.{lock_of}
-use Rattle.spec_interfaces.specs.Terms.{lock_answer, Call, LockInterface, StartInterface, StopInterface, WriteRegister}
-use Rattle.spec_interfaces.specs.Terms.{LevelReset, FirmwareUpdate, StreamLeft, LinkReset, interface_after_call}
-use Rattle.spec_interfaces.specs.Terms.{BindStream}
-use Rattle.spec_interfaces.specs.Terms.{UnbindStream, TdiState, bind_answer, unbind_answer}
+use Rattle.spec_interfaces.specs.Terms.{lock_of, lock_answer, Call, LockInterface, StartInterface, StopInterface}
+use Rattle.spec_interfaces.specs.Terms.{WriteRegister, LevelReset, FirmwareUpdate, StreamLeft, LinkReset}
+use Rattle.spec_interfaces.specs.Terms.{interface_after_call, BindStream, UnbindStream, TdiState, bind_answer}
+use Rattle.spec_interfaces.specs.Terms.{unbind_answer}
 use Rattle.interface_state.specs.Machine.{new_lock, interface_after_lock, interface_after_bind, unbound_with}
 use Rattle.interface_state.specs.Machine.{KeepsListed}
 use Rattle.interface_state.specs.Held.{IsBound}
@@ -17,7 +16,7 @@ use Rattle.interface_state.proofs.ListedParts.{listed_is_kept}
 use Rattle.spec_interfaces.specs.Sites.{Site}
 use Rattle.spec_interfaces.specs.Exchanges.{carries, changes_device}
 use Rattle.spec_interfaces.specs.Views.{is_number, number_in}
-use Rattle.spec_interfaces.specs.Devices.{Around, around_at, interface_if_called, lock_call, reset_call}
+use Rattle.spec_interfaces.specs.Devices.{Around, around_at_site, interface_if_called, lock_call, reset_call}
 use Rattle.spec_interfaces.specs.Devices.{interface_asked, next_interface, accepts_lock, is_stream_left, devices}
 use Rattle.spec_interfaces.specs.Devices.{interface_at, registers_locked, is_lock_accepted}
 use Rattle.script_events.specs.declared.event.Event.TheVariants as event
@@ -31,9 +30,8 @@ is_lock (LockInterface flags stream offset secure drawn) = true
 is_lock _ = false
 
 -- no call but LOCK_INTERFACE makes a lock
-after_stood : (tdi : DeviceTdi) (c : Call) (l : Lock) → is_lock c ≡ false → lock_of (interface_after_call tdi c).state
-    ≡ Some l
-    → lock_of tdi.state ≡ Some l
+after_stood : (tdi : DeviceTdi) (c : Call) (l : Lock) → is_lock c ≡ false
+    → lock_of (interface_after_call tdi c).state ≡ Some l → lock_of tdi.state ≡ Some l
 after_stood tdi (BindStream stream live) l other is =
     sym (ap (λ (s : TdiState). lock_of s) (bound_state tdi stream (bind_answer tdi stream live))) ∙ is
 after_stood tdi (UnbindStream stream) l other is =
@@ -109,9 +107,8 @@ asked_keeps P keeps a x e w tdi p = p
 pub next_keeps : (P : DeviceTdi → Type 0) → Keeps P
     → (a : Around) (left : Bool) (x : Site) (e : Event) (w : Verdict) (tdi : DeviceTdi) → P tdi
     → P (next_interface a left x e w tdi)
-next_keeps P keeps a left x (event.Interface e) w tdi p =
-    if_keeps P (is_number (number_in e) x.number) (interface_asked a x e w tdi) tdi (asked_keeps P keeps a x e w tdi p)
-    p
+next_keeps P keeps a left x (event.Interface e) w tdi p = if_keeps P (is_number (number_in e) x.number)
+    (interface_asked a x e w tdi) tdi (asked_keeps P keeps a x e w tdi p) p
 next_keeps P keeps a left x (event.Reset link ends) (v.Reset l) tdi p =
     keeps ((link == x.link) || left) (reset_call (link == x.link)) tdi p
 next_keeps P keeps a left x e w tdi p = keeps left StreamLeft tdi p
@@ -136,8 +133,7 @@ lock_made : (a : Around) (x : Site) (b c : Bool) (tdi : DeviceTdi) (l : Lock)
     ((accepts ≡ true) × (l ≡ new_lock tdi x.plan.flags x.plan.stream x.plan.offset))
 lock_made a x false c tdi l is = inl (is, refl)
 lock_made a x true false tdi l is = inl (is, refl)
-lock_made a x true true tdi l is =
-    given_made tdi (new_lock tdi x.plan.flags x.plan.stream x.plan.offset) l
+lock_made a x true true tdi l is = given_made tdi (new_lock tdi x.plan.flags x.plan.stream x.plan.offset) l
     (lock_answer tdi x.plan.flags x.plan.offset a.secure a.drawn) is
 
 if_stood : (b : Bool) (s t : DeviceTdi) (l : Lock) → (lock_of s.state ≡ Some l → lock_of t.state ≡ Some l)
@@ -187,7 +183,7 @@ pub layout_at : (plan : Plan) (h : History) (x : Site) → (interface_at plan h 
 unfolding devices
 layout_at plan [] x = refl
 layout_at plan ((e, w) ∷ h) x =
-    next_keeps (λ t. t.plan ≡ x.plan) (λ b c t is. called_layout b c t ∙ is) (around_at plan h x)
+    next_keeps (λ t. t.plan ≡ x.plan) (λ b c t is. called_layout b c t ∙ is) (around_at_site plan h x)
     (is_stream_left plan h e w x (interface_at plan h x)) x e w
     (interface_at plan h x) (layout_at plan h x)
 
@@ -196,7 +192,8 @@ pub listed_at : (plan : Plan) (h : History) (x : Site) → KeepsListed (interfac
 unfolding devices
 listed_at plan [] x = tt
 listed_at plan ((e, w) ∷ h) x =
-    next_keeps (λ t. KeepsListed t.registers t.state) called_listed (around_at plan h x) (is_stream_left plan h e w x
+    next_keeps (λ t. KeepsListed t.registers t.state) called_listed (around_at_site plan h x)
+    (is_stream_left plan h e w x
     (interface_at plan h x)) x e w
     (interface_at plan h x) (listed_at plan h x)
 
@@ -209,8 +206,7 @@ pub bound_at : (plan : Plan) (h : History) (x : Site) → IsBound (interface_at 
     (interface_at plan h x).bindings
 unfolding devices
 bound_at plan [] x = bindings_end.first x.plan
-bound_at plan ((e, w) ∷ h) x =
-    next_keeps (λ t. IsBound t.state t.bindings) called_bound (around_at plan h x)
+bound_at plan ((e, w) ∷ h) x = next_keeps (λ t. IsBound t.state t.bindings) called_bound (around_at_site plan h x)
     (is_stream_left plan h e w x (interface_at plan h x)) x e w (interface_at plan h x) (bound_at plan h x)
 
 -- the lock that stands is that of the topology, with the registers at the last one that was accepted
@@ -220,7 +216,7 @@ lock_with x registers = record
 
 lock_step : (plan : Plan) (h : History) (e : Event) (w : Verdict) (x : Site) (l : Lock)
     → (lock_of (interface_at plan h x).state ≡ Some l → l ≡ lock_with x (registers_locked plan h x))
-    → Made (around_at plan h x) x e w (interface_at plan h x) l
+    → Made (around_at_site plan h x) x e w (interface_at plan h x) l
     → l ≡ lock_with x (if is_lock_accepted plan h (devices plan h) e w x then (interface_at plan h x).registers else
     registers_locked
     plan h x)
@@ -233,5 +229,6 @@ unfolding devices registers_locked
 lock_stands plan [] x l is = absurd cc
 lock_stands plan ((e, w) ∷ h) x l is =
     lock_step plan h e w x l (lock_stands plan h x l)
-    (next_made (around_at plan h x) (is_stream_left plan h e w x (interface_at plan h x)) x e w (interface_at plan h x)
+    (next_made (around_at_site plan h x) (is_stream_left plan h e w x (interface_at plan h x)) x e w
+    (interface_at plan h x)
     l is)

@@ -3,16 +3,15 @@ use Rattle.std.proofs.Common.{◌≡◌, ℕ, ◌==◌, ◌&&◌, ◌||◌, ◌�
 use Rattle.std.proofs.Common.{refl, ap, ◌∙◌, arith}
 use Rattle.std.proofs.lemmas.Bool.Decides.{nat_tests}
 use Rattle.spec_interfaces.specs.Terms.{Plan, Event, Verdict, History, Lock, DeviceTdi, lock_answer, Call}
-use Rattle.spec_interfaces.specs.Terms.{LockInterface}
-use Rattle.spec_interfaces.specs.Terms.{StartInterface, StopInterface, WriteRegister, LevelReset, FirmwareUpdate}
-use Rattle.spec_interfaces.specs.Terms.{StreamLeft, BindStream, UnbindStream, interface_after_call, bind_answer}
-use Rattle.spec_interfaces.specs.Terms.{unbind_answer}
+use Rattle.spec_interfaces.specs.Terms.{LockInterface, StartInterface, StopInterface, WriteRegister, LevelReset}
+use Rattle.spec_interfaces.specs.Terms.{FirmwareUpdate, StreamLeft, BindStream, UnbindStream, interface_after_call}
+use Rattle.spec_interfaces.specs.Terms.{bind_answer, unbind_answer}
 use Rattle.interface_state.proofs.Bound.{bound_state, unbound_state}
 use Rattle.interface_state.specs.Machine.{new_lock, interface_after_lock}
 use Rattle.spec_interfaces.specs.Sites.{Site}
 use Rattle.spec_interfaces.specs.Exchanges.{carries, changes_device}
 use Rattle.spec_interfaces.specs.Views.{is_number, number_in}
-use Rattle.spec_interfaces.specs.Devices.{Around, around_at, interface_if_called, lock_call, next_interface}
+use Rattle.spec_interfaces.specs.Devices.{Around, around_at_site, interface_if_called, lock_call, next_interface}
 use Rattle.spec_interfaces.specs.Devices.{accepts_lock, is_run}
 use Rattle.spec_interfaces.specs.Devices.{reset_call, runs_at, is_stream_left, devices, interface_at, locks_accepted}
 use Rattle.script_events.specs.declared.event.Event.TheVariants as event
@@ -51,8 +50,7 @@ starts x (event.Interface (ie.Start i loss)) w = (i == x.number) && carries w 1
 starts x e w = false
 
 if_rests : (b : Bool) (s t : DeviceTdi) → is_run s.state ≡ false → is_run t.state ≡ false
-    → is_run (if b then s else t).state
-    ≡ false
+    → is_run (if b then s else t).state ≡ false
 if_rests true s t one two = one
 if_rests false s t one two = two
 
@@ -93,7 +91,8 @@ next_rests a left x e w tdi none rests = called_rests left StreamLeft tdi refl r
 pub rests_on : (plan : Plan) (h : History) (e : Event) (w : Verdict) (x : Site) → starts x e w ≡ false
     → runs_at plan h x ≡ false → runs_at plan ((e, w) ∷ h) x ≡ false
 unfolding devices
-rests_on plan h e w x none rests = next_rests (around_at plan h x) (is_stream_left plan h e w x (interface_at plan h x))
+rests_on plan h e w x none rests = next_rests (around_at_site plan h x)
+    (is_stream_left plan h e w x (interface_at plan h x))
     x e w
     (interface_at plan h x) none rests
 
@@ -116,4 +115,5 @@ not_accepted a x e w tdi none = refl
 pub locks_stay : (plan : Plan) (h : History) (e : Event) (w : Verdict) (x : Site) → locks_it x e w ≡ false
     → locks_accepted plan ((e, w) ∷ h) x ≡ locks_accepted plan h x
 unfolding devices
-locks_stay plan h e w x none = rw (not_accepted (around_at plan h x) x e w (interface_at plan h x) none) (omega arith)
+locks_stay plan h e w x none = rw (not_accepted (around_at_site plan h x) x e w (interface_at plan h x) none)
+    (omega arith)

@@ -10,8 +10,8 @@ use Rattle.interface_state.specs.Machine.{KeepsListed, after_change, after_failu
 use Rattle.spec_interfaces.specs.Sites.{Site, site_at}
 use Rattle.spec_interfaces.specs.Views.{managed_view}
 use Rattle.spec_interfaces.specs.Devices.{interface_at}
-use Rattle.spec_interfaces.specs.Due.{interface_verdict_due, interface_due, on_site, if_locked_or_running, reported_as}
-use Rattle.spec_interfaces.specs.Due.{code_after}
+use Rattle.spec_interfaces.specs.Due.{interface_verdict_due, interface_due, on_site, if_locked_or_running}
+use Rattle.spec_interfaces.specs.Due.{report_verdict, code_after}
 use Rattle.spec_interfaces.specs.Cause.{PairFits}
 use Rattle.spec_interfaces.specs.Laws.{IsLocked, KeepsReported, ShowsReport, ShowsError, ShownAt, InterfaceRunLawHolds}
 use Rattle.spec_interfaces.proofs.Locks.{listed_at, lock_stands}
@@ -45,7 +45,7 @@ keeps_reported plan h x is =
 
 reported_of : (plan : Plan) (x : Site) (view : View) (loss : Option Loss) (f : Lock → List ℕ) (o : Option Lock) (n : ℕ)
     (report : List ℕ)
-    → v.Interface (iv.Reported n report) ≡ if_locked_or_running view (reported_as plan x loss (option_map f o))
+    → v.Interface (iv.Reported n report) ≡ if_locked_or_running view (report_verdict plan x loss (option_map f o))
     → (l : Lock) × (o ≡ Some l) × (report ≡ f l)
 reported_of plan x view loss f o n report e = grind arith
 

@@ -6,8 +6,7 @@ use Rattle.std.proofs.lemmas.Bool.{cases_Bool}
 use Rattle.std.specs.Prelude.{nat_lt, nat_le, slice_set}
 use Rattle.spec_interfaces.specs.Terms.{StreamStatus, Plan, View, Unlocked, Locked, Running, Doubt, Broken, Event}
 use Rattle.spec_interfaces.specs.Terms.{InterfaceEvent, Loss, Verdict, History, op_of, draws, lost_at, if_secure}
-use Rattle.spec_interfaces.specs.Terms.{DeviceTdi}
-use Rattle.spec_interfaces.specs.Terms.{start_answer, StopInterface}
+use Rattle.spec_interfaces.specs.Terms.{DeviceTdi, start_answer, StopInterface}
 use Rattle.spec_interfaces.specs.Sites.{Site, site_at}
 use Rattle.spec_interfaces.specs.Exchanges.{carries, is_asked_at}
 use Rattle.spec_interfaces.specs.Views.{Managed, on_lock, on_report, on_start, on_halt, on_state, needs_then, view_told}

@@ -60,8 +60,7 @@ pub record SealFits (plan : Plan) (h : History) (bytes : List ℕ) (trusted : Bo
 -- of an event on memory, a send and an arrival the verdict itself is supposed
 abbrev pub PairFits : Plan → History → Event → Verdict → Type 0
 PairFits plan h (event.Interface e) w = w ≡ interface_verdict_due plan h e w
-PairFits plan h (event.Send port bytes more trusted) (v.Sealed ds) =
-    AllByRecursion (SealFits plan h bytes trusted) ds
+PairFits plan h (event.Send port bytes more trusted) (v.Sealed ds) = AllByRecursion (SealFits plan h bytes trusted) ds
 PairFits plan h e w = Unit {0}
 
 abbrev pub InterfaceCause : Plan → History → Type 0

@@ -3,11 +3,9 @@ use Rattle.std.specs.Prelude.{ℕ, ◌+◌, ◌==◌, ◌&&◌, ◌||◌, ◌∷
 use Rattle.std.specs.Prelude.{Some, None, is_ok}
 use Rattle.spec_interfaces.specs.Terms.{list_any, Device, Plan, Event, InterfaceEvent, Verdict, History, history_status}
 use Rattle.spec_interfaces.specs.Terms.{TdiState, Run, planned_registers, DeviceTdi, new_device_interface, lock_answer}
-use Rattle.spec_interfaces.specs.Terms.{Call, Registers}
-use Rattle.spec_interfaces.specs.Terms.{LockInterface, StartInterface, StopInterface, WriteRegister, LevelReset}
-use Rattle.spec_interfaces.specs.Terms.{FirmwareUpdate, StreamLeft, LinkReset, BindStream, UnbindStream}
-use Rattle.spec_interfaces.specs.Terms.{interface_after_call}
-use Rattle.spec_interfaces.specs.Terms.{binds}
+use Rattle.spec_interfaces.specs.Terms.{Call, Registers, LockInterface, StartInterface, StopInterface, WriteRegister}
+use Rattle.spec_interfaces.specs.Terms.{LevelReset, FirmwareUpdate, StreamLeft, LinkReset, BindStream, UnbindStream}
+use Rattle.spec_interfaces.specs.Terms.{interface_after_call, binds}
 pub use Rattle.spec_interfaces.specs.Peers.{is_secure}
 use Rattle.spec_interfaces.specs.Peers.{live_at, live_by_id, any_leaves}
 use Rattle.spec_interfaces.specs.Sites.{Site, sites, nonce_behind}
@@ -133,8 +131,8 @@ locks_accepted plan h x = (devices plan h).locks x
 abbrev pub used_at : Plan → History → ℕ → ℕ
 used_at plan h link = (devices plan h).used link
 
-abbrev pub around_at : Plan → History → Site → Around
-around_at plan h x = around plan h (devices plan h).used x
+abbrev pub around_at_site : Plan → History → Site → Around
+around_at_site plan h x = around plan h (devices plan h).used x
 
 -- its registers as they stood at the last LOCK_INTERFACE that it accepted
 unfoldable pub registers_locked : Plan → History → Site → Registers

@@ -10,7 +10,7 @@ use Rattle.spec_interfaces.specs.Terms.{interface_after_call}
 use Rattle.spec_interfaces.specs.Sites.{Site, site_at}
 use Rattle.spec_interfaces.specs.Peers.{has_peer}
 use Rattle.spec_interfaces.specs.Views.{Managed, managed_view, needs_then, stream_draw, number_in}
-use Rattle.spec_interfaces.specs.Devices.{Around, around_at, interface_at}
+use Rattle.spec_interfaces.specs.Devices.{Around, around_at_site, interface_at}
 use Rattle.ide_types.specs.declared.status.StreamStatus.TheVariants as status
 use Rattle.script_events.specs.declared.event.InterfaceEvent.TheVariants as ie
 use Rattle.event_verdicts.specs.declared.verdict.Verdict.TheVariants as v
@@ -45,7 +45,7 @@ host_status h x = history_status h Host x.link x.plan.stream
 
 abbrev pub asked_state : Plan → History → Site → AskedState
 asked_state plan h x = record {
-  around = around_at plan h x;
+  around = around_at_site plan h x;
   tdi = interface_at plan h x;
   managed = managed_view h x;
   host = host_status h x;
@@ -84,15 +84,15 @@ if_locked_or_running view w = v.Interface (iv.RefusedWrongState view)
 abbrev pub portions : ℕ → ℕ → ℕ
 portions size len = (len + size - 1) / size
 
-abbrev pub reported_as : Plan → Site → Option Loss → Option (List ℕ) → Verdict
-reported_as plan x loss None = unless_lost loss 1 (v.RefusedDevice 1 4)
-reported_as plan x loss (Some report) =
+abbrev pub report_verdict : Plan → Site → Option Loss → Option (List ℕ) → Verdict
+report_verdict plan x loss None = unless_lost loss 1 (v.RefusedDevice 1 4)
+report_verdict plan x loss (Some report) =
     unless_lost loss (portions plan.portion (length report)) (v.Interface (iv.Reported x.number report))
 
 abbrev pub report_due : Plan → Site → AskedState → Option Loss → Verdict
 report_due plan x s loss =
     if_locked_or_running s.managed.view
-    (reported_as plan x loss (option_map (kept_report x.plan) (lock_of s.tdi.state)))
+    (report_verdict plan x loss (option_map (kept_report x.plan) (lock_of s.tdi.state)))
 
 -- ---- start
 

@@ -47,8 +47,7 @@ ShownAt plan h (event.Interface (ie.Report i loss)) w =
     (x : Site) → site_at plan i ≡ Some x → ShowsReport plan h x (ie.Report i loss) w
 ShownAt plan h (event.Interface (ie.Write i register value)) w =
     (x : Site) → site_at plan i ≡ Some x → ShowsError plan h x (ie.Write i register value) w
-ShownAt plan h (event.Interface (ie.Flr i)) w =
-    (x : Site) → site_at plan i ≡ Some x → ShowsError plan h x (ie.Flr i) w
+ShownAt plan h (event.Interface (ie.Flr i)) w = (x : Site) → site_at plan i ≡ Some x → ShowsError plan h x (ie.Flr i) w
 ShownAt plan h (event.Interface (ie.Firmware i)) w =
     (x : Site) → site_at plan i ≡ Some x → ShowsError plan h x (ie.Firmware i) w
 ShownAt plan h e w = Unit {0}

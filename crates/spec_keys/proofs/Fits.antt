@@ -5,7 +5,7 @@
 use Rattle.spec_keys.proofs.Terms.{◌≡◌, ℕ, ◌+◌, ◌<◌, ◌≤◌, Bool, true, false, List, [], ◌∷◌, ◌++◌, refl, subst, arith}
 use Rattle.spec_keys.proofs.Terms.{nat_lt, not, if◌then◌else◌, SubKind, Side, Operation, KeyPlace, lane, is_local}
 use Rattle.spec_keys.proofs.Terms.{is_hosted, stop_exchange, Touch, Stop, Clear, Off, key_in, refuses, is_open, keys}
-use Rattle.spec_keys.proofs.Terms.{StreamStage, Idle, Establishing, Up, Refreshing, Stopping, Work, Reach, work}
+use Rattle.spec_keys.proofs.Terms.{StreamStage, Idle, Establishing, Up, Refreshing, Stopping, Work, Reach, new_work}
 use Rattle.spec_keys.proofs.Terms.{last_exchange_of, op_after_reach, op_ended, op_at_exchange, is_number_between}
 use Rattle.spec_keys.proofs.Terms.{touches_if, touches_after, program_exchange, go_exchange, from_at, below_at}
 use Rattle.spec_keys.proofs.Terms.{keying_touches, stopping_touches, uses, NeverFalls, not-not, nat_tests}
@@ -68,7 +68,7 @@ stops_in_reach p = grind (arith, lane_below)
 pub record Exchanges (o : Operation) (p : KeyPlace) : Type 0 where
   pub in_order : program_exchange o p < go_exchange o p
   pub in_reach : go_exchange o p ≤ last_at p o
-  pub begins : from_at (work o false 0 1 true) p ≤ program_exchange o p
+  pub begins : from_at (new_work o false 0 1 true) p ≤ program_exchange o p
 
 abbrev pub place : Side → ℕ → ℕ → Bool → SubKind → KeyPlace
 place side line stream sends u = record { side = side; line = line; stream = stream; sends = sends; sub = u }
@@ -126,8 +126,7 @@ turned_by_end w r top p ts more P lands below ended standing = record
       shape = lands.at.shape;
       is = lands.at.is;
       fits = ended lands.at.shape (true-lt _ _ e) lands.at.fits;
-      below =
-          below;
+      below = below;
     }
     by_test false e = record {
       shape = lands.at.shape;
@@ -157,23 +156,24 @@ full_alone j sh f = grind arith
 -- the end of an establish: its key is the only one
 pub establish_ends : (p : KeyPlace) (ts : List Touch) (j first : ℕ) (begins : Bool) (c : Reach)
     → last_at p op.Establish < c.acknowledged → Reached first (last_at p op.Establish) c
-    → TakesKey (work op.Establish false j first begins) c p ts
-    → RisesFrom false (work op.Establish false j first begins) p ts
-    → IsAt p.sends (touches_after ts (keying_touches (work op.Establish false j first begins) c p)) (Alone false j)
+    → TakesKey (new_work op.Establish false j first begins) c p ts
+    → RisesFrom false (new_work op.Establish false j first begins) p ts
+    → IsAt p.sends (touches_after ts (keying_touches (new_work op.Establish false j first begins) c p)) (Alone false j)
 establish_ends p ts j first begins c past reached takes from =
     let numbers = exchanges_establish p in
-    let risen = lands false (work op.Establish false j first begins) p ts c numbers.in_order reached takes from in
+    let risen = lands false (new_work op.Establish false j first begins) p ts c numbers.in_order reached takes from in
     rw (full_alone j risen.at.shape
     (rising_done _ _ _ _ _ _ _ _ numbers.in_order (omega (arith, past, numbers.in_reach)) risen.at.fits)) at
     risen.at.is
 
 pub establishes : (p : KeyPlace) (ts : List Touch) (j first : ℕ) (begins : Bool) (c : Reach) (top : ℕ) → j < top
-    → Below ts top → Reached first (last_at p op.Establish) c → TakesKey (work op.Establish false j first begins) c p ts
-    → RisesFrom false (work op.Establish false j first begins) p ts
-    → Turned (op_after_reach (is_hosted p.line) (work op.Establish false j first begins) c) top p ts
-    (keying_touches (work op.Establish false j first begins) c p)
+    → Below ts top → Reached first (last_at p op.Establish) c
+    → TakesKey (new_work op.Establish false j first begins) c p ts
+    → RisesFrom false (new_work op.Establish false j first begins) p ts
+    → Turned (op_after_reach (is_hosted p.line) (new_work op.Establish false j first begins) c) top p ts
+    (keying_touches (new_work op.Establish false j first begins) c p)
 establishes p ts j first begins c top lt below reached takes from =
-    let w = work op.Establish false j first begins in
+    let w = new_work op.Establish false j first begins in
     let numbers = exchanges_establish p in
     turned_by_end w c top p ts (keying_touches w c p) _ (lands false w p ts c numbers.in_order reached takes from)
     (below_keyed w c p ts top lt below)
@@ -186,12 +186,12 @@ establishes p ts j first begins c top lt below reached takes from =
 
 pub refreshes : (p : KeyPlace) (ts : List Touch) (k : Bool) (j first : ℕ) (begins : Bool) (c : Reach) (top : ℕ)
     → j < top → Below ts top → 1 ≤ first
-    → Reached first (last_at p op.Refresh) c → TakesKey (work op.Refresh k j first begins) c p ts
-    → RisesFrom true (work op.Refresh k j first begins) p ts
-    → Turned (op_after_reach (is_hosted p.line) (work op.Refresh k j first begins) c) top p ts
-    (keying_touches (work op.Refresh k j first begins) c p)
+    → Reached first (last_at p op.Refresh) c → TakesKey (new_work op.Refresh k j first begins) c p ts
+    → RisesFrom true (new_work op.Refresh k j first begins) p ts
+    → Turned (op_after_reach (is_hosted p.line) (new_work op.Refresh k j first begins) c) top p ts
+    (keying_touches (new_work op.Refresh k j first begins) c p)
 refreshes p ts k j first begins c top lt below least reached takes from =
-    let w = work op.Refresh k j first begins in
+    let w = new_work op.Refresh k j first begins in
     let numbers = exchanges_refresh p in
     turned_by_end w c top p ts (keying_touches w c p) _ (lands true w p ts c numbers.in_order reached takes from)
     (below_keyed w c p ts top lt below)
@@ -204,11 +204,11 @@ refreshes p ts k j first begins c top lt below least reached takes from =
 
 -- ---- where they begin and where they go on
 
-from_again : (p : KeyPlace) (o : Operation) (k : Bool) (j n : ℕ) → from_at (work o k j n false) p ≡ n
+from_again : (p : KeyPlace) (o : Operation) (k : Bool) (j n : ℕ) → from_at (new_work o k j n false) p ≡ n
 from_again p o k j n = grind arith
 
 pub establish_begins : (p : KeyPlace) (ts : List Touch) (top : ℕ) → FitsAt Idle top p ts
-    → RisesFrom false (work op.Establish false top 1 true) p ts
+    → RisesFrom false (new_work op.Establish false top 1 true) p ts
 establish_begins p ts top at =
     record {
       shape = Bare;
@@ -218,7 +218,7 @@ establish_begins p ts top at =
     }
 
 pub establish_goes_on : (p : KeyPlace) (ts : List Touch) (top j n : ℕ) → FitsAt (Establishing j n) top p ts
-    → RisesFrom false (work op.Establish false j n false) p ts
+    → RisesFrom false (new_work op.Establish false j n false) p ts
 establish_goes_on p ts top j n at = record
     { shape = at.shape; is = at.is; fits = rw (from_again p op.Establish false j n) at.fits.2 }
 
@@ -229,7 +229,7 @@ rest_of k j top u _ lt (both i) = subst (λ (l : Bool). Rest (not k) top u true 
     (old_both i j lt)
 
 pub refresh_begins : (p : KeyPlace) (ts : List Touch) (top : ℕ) (k : Bool) (j : ℕ) → FitsAt (Up k j) top p ts
-    → RisesFrom true (work op.Refresh (not k) top 1 true) p ts
+    → RisesFrom true (new_work op.Refresh (not k) top 1 true) p ts
 refresh_begins p ts top k j at =
     record {
       shape = at.shape;
@@ -239,7 +239,7 @@ refresh_begins p ts top k j at =
     }
 
 pub refresh_goes_on : (p : KeyPlace) (ts : List Touch) (top : ℕ) (k : Bool) (j n : ℕ)
-    → FitsAt (Refreshing k j n) top p ts → RisesFrom true (work op.Refresh k j n false) p ts
+    → FitsAt (Refreshing k j n) top p ts → RisesFrom true (new_work op.Refresh k j n false) p ts
 refresh_goes_on p ts top k j n at = record
     { shape = at.shape; is = at.is; fits = rw (from_again p op.Refresh k j n) at.fits.3 }
 
@@ -283,8 +283,7 @@ stops_by : (local sends : Bool) (a : ℕ) (ts : List Touch) (first last : ℕ) (
     (StopLeaves local a r.acknowledged)
 stops_by true sends a ts first last true r reached at = record {
   at = record { shape = Bare; is = clears sends ts; fits = refl };
-  come =
-      (record { shape = at.shape; is = at.is; may = tt }, tt);
+  come = (record { shape = at.shape; is = at.is; may = tt }, tt);
 }
 stops_by true sends a ts first last false r reached at = record
     { at = record { shape = at.shape; is = at.is; fits = at.fits }; come = tt }
@@ -312,10 +311,10 @@ below_stop w r p ts top below = grind arith
 
 pub stops_fit : (p : KeyPlace) (ts : List Touch) (first : ℕ) (begins : Bool) (r : Reach) (top : ℕ) → Below ts top
     → Reached first (last_at p op.Stop) r → At p.sends ts (FindsStopped (is_local p) (stop_exchange p) first begins)
-    → Turned (op_after_reach (is_hosted p.line) (work op.Stop false 0 first begins) r) top p ts
-    (stopping_touches (work op.Stop false 0 first begins) r p)
+    → Turned (op_after_reach (is_hosted p.line) (new_work op.Stop false 0 first begins) r) top p ts
+    (stopping_touches (new_work op.Stop false 0 first begins) r p)
 stops_fit p ts first begins r top below reached at =
-    let w = work op.Stop false 0 first begins in
+    let w = new_work op.Stop false 0 first begins in
     turned_by_end w r top p ts (stopping_touches w r p) _
     (stops_by (is_local p) p.sends (stop_exchange p) ts first _ begins r reached at) (below_stop w r p ts top below)
     (λ sh past stopped_there. stopped_all (is_local p) (stop_exchange p) r.acknowledged sh
@@ -355,7 +354,7 @@ establish_shape_takes s j a b n u sh le rising = grind arith
 
 -- no place refuses a key in an establish
 pub establish_takes : (p : KeyPlace) (ts : List Touch) (j first : ℕ) (begins : Bool) (c : Reach)
-    → RisesFrom false (work op.Establish false j first begins) p ts
-    → TakesKey (work op.Establish false j first begins) c p ts
+    → RisesFrom false (new_work op.Establish false j first begins) p ts
+    → TakesKey (new_work op.Establish false j first begins) c p ts
 establish_takes p ts j first begins c at le lt = rw at.is.are
     (establish_shape_takes p.sends j _ _ _ (marks ts) at.shape le at.fits)

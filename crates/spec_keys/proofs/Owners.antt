@@ -1,14 +1,13 @@
 -- A draw belongs to one stream and one key set: those of the operation that began with it.
 use Rattle.spec_keys.proofs.Terms.{◌≡◌, ℕ, ◌<◌, ◌==◌, Bool, true, false, Option, Some, None, List, [], ◌∷◌, length}
 use Rattle.spec_keys.proofs.Terms.{refl, subst, arith, ◌&&◌, if◌then◌else◌, Event, Operation, SealedPacket, Verdict}
-use Rattle.spec_keys.proofs.Terms.{KeyPlace, is_on_stream, is_local, Touch, Program, Go, Stop, makes_draw, work, ◌++◌}
-use Rattle.spec_keys.proofs.Terms.{Clear, Keyed, Off, Loaded, On, Keys, key_in, draw_of_keyed, on_in, keys_after_touch}
-use Rattle.spec_keys.proofs.Terms.{is_open, without_outlived, keys, StreamStage, Idle, Establishing, Up, Refreshing}
-use Rattle.spec_keys.proofs.Terms.{Stopping, Work, Reach, StreamOperations, Begun, PortName, is_hosted, is_cleared}
-use Rattle.spec_keys.proofs.Terms.{work_of}
-use Rattle.spec_keys.proofs.Terms.{reach_of, op_after_reach, op_after_reset, begun_after_work, manager_after_operation}
-use Rattle.spec_keys.proofs.Terms.{manager_after, History, manager, begun_of_draw, touches_if, work_touches, on_it}
-use Rattle.spec_keys.proofs.Terms.{seal_touches, came, touches, touches_after, moments, nat_tests}
+use Rattle.spec_keys.proofs.Terms.{KeyPlace, is_on_stream, is_local, Touch, Program, Go, Stop, makes_draw, new_work}
+use Rattle.spec_keys.proofs.Terms.{◌++◌, Clear, Keyed, Off, Loaded, On, Keys, key_in, draw_of_keyed, on_in}
+use Rattle.spec_keys.proofs.Terms.{keys_after_touch, is_open, without_outlived, keys, StreamStage, Idle, Establishing}
+use Rattle.spec_keys.proofs.Terms.{Up, Refreshing, Stopping, Work, Reach, StreamOperations, Begun, PortName, is_hosted}
+use Rattle.spec_keys.proofs.Terms.{is_cleared, work_of, reach_of, op_after_reach, op_after_reset, begun_after_work}
+use Rattle.spec_keys.proofs.Terms.{manager_after_operation, manager_after, History, manager, begun_of_draw, touches_if}
+use Rattle.spec_keys.proofs.Terms.{work_touches, on_it, seal_touches, came, touches, touches_after, moments, nat_tests}
 use Rattle.script_events.specs.declared.event.Event.TheVariants as event
 use Rattle.event_verdicts.specs.declared.verdict.Operation.TheVariants as op
 use Rattle.event_verdicts.specs.declared.verdict.Verdict.TheVariants as v
@@ -172,7 +171,8 @@ stopped_owned O a b c d = grind arith
 
 pub worked_owned : (O : Bool → ℕ → Type 0) (o : Operation) (set : Bool) (draw first : ℕ) (begins : Bool)
     (r : Option Reach)
-    (p : KeyPlace) → (makes_draw o ≡ true → O set draw) → AllOwned O (work_touches (work o set draw first begins) r p)
+    (p : KeyPlace) → (makes_draw o ≡ true → O set draw) → AllOwned O
+    (work_touches (new_work o set draw first begins) r p)
 worked_owned O o set draw first begins None p mine = tt
 worked_owned O op.Stop set draw first begins (Some r) p mine = stopped_owned O (is_local p) begins _ _
 worked_owned O op.Establish set draw first begins (Some r) p mine = keyed_owned O _ _ set draw (mine refl)

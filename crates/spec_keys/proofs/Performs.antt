@@ -2,7 +2,7 @@
 use Rattle.spec_keys.proofs.Terms.{◌≡◌, ℕ, suc, zero, ◌+◌, ◌-◌, ◌<◌, ◌≤◌, Bool, true, false, Option, Some, None, arith}
 use Rattle.spec_keys.proofs.Terms.{◌⊎◌, inl, inr, SubKind, Pr, Npr, Cpl, Side, Host, Device, Loss, Lost, Operation}
 use Rattle.spec_keys.proofs.Terms.{Verdict, Work, is_host, is_hosted, is_local, places_of, told_places, whole, ◌&&◌}
-use Rattle.spec_keys.proofs.Terms.{◌++◌, nat_tests, Reach, reach, last_exchange_of, reach_of, program_exchange}
+use Rattle.spec_keys.proofs.Terms.{◌++◌, nat_tests, Reach, new_reach, last_exchange_of, reach_of, program_exchange}
 use Rattle.spec_keys.proofs.Terms.{option_or, unwrap_or, refl, List, [], ◌∷◌, ◌==◌, ◌∙◌, KeyPlace, key_place_at}
 use Rattle.spec_keys.proofs.Terms.{if◌then◌else◌, first_status, PortView, cut_at, finished_verdict, first_from}
 use Rattle.spec_keys.proofs.Terms.{lost_message, operation_verdict, refusal_at, stays}
@@ -51,7 +51,7 @@ done_says line stream w = grind arith
 -- how far the verdict came
 abbrev came_to : Option Reach → Reach
 came_to (Some r) = r
-came_to None = reach 0 0
+came_to None = new_reach 0 0
 
 cut_says : (o : Operation) (lost : Option Lost) (status : Option ℕ) (n : ℕ) (verdict : Verdict)
     → cut_at lost status n ≡ Some verdict

@@ -3,7 +3,7 @@
 -- the host's receivers since the set holds no key that is On, or the older of two. If a refresh goes on, the host's
 -- port has its keys, and only the device's places are left.
 use Rattle.spec_keys.proofs.Terms.{◌≡◌, ℕ, ◌<◌, ◌≤◌, Bool, true, false, List, sym, ◌∙◌, arith, SubKind, Side, Host}
-use Rattle.spec_keys.proofs.Terms.{Device, Touch, Keys, refuses, keys, slot_of, is_live_draw, Reach, work, PortView}
+use Rattle.spec_keys.proofs.Terms.{Device, Touch, Keys, refuses, keys, slot_of, is_live_draw, Reach, new_work, PortView}
 use Rattle.spec_keys.proofs.Terms.{None, refusal_if, refusal_at, is_live_sender, nat_tests}
 use Rattle.event_verdicts.specs.declared.verdict.Operation.TheVariants as op
 use Rattle.spec_keys.proofs.Shapes.{Marks, marks, Shape, keys_of, Sound}
@@ -26,11 +26,12 @@ receiver_takes k j a b n u sh ts le sound rising = grind (arith, nat_tests)
 
 -- where it goes on
 local_later : (p : KeyPlace) (n : ℕ) → is_local p ≡ true → 1 ≤ n
-    → from_at (work op.Refresh false 0 n false) p ≤ program_exchange op.Refresh p → ⊥
+    → from_at (new_work op.Refresh false 0 n false) p ≤ program_exchange op.Refresh p → ⊥
 local_later p n local least le = grind arith
 
 told_from : (p : KeyPlace) (n : ℕ) → is_local p ≡ false
-    → from_at (work op.Refresh false 0 n false) p ≤ program_exchange op.Refresh p → n ≤ program_exchange op.Refresh p
+    → from_at (new_work op.Refresh false 0 n false) p ≤ program_exchange op.Refresh p
+    → n ≤ program_exchange op.Refresh p
 told_from p n told le = grind arith
 
 -- If a refresh begins: none of the exchanges that were acknowledged was refused, and no Live key of the near senders is
@@ -42,15 +43,14 @@ pub refresh_first_takes : (side : Side) (line stream : ℕ) (sends : Bool) (u : 
     → ((x : Bool) → ports.is_live (place side line stream sends u) x ≡ is_live_draw (slot_of sends (keys sends ts) x))
     → is_live_sender ports line stream k u ≡ false
     → ((n : ℕ) → 1 ≤ n → n < r.acknowledged → refusal_at ports op.Refresh k line stream n ≡ None)
-    → RisesFrom true (work op.Refresh k j 1 true) (place side line stream sends u) ts
-    → TakesKey (work op.Refresh k j 1 true) r (place side line stream sends u) ts
+    → RisesFrom true (new_work op.Refresh k j 1 true) (place side line stream sends u) ts
+    → TakesKey (new_work op.Refresh k j 1 true) r (place side line stream sends u) ts
 refresh_first_takes Host line stream true u ports ts k j r same live dead free at le lt = sender_takes (keys true ts) k
     (sym (live k) ∙ dead)
 refresh_first_takes side line stream false u ports ts k j r same live dead free at le lt =
     rw at.is.are (receiver_takes k j _ _ _ (marks ts) at.shape ts le at.is.sound at.fits)
-refresh_first_takes Device line stream true u ports ts k j r same live dead free at le lt =
-    not_refused _ (sym (same k) ∙ told_takes ports k Device line stream true u refl
-    (free _ le lt))
+refresh_first_takes Device line stream true u ports ts k j r same live dead free at le lt = not_refused _
+    (sym (same k) ∙ told_takes ports k Device line stream true u refl (free _ le lt))
 
 -- if it goes on, a host's port has its key
 pub refresh_again_takes : (side : Side) (line stream : ℕ) (sends : Bool) (u : SubKind) (ports : PortView)
@@ -58,7 +58,7 @@ pub refresh_again_takes : (side : Side) (line stream : ℕ) (sends : Bool) (u : 
     → ((x : Bool) → ports.refusal (place side line stream sends u) x
     ≡ refusal_if (refuses sends (keys sends ts) x))
     → ((x : ℕ) → n ≤ x → x < r.acknowledged → refusal_at ports op.Refresh k line stream x ≡ None)
-    → TakesKey (work op.Refresh k j n false) r (place side line stream sends u) ts
+    → TakesKey (new_work op.Refresh k j n false) r (place side line stream sends u) ts
 refresh_again_takes side line stream sends u ports ts k j n r least same free le lt = by_local
     (is_local (place side line stream sends u)) refl
   where

@@ -8,11 +8,9 @@ pub use Rattle.spec_keys.specs.Places.{is_host, is_local, places_of, told_places
 pub use Rattle.spec_keys.specs.Places.{is_cleared}
 pub use Rattle.ide_types.specs.Lines.{is_hosted}
 pub use Rattle.spec_keys.specs.Operations.{Begun, Establishing, Idle, StreamOperations, StreamStage, Reach, Refreshing}
-pub use Rattle.spec_keys.specs.Operations.{Stopping}
-pub use Rattle.spec_keys.specs.Operations.{Up, Work, begun_after_work, last_exchange_of, makes_draw, manager_after}
-pub use Rattle.spec_keys.specs.Operations.{op_after_reach, op_ended, op_after_reset, op_at_exchange}
-pub use Rattle.spec_keys.specs.Operations.{manager_after_operation}
-pub use Rattle.spec_keys.specs.Operations.{reach, reach_of, whole, work, work_of}
+pub use Rattle.spec_keys.specs.Operations.{Stopping, Up, Work, begun_after_work, last_exchange_of, makes_draw}
+pub use Rattle.spec_keys.specs.Operations.{manager_after, op_after_reach, op_ended, op_after_reset, op_at_exchange}
+pub use Rattle.spec_keys.specs.Operations.{manager_after_operation, new_reach, reach_of, whole, new_work, work_of}
 pub use Rattle.spec_keys.specs.History.{History, begins_keyed, begun_of_draw, touches_after, below_at, came, draws}
 pub use Rattle.spec_keys.specs.History.{fails_there, from_at, go_exchange, has_all, has_key, keeps_live, is_sender}
 pub use Rattle.spec_keys.specs.History.{is_number_between, keying_touches, place_keys, kept_draw, draw_on_at, on_it}
@@ -21,7 +19,7 @@ pub use Rattle.spec_keys.specs.History.{stopping_touches, touches, touches_if, w
 pub use Rattle.ide_types.specs.Ports.{keyed_status}
 unfoldable pub use Rattle.spec_keys.specs.History.{base, failed_there, manager, moments}
 pub use Rattle.spec_keys.specs.Laws.{KeyCauseLaw, GoesKept, SetGoFindsKey, KeyPlaceFacts, NeverAgain, NeverFalls}
-pub use Rattle.spec_keys.specs.Laws.{NoneAbove, OperationsSettle, SettledAt, StaysSecure, StaysSecureAt}
+pub use Rattle.spec_keys.specs.Laws.{NoneAbove, OperationsSettle, SettledAt, StaysSecure, StaysSecureAtEvent}
 pub use Rattle.spec_keys.specs.Laws.{KeysFollowOperations, UseFits, UsesFit, uses, StaysGone, has_gone, is_kept_there}
 pub use Rattle.spec_keys.specs.Laws.{is_on_there, was_on, went}
 pub use Rattle.std.specs.Prelude.{if◌then◌else◌, is_some, max, nat_le, nat_lt, not, ◌&&◌, ◌||◌}

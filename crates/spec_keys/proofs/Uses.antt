@@ -34,8 +34,7 @@ pub live_is_on : (ks : Keys) (j : ℕ) → sender_draw ks ≡ Some j → (set : 
 live_is_on ks j live = by_first (live_draw_in (slot_of true ks false)) refl live
   where
     by_first : (o : Option ℕ) → live_draw_in (slot_of true ks false) ≡ o
-        → option_or o (live_draw_in (slot_of true ks true))
-        ≡ Some j → (set : Bool) × (on_in (key_in ks set) ≡ Some j)
+        → option_or o (live_draw_in (slot_of true ks true)) ≡ Some j → (set : Bool) × (on_in (key_in ks set) ≡ Some j)
     by_first None e live = (true, slot_on_live ks.second ks.first j live)
     by_first (Some i) e live = (false, slot_on_live ks.first ks.second j (e ∙ live))
 

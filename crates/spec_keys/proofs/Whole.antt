@@ -8,16 +8,14 @@ use Rattle.spec_keys.proofs.Terms.{None, List, [], ◌∷◌, ◌++◌, length, 
 use Rattle.spec_keys.proofs.Terms.{if◌then◌else◌, SubKind, Pr, Npr, Cpl, Host, Event, Loss, Operation, SealedPacket}
 use Rattle.spec_keys.proofs.Terms.{Verdict, KeyPlan, KeyPlace, is_same_side, is_same_sub, is_on_stream, Touch, Seal}
 use Rattle.spec_keys.proofs.Terms.{Accept, Clear, keys, refuses, is_live_draw, refusal_if, slot_of, StreamStage, Idle}
-use Rattle.spec_keys.proofs.Terms.{Establishing, Up, Refreshing, Work, Reach, StreamOperations, Begun, work, work_of}
-use Rattle.spec_keys.proofs.Terms.{reach_of}
-use Rattle.spec_keys.proofs.Terms.{op_after_reach, begun_after_work, manager_after_operation, History, manager, op_of}
-use Rattle.spec_keys.proofs.Terms.{draws, work_touches, on_it, touches_if, is_sender, seal_touches, came, touches}
-use Rattle.spec_keys.proofs.Terms.{moments, history_status, PortView, ports_at, operation_verdict, begun_if_pool_has}
-use Rattle.spec_keys.proofs.Terms.{is_live_sender, unless_open, if_secure, establish_on, refresh_on, stop_on, key_due}
-use Rattle.spec_keys.proofs.Terms.{UsesFit, KeyCauseLaw, Side, Stopping, PortName, is_hosted, is_local}
-use Rattle.spec_keys.proofs.Terms.{is_between_devices, is_line_reset, is_cleared, op_after_reset, stop_exchange}
-use Rattle.spec_keys.proofs.Terms.{list_any, ◌+◌}
-use Rattle.spec_keys.proofs.Terms.{nat_tests}
+use Rattle.spec_keys.proofs.Terms.{Establishing, Up, Refreshing, Work, Reach, StreamOperations, Begun, new_work}
+use Rattle.spec_keys.proofs.Terms.{work_of, reach_of, op_after_reach, begun_after_work, manager_after_operation}
+use Rattle.spec_keys.proofs.Terms.{History, manager, op_of, draws, work_touches, on_it, touches_if, is_sender}
+use Rattle.spec_keys.proofs.Terms.{seal_touches, came, touches, moments, history_status, PortView, ports_at}
+use Rattle.spec_keys.proofs.Terms.{operation_verdict, begun_if_pool_has, is_live_sender, unless_open, if_secure}
+use Rattle.spec_keys.proofs.Terms.{establish_on, refresh_on, stop_on, key_due, UsesFit, KeyCauseLaw, Side, Stopping}
+use Rattle.spec_keys.proofs.Terms.{PortName, is_hosted, is_local, is_between_devices, is_line_reset, is_cleared}
+use Rattle.spec_keys.proofs.Terms.{op_after_reset, stop_exchange, list_any, ◌+◌, nat_tests}
 use Rattle.script_events.specs.declared.event.Event.TheVariants as event
 use Rattle.event_verdicts.specs.declared.verdict.Operation.TheVariants as op
 use Rattle.ide_types.specs.declared.status.StreamStatus.{StreamStatus}
@@ -114,14 +112,13 @@ refresh_turns plan q bs ports host p ts loss same live at = at
 
 -- ---- a stop
 
-stop_is : (q : StreamStage) (next : ℕ) → work_of op.Stop q next ≡ work op.Stop false 0 (work_of op.Stop q next).first
-    (work_of op.Stop q next).begins
+stop_is : (q : StreamStage) (next : ℕ)
+    → work_of op.Stop q next ≡ new_work op.Stop false 0 (work_of op.Stop q next).first (work_of op.Stop q next).begins
 stop_is q next = grind arith
 
 stop_finds : (q : StreamStage) (top : ℕ) (u : Marks) (p : KeyPlace) (sh : Shape) → Fits q top u p sh
     → ((work_of op.Stop q top).first ≤ last_at p op.Stop + 1)
-    × FindsStopped (is_local p) (stop_exchange p) (work_of op.Stop q top).first
-    (work_of op.Stop q top).begins sh
+    × FindsStopped (is_local p) (stop_exchange p) (work_of op.Stop q top).first (work_of op.Stop q top).begins sh
 stop_finds q top u p sh fits = grind arith
 
 stop_ends : (q : StreamStage) (bs : List Begun) (p : KeyPlace) (ts : List Touch) (r : Reach)
@@ -138,7 +135,7 @@ stop_turns : (q : StreamStage) (bs : List Begun) (ports : PortView) (p : KeyPlac
     (reach_of op.Stop (stop_on q (length bs) ports p.line p.stream loss))
 stop_turns q bs ports p ts loss at =
     let goes = performs ports p.line p.stream loss
-    (work op.Stop false 0 (work_of op.Stop q (length bs)).first (work_of op.Stop q (length bs)).begins)
+    (new_work op.Stop false 0 (work_of op.Stop q (length bs)).first (work_of op.Stop q (length bs)).begins)
     (stop_finds q (length bs) (marks ts) p at.shape at.fits).0 in
     rw (stop_is q (length bs), goes.says) (stop_ends q bs p ts goes.reached_to goes.reached at)
 
@@ -180,9 +177,8 @@ sends_there p d e = grind arith
 
 -- uses that fit, at a place whose keys are of its stream, leave it fit for the same state
 abbrev UsesLeave : StreamStage → List Begun → KeyPlace → List Touch → List Touch → Type 0
-UsesLeave o bs p ts more =
-    UsesFit p.sends ts more → OwnedKeys (Owner bs p.line p.stream) (keys p.sends ts) → FitsAt o (length bs) p ts
-    → Turned o (length bs) p ts more
+UsesLeave o bs p ts more = UsesFit p.sends ts more → OwnedKeys (Owner bs p.line p.stream) (keys p.sends ts)
+    → FitsAt o (length bs) p ts → Turned o (length bs) p ts more
 
 sealed_fits : (o : StreamStage) (bs : List Begun) (p : KeyPlace) (ts : List Touch) (ds : List SealedPacket)
     → UsesLeave o bs p ts (seal_touches p ds)
@@ -219,8 +215,7 @@ accepted_fits o bs p ts j a b c uses owned at = by_test (not p.sends && a && b &
         use_first o (length bs) p ts (Accept j) [] at (receives, uses.0)
         (record {
           now = accepts_fit o (length bs) p ts uses.0.0 j receives uses.0.1 (begun_below bs j _ mine) at;
-          come =
-              tt;
+          come = tt;
         })
 
 came_fits : (o : StreamStage) (bs : List Begun) (p : KeyPlace) (ts : List Touch) (verdict : Verdict)

@@ -53,14 +53,14 @@ is_on a = false
 -- ---- a KEY_PROG is refused
 
 -- at a receiver if the set's draw is On and no greater one is, at a sender if it is the least that is On
-abbrev pub refuses_on : Bool → Option ℕ → Option ℕ → Bool
-refuses_on sends None other = false
-refuses_on sends (Some i) None = true
-refuses_on false (Some i) (Some j) = nat_le j i
-refuses_on true (Some i) (Some j) = nat_le i j
+abbrev pub refuses_on_draws : Bool → Option ℕ → Option ℕ → Bool
+refuses_on_draws sends None other = false
+refuses_on_draws sends (Some i) None = true
+refuses_on_draws false (Some i) (Some j) = nat_le j i
+refuses_on_draws true (Some i) (Some j) = nat_le i j
 
 abbrev pub refuses : Bool → Keys → Bool → Bool
-refuses sends ks set = refuses_on sends (on_in (key_in ks set)) (on_in (key_in ks (not set)))
+refuses sends ks set = refuses_on_draws sends (on_in (key_in ks set)) (on_in (key_in ks (not set)))
 
 -- the status of a KP_ACK whose key was not taken
 abbrev pub refused_status : ℕ

@@ -47,8 +47,8 @@ uses (Seal j m ∷ ts) = j ∷ uses ts
 uses (Accept j ∷ ts) = j ∷ uses ts
 uses (_ ∷ ts) = uses ts
 
-abbrev pub uses_at : History → KeyPlace → List ℕ
-uses_at h p = uses (moments h p)
+abbrev pub uses_at_place : History → KeyPlace → List ℕ
+uses_at_place h p = uses (moments h p)
 
 abbrev pub NoneAbove : ℕ → List ℕ → Type 0
 NoneAbove j [] = Unit {0}
@@ -66,9 +66,9 @@ pub record KeyPlaceFacts (h : History) : Type 0 where
   pub one_stream : (p q : KeyPlace) (k l : Bool) (j : ℕ) → draw_on_at h p k ≡ Some j → draw_on_at h q l ≡ Some j
       → (p.line ≡ q.line) × (p.stream ≡ q.stream)
   -- a draw that is On is at least each draw that was used there
-  pub none_above : (p : KeyPlace) (k : Bool) (j : ℕ) → draw_on_at h p k ≡ Some j → NoneAbove j (uses_at h p)
+  pub none_above : (p : KeyPlace) (k : Bool) (j : ℕ) → draw_on_at h p k ≡ Some j → NoneAbove j (uses_at_place h p)
   -- draws of sealed packets and of accepted units never fall
-  pub never_fall : (p : KeyPlace) → NeverFalls (uses_at h p)
+  pub never_fall : (p : KeyPlace) → NeverFalls (uses_at_place h p)
 
 -- ---- the state of a stream
 
@@ -125,8 +125,7 @@ was_on sends (t ∷ ts) j = is_on_there (keys sends (t ∷ ts)) j || was_on send
 -- whether the draw was On at one moment, and at a later one was kept in neither set
 abbrev pub has_gone : Bool → List Touch → ℕ → Bool
 has_gone sends [] j = false
-has_gone sends (t ∷ ts) j =
-    has_gone sends ts j || (was_on sends ts j && not (is_kept_there (keys sends (t ∷ ts)) j))
+has_gone sends (t ∷ ts) j = has_gone sends ts j || (was_on sends ts j && not (is_kept_there (keys sends (t ∷ ts)) j))
 
 -- At each moment, a draw that has gone is kept in neither set.
 abbrev pub StaysGone : Bool → List Touch → Type 0
@@ -170,13 +169,13 @@ OperationsSettle [] = Unit {0}
 OperationsSettle ((e, verdict) ∷ h) = SettledAt h e verdict × OperationsSettle h
 
 -- No move of a refresh takes a port out of Secure.
-abbrev pub StaysSecureAt : History → Event → Verdict → Type 0
-StaysSecureAt h (event.Refresh line stream loss) verdict =
+abbrev pub StaysSecureAtEvent : History → Event → Verdict → Type 0
+StaysSecureAtEvent h (event.Refresh line stream loss) verdict =
     (side : Side) → history_status h side line stream ≡ status.Secure
     → history_status ((event.Refresh line stream loss, verdict)
     ∷ h) side line stream ≡ status.Secure
-StaysSecureAt h e verdict = Unit {0}
+StaysSecureAtEvent h e verdict = Unit {0}
 
 abbrev pub StaysSecure : History → Type 0
 StaysSecure [] = Unit {0}
-StaysSecure ((e, verdict) ∷ h) = StaysSecureAt h e verdict × StaysSecure h
+StaysSecure ((e, verdict) ∷ h) = StaysSecureAtEvent h e verdict × StaysSecure h

@@ -25,18 +25,18 @@ pub record Work : Type 0 where
   pub first : ℕ
   pub begins : Bool
 
-abbrev pub work : Operation → Bool → ℕ → ℕ → Bool → Work
-work o set draw first begins = record { operation = o; set = set; draw = draw; first = first; begins = begins }
+abbrev pub new_work : Operation → Bool → ℕ → ℕ → Bool → Work
+new_work o set draw first begins = record { operation = o; set = set; draw = draw; first = first; begins = begins }
 
 -- the operation goes on where it stands, else it begins with the next draw; a refresh takes the set that is not current
 abbrev pub work_of : Operation → StreamStage → ℕ → Work
-work_of op.Establish (Establishing j n) next = work op.Establish false j n false
-work_of op.Establish _ next = work op.Establish false next 1 true
-work_of op.Refresh (Refreshing set j n) next = work op.Refresh set j n false
-work_of op.Refresh (Up set j) next = work op.Refresh (not set) next 1 true
-work_of op.Refresh _ next = work op.Refresh true next 1 true
-work_of op.Stop (Stopping n) next = work op.Stop false 0 n false
-work_of op.Stop _ next = work op.Stop false 0 1 true
+work_of op.Establish (Establishing j n) next = new_work op.Establish false j n false
+work_of op.Establish _ next = new_work op.Establish false next 1 true
+work_of op.Refresh (Refreshing set j n) next = new_work op.Refresh set j n false
+work_of op.Refresh (Up set j) next = new_work op.Refresh (not set) next 1 true
+work_of op.Refresh _ next = new_work op.Refresh true next 1 true
+work_of op.Stop (Stopping n) next = new_work op.Stop false 0 n false
+work_of op.Stop _ next = new_work op.Stop false 0 1 true
 
 -- the number of its last exchange: with a host's port at the near end, and if both ends are keyed by messages
 abbrev pub last_exchange_of : (hosted : Bool) → Operation → ℕ
@@ -49,21 +49,21 @@ pub record Reach : Type 0 where
   pub carried : ℕ
   pub acknowledged : ℕ
 
-abbrev pub reach : ℕ → ℕ → Reach
-reach carried acknowledged = record { carried = carried; acknowledged = acknowledged }
+abbrev pub new_reach : ℕ → ℕ → Reach
+new_reach carried acknowledged = record { carried = carried; acknowledged = acknowledged }
 
 -- to the end of an operation on a line
 abbrev pub whole : ℕ → Operation → Reach
-whole line o = reach (last_exchange_of (is_hosted line) o + 1) (last_exchange_of (is_hosted line) o + 1)
+whole line o = new_reach (last_exchange_of (is_hosted line) o + 1) (last_exchange_of (is_hosted line) o + 1)
 
 -- by the verdict; nothing if the operation was refused
 abbrev pub reach_of : Operation → Verdict → Option Reach
 reach_of o (v.Established l s j) = Some (whole l o)
 reach_of o (v.Refreshed l s j) = Some (whole l o)
 reach_of o (v.Stopped l s) = Some (whole l o)
-reach_of o (v.LostRequest n) = Some (reach n n)
-reach_of o (v.LostReply n) = Some (reach (n + 1) n)
-reach_of o (v.RefusedDevice n code) = Some (reach (n + 1) n)
+reach_of o (v.LostRequest n) = Some (new_reach n n)
+reach_of o (v.LostReply n) = Some (new_reach (n + 1) n)
+reach_of o (v.RefusedDevice n code) = Some (new_reach (n + 1) n)
 reach_of o _ = None
 
 abbrev pub op_ended : Work → StreamStage

@@ -3,12 +3,11 @@
 -- test that gives another verdict must have gone the other way, and these tests are what the records list.
 use Rattle.spec_links.proofs.Terms.{Bool, Err, List, None, Ok, Option, Result, Some, [], ap, arith, false, length, refl}
 use Rattle.spec_links.proofs.Terms.{subst, sym, true, ℕ, ◌+◌, ◌∙◌, ◌∷◌, ◌≡◌, unwrap_or, key_due, Ending, Sending}
-use Rattle.spec_links.proofs.Terms.{arrival_due, before_tag, before_tag_of, due, dump_due, effects_of}
+use Rattle.spec_links.proofs.Terms.{arrival_due, before_tag, before_tag_of_cut, due, dump_due, effects_of}
 use Rattle.spec_links.proofs.Terms.{unit_packets_ended, first_that_holds, send_due, is_mixed, is_overfull, is_verified}
 use Rattle.spec_links.proofs.Terms.{lanes_at, receiving_sub_stream, refusals, sealed_with_syncs, streams_of}
 use Rattle.spec_links.proofs.Terms.{next_unit_name, ArrivedBytes, arrival_of_event, arrived_packet, cut_packet}
-use Rattle.spec_links.proofs.Terms.{has_failed}
-use Rattle.spec_links.proofs.Terms.{meets_counts, on_draw, packet_by_number, arrival_packet, received_in}
+use Rattle.spec_links.proofs.Terms.{has_failed, meets_counts, on_draw, packet_by_number, arrival_packet, received_in}
 use Rattle.spec_links.proofs.Terms.{sealed_packets, units_got, is_quiet, SubStream, has_link, has_stream, stream_plan}
 use Rattle.spec_links.proofs.Terms.{AllByRecursion, Alter, Arrive, Cut, Dump, Effect, Establish, Interface, Event}
 use Rattle.spec_links.proofs.Terms.{sent_bytes, Pass, History, Packet, Plan, PortName, Refresh, Reset, SealedPacket}
@@ -112,7 +111,7 @@ record Brought (plan : Plan) (h : History) (e : Event) (w : Verdict) : Type 0 wh
   arrival : arrival_of_event plan h e ≡ Some at
   cut : cut_of at.bytes ≡ Ok (IdePacket packet)
   stays : goes_through plan at.port at.bytes ≡ false
-  is : w ≡ ending_due plan h at.port (before_tag_of plan h at.port (Ok (IdePacket packet)))
+  is : w ≡ ending_due plan h at.port (before_tag_of_cut plan h at.port (Ok (IdePacket packet)))
 
 abbrev Sent : Plan → History → Event → List SealedPacket → Type 0
 Sent plan h e ds = (is_sealing e ≡ true) × IsSealing plan h (sending_port plan e) (sent_bytes plan h e) ds
@@ -195,8 +194,7 @@ answer_by_tells : (plan : Plan) (h : History) (link interface draw : ℕ) (o : O
     → let e = Access (ae.Answer link) in
     Tells plan h e (completion_verdict plan h (sending_port plan e) interface draw o (outgoing_completion plan h link))
 answer_by_tells plan h link interface draw None = tt
-answer_by_tells plan h link interface draw (Some bound) =
-    judged_tells plan h link interface bound
+answer_by_tells plan h link interface draw (Some bound) = judged_tells plan h link interface bound
     (binding_cause bound (stream_taken (outgoing_completion plan h link)) draw)
 
 answer_of_tells : (plan : Plan) (h : History) (link draw : ℕ) (o : Option Site) → let e = Access (ae.Answer link) in
@@ -211,8 +209,7 @@ answer_first_tells plan h link (r ∷ rs) =
     answer_of_tells plan h link r.draw (site_of_requester plan link r.read.requester)
 
 answer_tells : (plan : Plan) (h : History) (link : ℕ) → Tells plan h (Access (ae.Answer link)) (answer_due plan h link)
-answer_tells plan h link =
-    if_tells plan h (Access (ae.Answer link)) (has_link plan link) _ v.Nothing
+answer_tells plan h link = if_tells plan h (Access (ae.Answer link)) (has_link plan link) _ v.Nothing
     (answer_first_tells plan h link (waiting_reads plan h link)) tt
 
 -- ---- what waits at switches
@@ -226,13 +223,13 @@ forward_first_tells plan h link d (x ∷ xs) =
 -- ---- arrivals
 
 not_sealed : (plan : Plan) (h : History) (port : PortName) (p : Packet) (ds : List SealedPacket)
-    → v.Sealed ds ≡ ending_due plan h port (before_tag_of plan h port (Ok (IdePacket p))) → ⊥
+    → v.Sealed ds ≡ ending_due plan h port (before_tag_of_cut plan h port (Ok (IdePacket p))) → ⊥
 not_sealed plan h port p ds is = grind arith
 
-packet_tells : (plan : Plan) (h : History) (e : Event) (a : ArrivedBytes) (p : Packet) → arrival_of_event plan h e
-    ≡ Some a
-    → cut_of a.bytes ≡ Ok (IdePacket p) → goes_through plan a.port a.bytes ≡ false
-    → (w : Verdict) → w ≡ ending_due plan h a.port (before_tag_of plan h a.port (Ok (IdePacket p))) → Tells plan h e w
+packet_tells : (plan : Plan) (h : History) (e : Event) (a : ArrivedBytes) (p : Packet)
+    → arrival_of_event plan h e ≡ Some a → cut_of a.bytes ≡ Ok (IdePacket p) → goes_through plan a.port a.bytes ≡ false
+    → (w : Verdict) → w ≡ ending_due plan h a.port (before_tag_of_cut plan h a.port (Ok (IdePacket p)))
+    → Tells plan h e w
 packet_tells plan h e a p arrival cut stays (v.Held port unit) is = record
     { at = a; packet = p; arrival = arrival; cut = cut; stays = stays; is = is }
 packet_tells plan h e a p arrival cut stays (v.Accepted port unit effects) is = record
@@ -242,7 +239,7 @@ packet_tells plan h e a p arrival cut stays _ is = tt
 
 cut_tells : (plan : Plan) (h : History) (e : Event) (a : ArrivedBytes) → arrival_of_event plan h e ≡ Some a
     → goes_through plan a.port a.bytes ≡ false → (r : Result CutValue PacketFault) → cut_of a.bytes ≡ r
-    → Tells plan h e (ending_due plan h a.port (before_tag_of plan h a.port r))
+    → Tells plan h e (ending_due plan h a.port (before_tag_of_cut plan h a.port r))
 cut_tells plan h e a arrival stays (Err f) cut = tt
 cut_tells plan h e a arrival stays (Ok PlainTlp) cut = tt
 cut_tells plan h e a arrival stays (Ok (IdePacket p)) cut = packet_tells plan h e a p arrival cut stays _ refl
@@ -254,7 +251,7 @@ arrival_tells plan h e None arrival = tt
 arrival_tells plan h e (Some a) arrival = by (goes_through plan a.port a.bytes) refl
   where
     by : (b : Bool) → goes_through plan a.port a.bytes ≡ b → Tells plan h e (ending_due plan h a.port
-        (if b then Err (through_due plan a.port) else before_tag_of plan h a.port (cut_of a.bytes)))
+        (if b then Err (through_due plan a.port) else before_tag_of_cut plan h a.port (cut_of a.bytes)))
     by true through = tt
     by false stays = cut_tells plan h e a arrival stays (cut_of a.bytes) refl
 
@@ -290,8 +287,7 @@ tells plan h (Interface e) = quiet_tells plan h (Interface e) _ (interface_due_q
 tells plan h (Pass n) = arrival_tells plan h (Pass n) (arrival_of_event plan h (Pass n)) refl
 tells plan h (Alter n at mask) = arrival_tells plan h (Alter n at mask) (arrival_of_event plan h (Alter n at mask)) refl
 tells plan h (Cut n len) = arrival_tells plan h (Cut n len) (arrival_of_event plan h (Cut n len)) refl
-tells plan h (Forward link d) =
-    if_tells plan h (Forward link d) (has_hop plan link) _ v.Nothing
+tells plan h (Forward link d) = if_tells plan h (Forward link d) (has_hop plan link) _ v.Nothing
     (forward_first_tells plan h link d (hop_waiting plan h link d)) tt
 tells plan h Absent = tt
 tells plan h (Arrive port bytes) = arrival_tells plan h (Arrive port bytes)
@@ -308,7 +304,7 @@ came_to plan h e w port by same = record {
 }
 
 held_is : (plan : Plan) (h : History) (q port : PortName) (p : Packet) (unit : UnitName)
-    → v.Held port unit ≡ ending_due plan h q (before_tag_of plan h q (Ok (IdePacket p)))
+    → v.Held port unit ≡ ending_due plan h q (before_tag_of_cut plan h q (Ok (IdePacket p)))
     → (q ≡ port) × Passed plan h port p unit × (p.prefix.m ≡ false)
 held_is plan h q port p unit is =
     let passed : Passed plan h port p unit =
@@ -331,18 +327,17 @@ held_by plan h e port unit is =
       packet = by.packet;
       came = came_to plan h e (v.Held port unit) port by told.0;
       passed = told.1;
-      goes_on =
-          told.2;
+      goes_on = told.2;
     }
 
 ending_is : (plan : Plan) (h : History) (port : PortName) (p : Packet) (unit : UnitName) → Passed plan h port p unit
-    → p.prefix.m ≡ true → before_tag_of plan h port (Ok (IdePacket p)) ≡ Ok (unit_ending p unit)
+    → p.prefix.m ≡ true → before_tag_of_cut plan h port (Ok (IdePacket p)) ≡ Ok (unit_ending p unit)
 ending_is plan h port p unit passed m = grind arith
 
 accepted_of : (plan : Plan) (h : History) (e : Event) (q port : PortName) (p : Packet) (unit : UnitName)
     (effects : List Effect)
     → (q ≡ port → (came : Came plan h e port p) × (goes_through plan port came.bytes ≡ false))
-    → v.Accepted port unit effects ≡ ending_due plan h q (before_tag_of plan h q (Ok (IdePacket p)))
+    → v.Accepted port unit effects ≡ ending_due plan h q (before_tag_of_cut plan h q (Ok (IdePacket p)))
     → AcceptedBy plan h e port unit effects
 unfolding before_tag
 accepted_of plan h e q port p unit effects came is =
@@ -360,7 +355,7 @@ accepted_of plan h e q port p unit effects came is =
     record {
       packet = p;
       came = there.0;
-      before = rw there.1 (ap (before_tag_of plan h port) there.0.cut ∙ ending_is plan h port p unit passed ends);
+      before = rw there.1 (ap (before_tag_of_cut plan h port) there.0.cut ∙ ending_is plan h port p unit passed ends);
       passed = passed;
       ends = ends;
       verified = grind arith;
@@ -400,9 +395,8 @@ received_there plan h port p unit passed = ap (received_in port) passed.named
 
 pub numbered : (plan : Plan) (h : History) (port : PortName) (p : Packet) (unit : UnitName) → Passed plan h port p unit
     → unit.unit ≡ units_got h (received_in port unit) unit.draw + 1
-numbered plan h port p unit passed =
-    ap (λ (u : UnitName). u.unit) passed.named ∙ ap (λ (s : SubStream). units_got h s unit.draw + 1)
-    (sym (received_there plan h port p unit passed))
+numbered plan h port p unit passed = ap (λ (u : UnitName). u.unit) passed.named
+    ∙ ap (λ (s : SubStream). units_got h s unit.draw + 1) (sym (received_there plan h port p unit passed))
 
 -- the unit that an accepted verdict ends
 pub unit_that_ends : (plan : Plan) (h : History) (e : Event) (port : PortName) (unit : UnitName) (p : Packet)

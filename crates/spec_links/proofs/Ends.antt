@@ -25,7 +25,7 @@ use Rattle.ide_types.specs.declared.plan.LinkPlan.{LinkPlan}
 use Rattle.ide_types.specs.declared.plan.PeerPlan.{PeerPlan}
 use Rattle.ide_types.specs.declared.stream.StreamPlan.{StreamPlan}
 use Rattle.ide_types.specs.Plans.{has_stream_id, hop_has_id, link_has_id, links_have_id}
-use Rattle.ide_types.specs.Fits.{FitsPlan, FitsLink, FitsHopIf, FitsPeer}
+use Rattle.ide_types.specs.Fits.{FitsPlan, FitsLink, FitsHopIfAny, FitsPeer}
 use Rattle.ide_types.specs.Ends.{end_at, end_at_port, far_hop_port, hop_end, line_has, link_hop, near_hop_port}
 use Rattle.ide_types.specs.Ends.{own_has_id, peer_has_id, peer_link, port_beside_end}
 unfoldable use Rattle.ide_types.specs.Ends.{peer_end}
@@ -165,7 +165,7 @@ hop_apart : (links : List LinkPlan) → All FitsLink links → (i id : ℕ)
 hop_apart [] each i id is = absurd cc
 hop_apart (l ∷ links) each zero id is = by l.hop (each 0 l (omega arith)).hop is
   where
-    by : (o : Option HopPlan) → FitsHopIf l.streams o → hop_has_id o id ≡ true → has_stream_id l.streams id ≡ false
+    by : (o : Option HopPlan) → FitsHopIfAny l.streams o → hop_has_id o id ≡ true → has_stream_id l.streams id ≡ false
     by None fits is = absurd cc
     by (Some o) fits is = subst (λ (n : ℕ). has_stream_id l.streams n ≡ false) (eqb-true o.id id is) fits.id_is_new
 hop_apart (l ∷ links) each (suc i) id is = hop_apart links (λ k d lt. each (suc k) d (omega arith)) i id is

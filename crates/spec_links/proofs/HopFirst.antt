@@ -18,6 +18,5 @@ drop_first (suc n) (y ∷ xs) x rest is = drop_first n xs x rest is
 pub forwarded_bytes : (plan : Plan) (h : History) (link : ℕ) (d : Direction) (x : HopTlp) (xs : List HopTlp)
     → hop_waiting plan h link d ≡ x ∷ xs → sent_bytes plan h (Forward link d) ≡ x.bytes
 unfolding bytes_by
-forwarded_bytes plan h link d x xs waits =
-    ap (λ (o : Option HopTlp). option_map_or (λ (y : HopTlp). y.bytes) o [])
+forwarded_bytes plan h link d x xs waits = ap (λ (o : Option HopTlp). option_map_or (λ (y : HopTlp). y.bytes) o [])
     (drop_first (forwarded_count h link d) (accepted_tlps plan h link (entering_end link d)) x xs waits)

@@ -18,11 +18,11 @@ use Rattle.spec_interfaces.specs.Terms.{View, has_register, kept_report, lock_of
 use Rattle.spec_interfaces.specs.Terms.{bind_answer, unbind_answer}
 use Rattle.spec_interfaces.specs.Sites.{Site, site_at}
 use Rattle.spec_interfaces.specs.Views.{managed_view, stream_draw, number_in}
-use Rattle.spec_interfaces.specs.Devices.{around_at, interface_at}
+use Rattle.spec_interfaces.specs.Devices.{around_at_site, interface_at}
 use Rattle.spec_interfaces.specs.Peers.{has_peer}
 use Rattle.spec_interfaces.specs.Due.{unless_lost, host_status, if_unlocked, verdict_of_lock, lock_answer_at, lock_due}
-use Rattle.spec_interfaces.specs.Due.{asked_state, if_locked_or_running, portions, reported_as, if_locked, if_reported}
-use Rattle.spec_interfaces.specs.Due.{if_fresh, started_as, interface_due, on_site, with_number}
+use Rattle.spec_interfaces.specs.Due.{asked_state, if_locked_or_running, portions, report_verdict, if_locked}
+use Rattle.spec_interfaces.specs.Due.{if_reported, if_fresh, started_as, interface_due, on_site, with_number}
 use Rattle.spec_interfaces.specs.Due.{verdict_of_bind, unbound_as, op_status}
 unfoldable use Rattle.spec_interfaces.specs.Due.{interface_verdict_due as due_of}
 use Rattle.script_events.specs.declared.event.InterfaceEvent.TheVariants as ie
@@ -77,8 +77,7 @@ refresh_due_quiet plan h line stream lose =
 pub stop_due_quiet : (plan : Plan) (h : History) (line stream : ℕ) (lose : Option Loss)
     → is_quiet (due plan h (Stop line stream lose)) ≡ true
 unfolding due key_due
-stop_due_quiet plan h line stream lose =
-    if_quiet (is_some (stream_plan plan line stream)) _ v.Nothing
+stop_due_quiet plan h line stream lose = if_quiet (is_some (stream_plan plan line stream)) _ v.Nothing
     (performed_quiet (ports_at h) line stream lose (work_of op.Stop (op_of h line stream) (draws h))) refl
 
 -- ---- interfaces
@@ -95,7 +94,7 @@ unless_lost_quiet (Some loss) n x is = if_quiet (nat_le 1 loss.exchange && nat_l
 lock_quiet : (plan : Plan) (h : History) (x : Site) (loss : Option Loss)
     → is_quiet (lock_due x (asked_state plan h x) loss) ≡ true
 lock_quiet plan h x loss = by (managed_view h x).view (history_status h Host x.link x.plan.stream)
-    (lock_answer_at (around_at plan h x) x (interface_at plan h x))
+    (lock_answer_at (around_at_site plan h x) x (interface_at plan h x))
   where
     as_quiet : (answer : Result (List ℕ) ℕ) → is_quiet (verdict_of_lock x answer) ≡ true
     as_quiet answer = grind arith
@@ -105,7 +104,7 @@ lock_quiet plan h x loss = by (managed_view h x).view (history_status h Host x.l
     by view s answer = let q = unless_lost_quiet loss 3 (verdict_of_lock x answer) (as_quiet answer) in grind arith
 
 report_quiet : (plan : Plan) (x : Site) (view : View) (loss : Option Loss) (o : Option (List ℕ))
-    → is_quiet (if_locked_or_running view (reported_as plan x loss o)) ≡ true
+    → is_quiet (if_locked_or_running view (report_verdict plan x loss o)) ≡ true
 report_quiet plan x view loss None = let q = unless_lost_quiet loss 1 (v.RefusedDevice 1 4) refl in grind arith
 report_quiet plan x view loss (Some report) =
     let q = unless_lost_quiet loss (portions plan.portion (length report)) (v.Interface (iv.Reported x.number report))
@@ -155,9 +154,8 @@ own_quiet plan h x (ie.Bind i line stream loss) =
     if_quiet (has_peer plan.peers x.link line stream) _ v.Nothing
     (bind_quiet x (managed_view h x).view (op_status (op_of h line stream)) (stream_draw h line stream)
     (managed_view h x).needs
-    line loss (bind_answer (interface_at plan h x) stream ((around_at plan h x).live stream))) refl
-own_quiet plan h x (ie.Unbind i line stream loss) =
-    if_quiet (has_peer plan.peers x.link line stream) _ v.Nothing
+    line loss (bind_answer (interface_at plan h x) stream ((around_at_site plan h x).live stream))) refl
+own_quiet plan h x (ie.Unbind i line stream loss) = if_quiet (has_peer plan.peers x.link line stream) _ v.Nothing
     (unbind_quiet x (managed_view h x).view line loss (unbind_answer (interface_at plan h x) stream)) refl
 own_quiet plan h x (ie.View i) = refl
 own_quiet plan h x (ie.Write i register value) = if_quiet (has_register x.plan register) _ v.Nothing refl refl

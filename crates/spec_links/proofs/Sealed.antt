@@ -40,10 +40,9 @@ posted-own xs x s from here = rw (after_last-hit (is_sealed_from_draw s from) xs
 
 -- one of another counts if it is a posted one
 pub posted-more : (xs : SealedList) (x : SealedPacket × Packet) (s : SubStream) (from : ℕ)
-    → is_sealed_from_draw s from x
-    ≡ false
-    → posted_since_last (xs ++ x ∷ []) s from ≡ posted_since_last xs s from
-    + (if is_sealed_from_draw (posted_lane s) from x then 1 else 0)
+    → is_sealed_from_draw s from x ≡ false
+    → posted_since_last (xs ++ x ∷ []) s from
+    ≡ posted_since_last xs s from + (if is_sealed_from_draw (posted_lane s) from x then 1 else 0)
 unfolding posted_since_last
 posted-more xs x s from other = count_after (is_sealed_from_draw s from) (is_sealed_from_draw (posted_lane s) from) xs x
     other

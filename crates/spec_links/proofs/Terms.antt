@@ -25,11 +25,10 @@ pub use Rattle.spec_keys.specs.Keys.{Touch, is_on, draw_of_keyed, sender_draw, w
 unfoldable pub use Rattle.spec_keys.specs.Keys.{is_open, keys}
 pub use Rattle.spec_keys.specs.Laws.{KeyCauseLaw, GivenFits, UsesFit}
 pub use Rattle.spec_keys.specs.Operations.{Begun, Idle, StreamOperations, StreamStage, Reach, Stopping, Work}
-pub use Rattle.spec_keys.specs.Operations.{op_after_reach}
-pub use Rattle.spec_keys.specs.Operations.{manager_after_operation, reach_of, work_of}
+pub use Rattle.spec_keys.specs.Operations.{op_after_reach, manager_after_operation, reach_of, work_of}
 pub use Rattle.spec_keys.specs.Places.{is_on_stream, is_same_side, is_same_sub, lane, places_of}
 pub use Rattle.spec_links.specs.Cause.{CauseLaw, OneHistory, events_of}
-pub use Rattle.spec_links.specs.Due.{Ending, Lanes, Sending, arrival_due, before_tag_of, described_seal, dump_due}
+pub use Rattle.spec_links.specs.Due.{Ending, Lanes, Sending, arrival_due, before_tag_of_cut, described_seal, dump_due}
 pub use Rattle.spec_links.specs.Due.{effects_of, unit_packets_ended, ends_unit, first_that_holds, is_keyless, is_mixed}
 pub use Rattle.spec_links.specs.Due.{is_overfull, is_verified, lanes_at, needs_sync, no_key, receiving_sub_stream}
 pub use Rattle.spec_links.specs.Due.{refusals, sealed_with_syncs, send_due, sets_trusted, next_unit_name, answer_due}

@@ -123,15 +123,13 @@ each_unit F R P none ends goes unfinished (q ∷ ps) f all =
 pub units_all : (P : Packet → Type 0) (ps : List Packet) → AllByRecursion P ps
     → AllByRecursion (AllByRecursion P) (units ps)
 unfolding units
-units_all P ps all =
-    each_unit (AllByRecursion P) P (AllByRecursion P) tt (λ f p g here m. All-snoc P f p g here)
+units_all P ps all = each_unit (AllByRecursion P) P (AllByRecursion P) tt (λ f p g here m. All-snoc P f p g here)
     (λ f p g here m. All-snoc P f p g here) [] ps tt all
 
 -- each unit ends in M, and only there
 pub units_end : (ps : List Packet) → AllByRecursion EndsInM (units ps)
 unfolding units
-units_end ps =
-    each_unit IsFront (λ p. Unit {0}) EndsInM tt (λ f p g here m. EndsInM-snoc f p g m)
+units_end ps = each_unit IsFront (λ p. Unit {0}) EndsInM tt (λ f p g here m. EndsInM-snoc f p g m)
     (λ f p g here m. All-snoc _ f p g m) [] ps tt (all_of _ (λ p. tt) ps)
 
 -- what holds of all units holds of one

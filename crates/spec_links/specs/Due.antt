@@ -17,13 +17,12 @@ use Rattle.ide_prefix.specs.FaultWords.{tlp_word, packet_word}
 use Rattle.ide_types.specs.declared.binding.Binding.{Binding}
 use Rattle.ide_types.specs.declared.sub.FailCause.TheVariants as fail
 use Rattle.spec_links.specs.Plan.{SubStream, key_plan, streams_of, stream_plan, lane_out, has_link, has_stream}
-use Rattle.spec_links.specs.Ports.{port_of, at_switch, may_send, outgoing_at, sealing_end, goes_through}
 use Rattle.spec_links.specs.Plan.{aggregation_of, key_of}
+use Rattle.spec_links.specs.Ports.{port_of, at_switch, may_send, outgoing_at, sealing_end, goes_through}
 use Rattle.spec_links.specs.Units.{units, open_unit}
 use Rattle.spec_links.specs.History.{ArrivedBytes, KeyName, sealed_packets, sent_packets, arrival_of_event}
-use Rattle.spec_links.specs.History.{packet_by_number}
-use Rattle.spec_links.specs.History.{pending_packets, units_got, on_draw, live_key, has_failed, posted_count}
-use Rattle.spec_links.specs.History.{meets_counts, received_in, ahead_due, sent_bytes, sending_port}
+use Rattle.spec_links.specs.History.{packet_by_number, pending_packets, units_got, on_draw, live_key, has_failed}
+use Rattle.spec_links.specs.History.{posted_count, meets_counts, received_in, ahead_due, sent_bytes, sending_port}
 use Rattle.ide_types.specs.declared.sub.SubKind.TheVariants.{Cpl}
 use Rattle.ide_types.specs.declared.verdict.InterfaceVerdict.TheVariants as iv
 use Rattle.script_events.specs.declared.event.AccessEvent.TheVariants as ae
@@ -201,10 +200,10 @@ under_keys plan h port p (Some j) other =
     else if p.prefix.m then Ok (record { packet = p; unit = next_unit_name h s j })
     else Err (v.Held port (next_unit_name h s j))
 
-abbrev pub before_tag_of : Plan → History → PortName → Result CutValue PacketFault → Result Ending Verdict
-before_tag_of plan h port (Err f) = Err (v.Malformed (port_of plan port) (packet_word f) (packet_place f))
-before_tag_of plan h port (Ok PlainTlp) = Err (v.Plain (port_of plan port))
-before_tag_of plan h port (Ok (IdePacket p)) =
+abbrev pub before_tag_of_cut : Plan → History → PortName → Result CutValue PacketFault → Result Ending Verdict
+before_tag_of_cut plan h port (Err f) = Err (v.Malformed (port_of plan port) (packet_word f) (packet_place f))
+before_tag_of_cut plan h port (Ok PlainTlp) = Err (v.Plain (port_of plan port))
+before_tag_of_cut plan h port (Ok (IdePacket p)) =
     if not (has_stream plan port p.prefix.stream) then Err (v.Unknown (port_of plan port) p.prefix.stream)
     else if has_failed h port p.prefix.stream then Err (v.Insecure port p.prefix.stream)
     else under_keys plan h port p (on_draw h port (receiving_sub_stream port p) p.prefix.k)
@@ -219,7 +218,7 @@ through_due plan port = v.Through (port_of plan port)
 unfoldable pub before_tag : Plan → History → ArrivedBytes → Result Ending Verdict
 before_tag plan h a =
     if goes_through plan a.port a.bytes then Err (through_due plan a.port)
-    else before_tag_of plan h a.port (cut_of a.bytes)
+    else before_tag_of_cut plan h a.port (cut_of a.bytes)
 
 -- the unit that a packet ends
 abbrev pub unit_packets_ended : Plan → History → PortName → Ending → List Packet

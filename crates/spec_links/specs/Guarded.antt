@@ -60,12 +60,13 @@ asked_happens plan (event.Interface (ie.Flr i)) w link = reset_at plan w link (s
 asked_happens plan e w link = []
 
 -- at the device of a link whose interfaces stand so, if the verdict of an event ends a unit of these packets, or none
-abbrev pub happens_by : Plan → (ℕ → List InterfaceStatus) → List Packet → Event → Verdict → ℕ → List (Option Happened)
-happens_by plan statuses ps e (v.Accepted port unit effects) link =
+abbrev pub happens_by_packets : Plan → (ℕ → List InterfaceStatus) → List Packet → Event → Verdict → ℕ
+    → List (Option Happened)
+happens_by_packets plan statuses ps e (v.Accepted port unit effects) link =
     if (port_of plan port).line == link then unit_happenings (statuses (port_of plan port).line) plan port unit ps else
     []
-happens_by plan statuses ps (event.Reset l ends) (v.Reset k) link = happens_if (l == link) AllReset
-happens_by plan statuses ps e w link = asked_happens plan e w link
+happens_by_packets plan statuses ps (event.Reset l ends) (v.Reset k) link = happens_if (l == link) AllReset
+happens_by_packets plan statuses ps e w link = asked_happens plan e w link
 
 -- the packets of the unit that a verdict ends
 abbrev pub verdict_unit : Plan → History → Event → Verdict → List Packet
@@ -73,7 +74,7 @@ verdict_unit plan h e (v.Accepted port unit effects) = unit_ended plan h e port 
 verdict_unit plan h e w = []
 
 abbrev pub happens : Plan → History → Event → Verdict → ℕ → List (Option Happened)
-happens plan h e w link = happens_by plan (history_statuses plan h) (verdict_unit plan h e w) e w link
+happens plan h e w link = happens_by_packets plan (history_statuses plan h) (verdict_unit plan h e w) e w link
 
 -- the newest first
 unfoldable pub link_happenings : Plan → History → ℕ → List Happened
@@ -94,8 +95,8 @@ mmio_shown plan happened_at (Some x) bar offset len =
     (bytes_from (byte_shown (happened_at x.link) (place_of plan x) bar) offset len)
 
 -- the bytes from an offset on, if the range has them all
-abbrev pub mmio_by : Plan → (ℕ → List Happened) → ℕ → ℕ → ℕ → ℕ → Verdict
-mmio_by plan happened_at i bar offset len = mmio_shown plan happened_at (site_at plan i) bar offset len
+abbrev pub mmio_by_happenings : Plan → (ℕ → List Happened) → ℕ → ℕ → ℕ → ℕ → Verdict
+mmio_by_happenings plan happened_at i bar offset len = mmio_shown plan happened_at (site_at plan i) bar offset len
 
 abbrev pub mmio_due : Plan → History → ℕ → ℕ → ℕ → ℕ → Verdict
-mmio_due plan h i bar offset len = mmio_by plan (link_happenings plan h) i bar offset len
+mmio_due plan h i bar offset len = mmio_by_happenings plan (link_happenings plan h) i bar offset len

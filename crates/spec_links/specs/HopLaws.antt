@@ -49,8 +49,7 @@ draws_since [] link line = []
 draws_since ((Establish l s loss, w) ∷ h) link line =
     if (l == line) && begins_keyed (op_of h l s) (draws h) w then draws h ∷ draws_since h link line
     else draws_since h link line
-draws_since ((Reset k ends, v.Reset l) ∷ h) link line =
-    if clears_hop ends link then [] else draws_since h link line
+draws_since ((Reset k ends, v.Reset l) ∷ h) link line = if clears_hop ends link then [] else draws_since h link line
 draws_since (_ ∷ h) link line = draws_since h link line
 
 -- each segment had one draw at most
@@ -99,7 +98,7 @@ brings_bytes e = false
 
 -- These are as they were: the packets that were sealed, operations and keys, failures, what was got and what is held,
 -- what waits, what stands in memory, views and interfaces.
-pub record Unchanged (plan : Plan) (h : History) (e : Event) (w : Verdict) : Type 0 where
+pub record IsUnchanged (plan : Plan) (h : History) (e : Event) (w : Verdict) : Type 0 where
   pub sealed : sealed_packets plan ((e, w) ∷ h) ≡ sealed_packets plan h
   pub operations : manager ((e, w) ∷ h) ≡ manager h
   pub keys : (p : KeyPlace) → place_keys ((e, w) ∷ h) p ≡ place_keys h p
@@ -117,4 +116,4 @@ pub record Unchanged (plan : Plan) (h : History) (e : Event) (w : Verdict) : Typ
 
 -- An answer `through` leaves them so.
 abbrev pub ThroughLaw : Plan → History → Type 0
-ThroughLaw plan h = (e : Event) (port : PortName) → brings_bytes e ≡ true → Unchanged plan h e (v.Through port)
+ThroughLaw plan h = (e : Event) (port : PortName) → brings_bytes e ≡ true → IsUnchanged plan h e (v.Through port)

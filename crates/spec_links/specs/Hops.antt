@@ -55,16 +55,16 @@ tlps_with plain (p ∷ ps) =
     else record { sub = p.prefix.sub; bytes = p.head ++ take (length p.body) plain; t = p.prefix.t } ∷ later
 
 -- those of units that were accepted at an end since the last reset of the link's hop, in order
-unfoldable pub accepted_tlps_in : Plan → SealedList → History → ℕ → PortName → List HopTlp
-accepted_tlps_in plan xs [] link end = []
-accepted_tlps_in plan xs ((e, Accepted port unit effects) ∷ h) link end =
+unfoldable pub accepted_tlps_in_list : Plan → SealedList → History → ℕ → PortName → List HopTlp
+accepted_tlps_in_list plan xs [] link end = []
+accepted_tlps_in_list plan xs ((e, Accepted port unit effects) ∷ h) link end =
     if is_same_port port end
-    then accepted_tlps_in plan xs h link end
+    then accepted_tlps_in_list plan xs h link end
     ++ tlps_with (plain_of plan port unit (unit_accepted plan xs h e port unit)) (unit_accepted plan xs h e port unit)
-    else accepted_tlps_in plan xs h link end
-accepted_tlps_in plan xs ((Reset k ends, v.Reset l) ∷ h) link end =
-    if clears_hop ends link then [] else accepted_tlps_in plan xs h link end
-accepted_tlps_in plan xs (_ ∷ h) link end = accepted_tlps_in plan xs h link end
+    else accepted_tlps_in_list plan xs h link end
+accepted_tlps_in_list plan xs ((Reset k ends, v.Reset l) ∷ h) link end =
+    if clears_hop ends link then [] else accepted_tlps_in_list plan xs h link end
+accepted_tlps_in_list plan xs (_ ∷ h) link end = accepted_tlps_in_list plan xs h link end
 
 -- ---- what is forwarded
 
@@ -82,4 +82,5 @@ forwarded_count (_ ∷ h) link d = forwarded_count h link d
 
 -- the first that waits
 abbrev pub first_in : Plan → SealedList → History → ℕ → Direction → Option HopTlp
-first_in plan xs h link d = slice_get (accepted_tlps_in plan xs h link (entering_end link d)) (forwarded_count h link d)
+first_in plan xs h link d = slice_get (accepted_tlps_in_list plan xs h link (entering_end link d))
+    (forwarded_count h link d)

@@ -52,18 +52,14 @@ pub record KeyFacts (plan : Plan) : Type 0 where
       ≡ (if is_same_port port q && is_same (received_in port unit) s then accepted_keys unit.draw (port_keys h q s)
       else port_keys h q s)
   pub keyed : (h : History) (e : Event) (v : Verdict) → CauseLaw plan ((e, v) ∷ h) → (port : PortName) (s : SubStream)
-      → operates e s.line s.stream ≡ false
-      → is_keyed ((e, v) ∷ h) port s ≡ is_keyed h port s
+      → operates e s.line s.stream ≡ false → is_keyed ((e, v) ∷ h) port s ≡ is_keyed h port s
   pub base_same : (h : History) (e : Event) (v : Verdict) → CauseLaw plan ((e, v) ∷ h) → (line stream : ℕ)
-      → operates e line stream ≡ false
-      → base ((e, v) ∷ h) line stream ≡ base h line stream
+      → operates e line stream ≡ false → base ((e, v) ∷ h) line stream ≡ base h line stream
   -- draws that are On are from Base on, and those of the two sets differ
   pub from_base : (h : History) → CauseLaw plan h → (port : PortName) (s : SubStream) (k : Bool) (j : ℕ)
-      → key_in (port_keys h port s) k ≡ On j
-      → nat_le (base h s.line s.stream) j ≡ true
+      → key_in (port_keys h port s) k ≡ On j → nat_le (base h s.line s.stream) j ≡ true
   pub apart : (h : History) → CauseLaw plan h → (port : PortName) (s : SubStream) (i j : ℕ)
-      → (port_keys h port s).first ≡ On i → (port_keys h port s).second ≡ On j
-      → (i == j) ≡ false
+      → (port_keys h port s).first ≡ On i → (port_keys h port s).second ≡ On j → (i == j) ≡ false
   -- a draw that waits has sealed nothing
   pub unused : (h : History) → CauseLaw plan h → (port : PortName) (stream : ℕ) (u : SubKind) (k : Bool) (j : ℕ)
       → let s = lane_out port stream u in
@@ -89,11 +85,9 @@ NoneFrom plan h line stream from =
 pub record DrawFacts (plan : Plan) : Type 0 where
   -- draws that are On are from Base on, and those of the two sets differ
   pub from_base : (h : History) → CauseLaw plan h → (port : PortName) (s : SubStream) (k : Bool) (j : ℕ)
-      → key_in (port_keys h port s) k ≡ On j
-      → nat_le (base h s.line s.stream) j ≡ true
+      → key_in (port_keys h port s) k ≡ On j → nat_le (base h s.line s.stream) j ≡ true
   pub apart : (h : History) → CauseLaw plan h → (port : PortName) (s : SubStream) (i j : ℕ)
-      → (port_keys h port s).first ≡ On i → (port_keys h port s).second ≡ On j
-      → (i == j) ≡ false
+      → (port_keys h port s).first ≡ On i → (port_keys h port s).second ≡ On j → (i == j) ≡ false
   -- a key that becomes Live at a sender has sealed nothing
   pub fresh : (h : History) (e : Event) (v : Verdict) → CauseLaw plan ((e, v) ∷ h)
       → (port : PortName) (stream : ℕ) (u : SubKind) (key : KeyName) → let s = lane_out port stream u in
@@ -105,8 +99,7 @@ pub record DrawFacts (plan : Plan) : Type 0 where
       (base ((e, v) ∷ h) line stream)
   -- a draw is On only if the plan has the stream
   pub known : (h : History) → CauseLaw plan h → (port : PortName) (s : SubStream) (k : Bool) (j : ℕ)
-      → key_in (port_keys h port s) k ≡ On j
-      → is_some (stream_plan plan s.line s.stream) ≡ true
+      → key_in (port_keys h port s) k ≡ On j → is_some (stream_plan plan s.line s.stream) ≡ true
   -- a draw belongs to one key set: wherever it is On in a sub-stream, it is in the set that its packets name
   pub own_set : (h : History) → CauseLaw plan h → (i : ℕ) (x : SealedPacket × Packet)
       → slice_get (sealed_packets plan h) i ≡ Some x

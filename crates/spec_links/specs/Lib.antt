@@ -37,7 +37,7 @@ pub use Rattle.spec_links.specs.Delivered.{DeliveryLaw, tlps_sent, tlps_got}
 pub use Rattle.spec_links.specs.Ordered.{OrderLaw}
 pub use Rattle.spec_links.specs.Numbers.{NumbersFresh}
 pub use Rattle.spec_links.specs.Hops.{HopTlp, has_hop, first_end, entering_end, leaving_end, last_end}
-unfoldable pub use Rattle.spec_links.specs.Hops.{accepted_tlps_in, forwarded_count}
+unfoldable pub use Rattle.spec_links.specs.Hops.{accepted_tlps_in_list, forwarded_count}
 unfoldable pub use Rattle.spec_links.specs.HopLaws.{tlps_since_reset, draws_since}
 pub use Rattle.spec_links.specs.HopLaws.{OneDraw, HopLaw, ThroughLaw}
 pub use Rattle.spec_interfaces.specs.Cause.{owner_id}

@@ -11,7 +11,7 @@ pub use Rattle.spec_links.specs.Admission.{Grants, Policy, requester_bound, unit
 pub use Rattle.spec_links.specs.Admission.{effect_by, waiting_then, effects_each, effects_under_policy, payload_write}
 pub use Rattle.spec_links.specs.Admission.{write_if_admitted, admitted_each, plain_of, admitted_writes}
 use Rattle.spec_links.specs.Sent.{queued_in, reads_taken}
-use Rattle.spec_links.specs.Hops.{HopTlp, entering_end, accepted_tlps_in, forwarded_count}
+use Rattle.spec_links.specs.Hops.{HopTlp, entering_end, accepted_tlps_in_list, forwarded_count}
 use Rattle.ide_types.specs.declared.direction.Direction.{Direction}
 use Rattle.event_verdicts.specs.declared.verdict.Verdict.TheVariants as v
 use Rattle.script_events.specs.declared.event.InterfaceEvent.TheVariants as ie
@@ -31,7 +31,7 @@ waiting_reads plan h link = drop (reads_taken h link) (queued_reads plan h link)
 
 -- those that were accepted at an end since the last reset of the link's hop, in order
 abbrev pub accepted_tlps : Plan → History → ℕ → PortName → List HopTlp
-accepted_tlps plan h link end = accepted_tlps_in plan (sealed_packets plan h) h link end
+accepted_tlps plan h link end = accepted_tlps_in_list plan (sealed_packets plan h) h link end
 
 -- those that wait at its switch in a direction
 abbrev pub hop_waiting : Plan → History → ℕ → Direction → List HopTlp

@@ -32,7 +32,6 @@ pub record NumbersFresh (plan : Plan) (h : History) : Type 0 where
       → slice_get (sealed_of_draw plan h s j) place ≡ Some x
       → x.0.unit ≡ length (units (take place (sent_packets plan h s j))) + 1
   -- two packets under one key with one IV are of one unit
-  pub fresh : (i k : ℕ) (x y : SealedPacket × Packet) → i < k
-      → slice_get (sealed_packets plan h) i ≡ Some x → slice_get (sealed_packets plan h) k ≡ Some y
-      → key_used plan x.0 ≡ key_used plan y.0 → iv_used x.0 ≡ iv_used y.0
+  pub fresh : (i k : ℕ) (x y : SealedPacket × Packet) → i < k → slice_get (sealed_packets plan h) i ≡ Some x
+      → slice_get (sealed_packets plan h) k ≡ Some y → key_used plan x.0 ≡ key_used plan y.0 → iv_used x.0 ≡ iv_used y.0
       → AreOfOneUnit (sealed_packets plan h) i k x.0 y.0

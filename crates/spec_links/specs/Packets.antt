@@ -52,8 +52,7 @@ arrived_in plan xs (Pass n) =
     option_map (λ (x : SealedPacket × Packet). arrival_at_partner plan x (packet_bytes x.1)) (packet_by_number xs n)
 arrived_in plan xs (Alter n at mask) = option_and_then (altered_arrival plan at mask) (packet_by_number xs n)
 arrived_in plan xs (Cut n len) = option_and_then (shortened_arrival plan len) (packet_by_number xs n)
-arrived_in plan xs (Arrive port bytes) =
-    if has_port plan port then Some (arrival_at plan port bytes) else None
+arrived_in plan xs (Arrive port bytes) = if has_port plan port then Some (arrival_at plan port bytes) else None
 arrived_in plan xs _ = None
 
 abbrev pub no_packet : Packet

@@ -22,12 +22,12 @@ use Rattle.spec_links.specs.Plan.{SubStream}
 -- ---- writes
 
 -- the writes of accepted units that are admitted, the newest first
-unfoldable pub writes_in : Plan → SealedList → History → List Write
-writes_in plan xs [] = []
-writes_in plan xs ((e, Accepted port unit effects) ∷ h) =
+unfoldable pub writes_in_list : Plan → SealedList → History → List Write
+writes_in_list plan xs [] = []
+writes_in_list plan xs ((e, Accepted port unit effects) ∷ h) =
     newest_first (admitted_writes plan (grant_at plan h) port unit (unit_accepted plan xs h e port unit))
-    (writes_in plan xs h)
-writes_in plan xs (_ ∷ h) = writes_in plan xs h
+    (writes_in_list plan xs h)
+writes_in_list plan xs (_ ∷ h) = writes_in_list plan xs h
 
 -- ---- reads
 
@@ -79,7 +79,7 @@ oldest_in plan xs h link = slice_get (queued_in plan xs h link) (reads_taken h l
 -- its completion, from memory as it is now
 abbrev pub oldest_completion : Plan → SealedList → History → ℕ → List ℕ
 oldest_completion plan xs h link =
-    option_map_or (λ (r : WaitingRead). completion_bytes (byte_last_written (writes_in plan xs h)) r.read)
+    option_map_or (λ (r : WaitingRead). completion_bytes (byte_last_written (writes_in_list plan xs h)) r.read)
     (oldest_in plan xs h link) []
 
 unfoldable pub bytes_by : Plan → SealedList → History → Event → List ℕ

@@ -12,9 +12,8 @@ use Rattle.ide_types.specs.declared.sub.FailCause.TheVariants as fail
 use Rattle.ide_prefix.specs.Packet.{Packet}
 use Rattle.spec_stream.specs.Stream.{LaneSlot, Empty, Programmed, Armed, Live, LiveKey, RxSub, Three, StreamState}
 use Rattle.spec_stream.specs.Stream.{at_sub, slot_in_set, live_in, PacketOutcome, Insecure, NotKeyed, Failed, Held}
-use Rattle.spec_stream.specs.Stream.{Accepted}
-use Rattle.spec_stream.specs.Stream.{holds_any, posted_sum, is_tagged, outcome_of_checks, slot_without_packets}
-use Rattle.spec_stream.specs.Stream.{dropped_held, stream_outcome_by_keys, state_after}
+use Rattle.spec_stream.specs.Stream.{Accepted, holds_any, posted_sum, is_tagged, outcome_of_checks}
+use Rattle.spec_stream.specs.Stream.{slot_without_packets, dropped_held, stream_outcome_by_keys, state_after}
 use Rattle.sub_stream.specs.{answer_taken, opened_unit}
 use Rattle.sub_stream.specs.declared.answer.Taken.{Taken as Answer}
 use Rattle.sub_stream.specs.declared.answer.Taken.TheVariants as answers
@@ -154,8 +153,7 @@ aggregation_of true old p t = refl
 aggregation_of false old p t = refl
 
 closed_of : (b : Bool) (old : ReceiveEnd) (p : Packet) (t : PacketOutcome)
-    → (if b then end_after old p t else old).closed
-    ≡ old.closed
+    → (if b then end_after old p t else old).closed ≡ old.closed
 closed_of true old p t = refl
 closed_of false old p t = refl
 
@@ -305,8 +303,7 @@ got_more rx p (Held j n) = omega arith
 got_more rx p (Accepted j n unit) = omega arith
 
 sum_within : (e : ReceiveEnd) (got : ℕ) (p : Packet) (t : PacketOutcome) → (sub_bits e.sub == 0) ≡ false
-    → e.kept.sum ≤ got
-    → Orderly e got t → (kept_sub_after e.kept p t).sum ≤ got
+    → e.kept.sum ≤ got → Orderly e got t → (kept_sub_after e.kept p t).sum ≤ got
 sum_within e got p Insecure other le o = le
 sum_within e got p NotKeyed other le o = le
 sum_within e got p (Failed cause) other le o = le
@@ -317,9 +314,8 @@ sum_within e got p (Accepted j n unit) other le o =
 
 -- the order of a sub-stream, whatever the packet's
 order_kept : (u w : SubKind) (p : Packet) (t : PacketOutcome) (pr e : ReceiveEnd) → (u ≡ w → Orderly e pr.kept.got t)
-    → e.sub
-    ≡ w → (sub_bits w == 0) ≡ false
-    → e.kept.sum ≤ pr.kept.got → (kept_in u w e.kept p t).sum ≤ (kept_in u Pr pr.kept p t).got
+    → e.sub ≡ w → (sub_bits w == 0) ≡ false → e.kept.sum ≤ pr.kept.got
+    → (kept_in u w e.kept p t).sum ≤ (kept_in u Pr pr.kept p t).got
 order_kept Pr Pr p t pr e o is other le = absurd (cc)
 order_kept Npr Pr p t pr e o is other le = absurd (cc)
 order_kept Cpl Pr p t pr e o is other le = absurd (cc)

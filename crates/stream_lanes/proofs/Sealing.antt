@@ -102,11 +102,9 @@ go-moved k (Live x) other e = (inl refl, e)
 
 pub gone-kept : (k : Bool) (tx : Sender) (closed : Bool) (posted total : ℕ)
     → IsSendLane tx closed posted total → IsSendLane (gone_sender tx k) closed posted total
-gone-kept true tx closed posted total inv =
-    moved-kept tx closed posted total (gone_slots tx.slots true) inv
+gone-kept true tx closed posted total inv = moved-kept tx closed posted total (gone_slots tx.slots true) inv
     (go-moved true tx.slots.second tx.slots.first inv.one_live)
-gone-kept false tx closed posted total inv =
-    moved-kept tx closed posted total (gone_slots tx.slots false) inv
+gone-kept false tx closed posted total inv = moved-kept tx closed posted total (gone_slots tx.slots false) inv
     (go-moved false tx.slots.first tx.slots.second inv.one_live)
 
 -- a key that is put in if the slot is not Live

@@ -16,8 +16,9 @@ use Rattle.spec_stream.specs.Stream.{at_sub, each_sub, live_sender, packet_under
 use Rattle.sub_stream.specs.declared.answer.MeasuredPacket.{MeasuredPacket}
 use Rattle.stream_lanes.specs.Sends.{numbered_from, joined_packets, packet_lengths, IsSealed}
 use Rattle.stream_lanes.specs.declared.fixed.Fixed.{Fixed}
-use Rattle.stream_lanes.specs.Lanes.{SendEnd, SendEnds, send_end_at, sealing_lanes, tlp_said, sync_said, packet_said_at}
-use Rattle.stream_lanes.specs.Lanes.{sealed_ends, measured_packet, ends_after_sync, sync_packets, sync_bytes}
+use Rattle.stream_lanes.specs.Lanes.{SendEnd, SendEnds, send_end_at, sealing_lanes, tlp_said, sync_said}
+use Rattle.stream_lanes.specs.Lanes.{packet_said_at_ends, sealed_ends, measured_packet, ends_after_sync, sync_packets}
+use Rattle.stream_lanes.specs.Lanes.{sync_bytes}
 use Rattle.stream_lanes.proofs.Sealing.{sync-same}
 
 -- ---- what a sync packet leaves
@@ -49,7 +50,7 @@ renumbered ahead (Some x) d number port head payload = refl
 
 -- a sync packet as the senders seal it is that of the rules
 sync_packet : (x : SendEnds) (d : Described) (number : ℕ) (port : PortName) (head payload : List ℕ) → d.sync ≡ true
-    → packet_said_at x [] [] d ≡
+    → packet_said_at_ends x [] [] d ≡
     (sealed_one x.fixed.closed head payload (record d { number = number; port = port }) x.tx).0
 sync_packet x d number port head payload e =
     sync-same (total_ahead x.fixed.closed d.unit (at_sub x.tx d.sub).total) (live_sender (at_sub x.tx d.sub).slots) d []
@@ -58,11 +59,10 @@ sync_packet x d number port head payload e =
     number port head payload
 
 tlp_packet : (x : SendEnds) (d : Described) (number : ℕ) (port : PortName) (head payload : List ℕ)
-    → packet_said_at x head payload d ≡
+    → packet_said_at_ends x head payload d ≡
     (sealed_one x.fixed.closed head payload (record d { number = number; port = port }) x.tx).0
-tlp_packet x d number port head payload =
-    renumbered (total_ahead x.fixed.closed d.unit (at_sub x.tx d.sub).total) (live_sender (at_sub x.tx d.sub).slots) d
-    number port head payload
+tlp_packet x d number port head payload = renumbered (total_ahead x.fixed.closed d.unit (at_sub x.tx d.sub).total)
+    (live_sender (at_sub x.tx d.sub).slots) d number port head payload
 
 -- the senders after the TLP's packet
 after_packet : (x : SendEnds) (d : Described) (p q : Packet) → p ≡ q
@@ -78,12 +78,12 @@ abbrev pub all_said : SendEnds → SubKind → Bool → Bool → List ℕ → Li
 all_said x sub b c head payload more t =
     (([] ++ sync_packets b Npr x) ++ sync_packets c Cpl (ends_after_sync b Npr x))
     ++ measured_packet (tlp_said (send_end_at (last_ends x b c) sub) more t)
-    (packet_said_at (last_ends x b c) head payload (tlp_said (send_end_at (last_ends x b c) sub) more t)) ∷ []
+    (packet_said_at_ends (last_ends x b c) head payload (tlp_said (send_end_at (last_ends x b c) sub) more t)) ∷ []
 
 abbrev pub all_bytes : SendEnds → SubKind → Bool → Bool → List ℕ → List ℕ → Bool → Bool → List ℕ → List ℕ
 all_bytes x sub b c head payload more t before =
     ((before ++ sync_bytes b Npr x) ++ sync_bytes c Cpl (ends_after_sync b Npr x))
-    ++ packet_bytes (packet_said_at (last_ends x b c) head payload
+    ++ packet_bytes (packet_said_at_ends (last_ends x b c) head payload
     (tlp_said (send_end_at (last_ends x b c) sub) more t))
 
 abbrev pub all_ends : SendEnds → SubKind → Bool → Bool → List ℕ → List ℕ → Bool → Bool → SendEnds
@@ -140,7 +140,7 @@ runs_alone x head payload port class more trusted number before =
     record {
       answered = λ i. record d { number = n i; port = port } ∷ [];
       lengths = λ i. length (packet_bytes (e i)) ∷ [];
-      bytes = one_more before (packet_bytes (packet_said_at x head payload d)) ∙
+      bytes = one_more before (packet_bytes (packet_said_at_ends x head payload d)) ∙
           (λ i. before ++ (packet_bytes (e i) ++ []));
       senders = after_packet x d _ _ e;
     }
@@ -163,7 +163,8 @@ runs_posted true false x head payload port more trusted number before =
       answered = λ i. record d1 { number = number; port = port } ∷ record d { number = n i; port = port } ∷ [];
       lengths = λ i. length (packet_bytes (e1 i)) ∷ length (packet_bytes (e i)) ∷ [];
       bytes =
-          two_more before (packet_bytes (packet_said_at x [] [] d1)) (packet_bytes (packet_said_at x1 head payload d))
+          two_more before (packet_bytes (packet_said_at_ends x [] [] d1))
+          (packet_bytes (packet_said_at_ends x1 head payload d))
           ∙ (λ i. before ++ (packet_bytes (e1 i) ++ (packet_bytes (e i) ++ [])));
       senders = after_packet x1 d _ _ e;
     }
@@ -179,7 +180,8 @@ runs_posted false true x head payload port more trusted number before =
       answered = λ i. record d1 { number = m i; port = port } ∷ record d { number = n i; port = port } ∷ [];
       lengths = λ i. length (packet_bytes (e1 i)) ∷ length (packet_bytes (e i)) ∷ [];
       bytes =
-          two_behind before (packet_bytes (packet_said_at x [] [] d1)) (packet_bytes (packet_said_at x1 head payload d))
+          two_behind before (packet_bytes (packet_said_at_ends x [] [] d1))
+          (packet_bytes (packet_said_at_ends x1 head payload d))
           ∙ (λ i. before ++ (packet_bytes (e1 i) ++ (packet_bytes (e i) ++ [])));
       senders = after_packet x1 d _ _ e;
     }
@@ -196,8 +198,9 @@ runs_posted true true x head payload port more trusted number before =
       answered = refl;
       lengths = λ i. length (packet_bytes (e1 i)) ∷ length (packet_bytes (e2 i)) ∷ length (packet_bytes (e i)) ∷ [];
       bytes =
-          three_more before (packet_bytes (packet_said_at x [] [] d1)) (packet_bytes (packet_said_at x1 [] [] d2))
-          (packet_bytes (packet_said_at x2 head payload d))
+          three_more before (packet_bytes (packet_said_at_ends x [] [] d1))
+          (packet_bytes (packet_said_at_ends x1 [] [] d2))
+          (packet_bytes (packet_said_at_ends x2 head payload d))
           ∙ (λ i. before ++ (packet_bytes (e1 i) ++ (packet_bytes (e2 i) ++ (packet_bytes (e i) ++ []))));
       senders = after_packet x2 d _ _ e;
     }

@@ -18,8 +18,7 @@ use Rattle.ide_prefix.specs.Packet.{Packet}
 use Rattle.spec_stream.specs.Sending.{is_posted, total_ahead}
 use Rattle.spec_stream.specs.Stream.{LaneSlot, Empty, Programmed, Armed, Live, LiveKey, LaneSlots, slot_in_set}
 use Rattle.spec_stream.specs.Stream.{with_slot, live_in, PacketOutcome, Insecure, NotKeyed, Failed, Held, Accepted}
-use Rattle.spec_stream.specs.Stream.{holds_any}
-use Rattle.spec_stream.specs.Stream.{posted_sum, is_tagged, outcome_of_checks, slot_without_packets, gone_on}
+use Rattle.spec_stream.specs.Stream.{holds_any, posted_sum, is_tagged, outcome_of_checks, slot_without_packets, gone_on}
 use Rattle.spec_stream.specs.Stream.{counted_unit, slot_unless_older, accepted_slots}
 use Rattle.key_slots.specs.{is_only_live}
 use Rattle.sub_stream.specs.{Receiver, answer_taken, opened_from_byte, opened_unit, key_for, receiver_ahead, unit_ahead}
@@ -122,8 +121,7 @@ taken_slots rx sub closed sum own total got allowed lent p mine other small held
 
     by_slot : (s : LaneSlot) → HoldsRight rx.ahead rx.aggregation closed total s
         → receiver_outcome_by_keys rx allowed lent p (live_in s) other
-        ≡ lane_outcome_by_keys (view rx sub closed sum own total) got p
-        (live_in s) other
+        ≡ lane_outcome_by_keys (view rx sub closed sum own total) got p (live_in s) other
     by_slot Empty held = by_none other
     by_slot (Programmed j key) held = by_none other
     by_slot (Armed j key) held = by_none other

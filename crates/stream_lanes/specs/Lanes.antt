@@ -124,8 +124,8 @@ sealing_lanes x = record {
   lane = λ u. lane_of (at_sub x.tx u).posted (live_sender (at_sub x.tx u).slots);
 }
 
-abbrev pub packet_said_at : SendEnds → List ℕ → List ℕ → Described → Packet
-packet_said_at x head payload d = (sealed_one x.fixed.closed head payload d x.tx).0
+abbrev pub packet_said_at_ends : SendEnds → List ℕ → List ℕ → Described → Packet
+packet_said_at_ends x head payload d = (sealed_one x.fixed.closed head payload d x.tx).0
 
 abbrev pub sealed_ends : SendEnds → List ℕ → List ℕ → Described → SendEnds
 sealed_ends x head payload d = record x { tx = (sealed_one x.fixed.closed head payload d x.tx).1 }
@@ -202,8 +202,9 @@ ends_after_sync needed u x = if needed then sealed_ends x [] [] (sync_said (send
 
 abbrev pub sync_packets : Bool → SubKind → SendEnds → List MeasuredPacket
 sync_packets needed u x =
-    if needed then measured_packet (sync_said (send_end_at x u)) (packet_said_at x [] [] (sync_said (send_end_at x u)))
+    if needed then measured_packet (sync_said (send_end_at x u))
+    (packet_said_at_ends x [] [] (sync_said (send_end_at x u)))
     ∷ [] else []
 
 abbrev pub sync_bytes : Bool → SubKind → SendEnds → List ℕ
-sync_bytes needed u x = if needed then packet_bytes (packet_said_at x [] [] (sync_said (send_end_at x u))) else []
+sync_bytes needed u x = if needed then packet_bytes (packet_said_at_ends x [] [] (sync_said (send_end_at x u))) else []

@@ -277,7 +277,7 @@ fn pick<'a>(
 }
 
 // Takes a packet in its sub-stream.
-fn take_in(
+fn take_in_lane(
     packet: &PacketView,
     pr: &mut ReceiveLane,
     npr: &mut ReceiveLane,
@@ -387,7 +387,7 @@ impl ReceiveLanes {
             (lanes_outcome self.old (packet_of_view packet.now)) }
     {
         let sub = packet.prefix.sub;
-        let taken = take_in(packet, &mut self.pr, &mut self.npr, &mut self.cpl);
+        let taken = take_in_lane(packet, &mut self.pr, &mut self.npr, &mut self.cpl);
         drop_failed(&taken, &mut self.pr);
         drop_failed(&taken, &mut self.npr);
         drop_failed(&taken, &mut self.cpl);

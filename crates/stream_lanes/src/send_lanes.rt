@@ -16,7 +16,8 @@ ghost use Rattle.sub_stream.specs.{slot_pair};
 ghost use Rattle.sub_stream.specs.Facts.{sender_facts};
 ghost use Rattle.stream_lanes.specs.Sends.{IsSealed, IsSealedOrRefused, IsKeyOrRefused, AreSendKeysOrRefused};
 ghost use Rattle.stream_lanes.specs.Lanes.{new_send_ends, send_end_at, sealing_lanes, sealing_lane, ready_end};
-ghost use Rattle.stream_lanes.specs.Lanes.{tlp_said, packet_said_at, sealed_ends, measured_packet, open_in, any_out};
+ghost use Rattle.stream_lanes.specs.Lanes.{tlp_said, packet_said_at_ends, sealed_ends, measured_packet, open_in};
+ghost use Rattle.stream_lanes.specs.Lanes.{any_out};
 ghost use Rattle.stream_lanes.specs.Lanes.{all_out, settled_senders, called_ends, ends_after_sync, sync_packets};
 ghost use Rattle.stream_lanes.specs.Lanes.{sync_bytes, new_send_end, sync_said, packet_said, sealed_end, posted_end};
 ghost use Rattle.stream_lanes.specs.Lanes.{forgotten_end, called_send_end, KeepsUnit, SealedAtMost, IsSyncKey};
@@ -486,10 +487,10 @@ impl SendLanes {
         requires payload_short { length payload.now ≤ 4096 }
         requires room { vec_len out.old + PACKET_ROOM ≤ vec_capacity out.old }
         ensures answer { let d = tlp_said (send_end_at self.old Pr) more t in
-            result ≡ measured_packet d (packet_said_at self.old head.now payload.now d) }
+            result ≡ measured_packet d (packet_said_at_ends self.old head.now payload.now d) }
         ensures lanes { let d = tlp_said (send_end_at self.old Pr) more t in
             self.new ≡ sealed_ends self.old head.now payload.now d }
-        ensures bytes { out.new.items ≡ out.old.items ++ packet_bytes (packet_said_at self.old head.now payload.now
+        ensures bytes { out.new.items ≡ out.old.items ++ packet_bytes (packet_said_at_ends self.old head.now payload.now
             (tlp_said (send_end_at self.old Pr) more t)) }
         ensures capacity { vec_capacity out.old ≤ vec_capacity out.new }
     {
@@ -520,10 +521,10 @@ impl SendLanes {
         requires payload_short { length payload.now ≤ 4096 }
         requires room { vec_len out.old + PACKET_ROOM ≤ vec_capacity out.old }
         ensures answer { let d = tlp_said (send_end_at self.old sub) more t in
-            result ≡ measured_packet d (packet_said_at self.old head.now payload.now d) }
+            result ≡ measured_packet d (packet_said_at_ends self.old head.now payload.now d) }
         ensures lanes { self.new ≡ sealed_ends self.old head.now payload.now
             (tlp_said (send_end_at self.old sub) more t) }
-        ensures bytes { out.new.items ≡ out.old.items ++ packet_bytes (packet_said_at self.old head.now payload.now
+        ensures bytes { out.new.items ≡ out.old.items ++ packet_bytes (packet_said_at_ends self.old head.now payload.now
             (tlp_said (send_end_at self.old sub) more t)) }
         ensures capacity { vec_capacity out.old ≤ vec_capacity out.new }
     {

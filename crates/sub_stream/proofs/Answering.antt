@@ -363,8 +363,7 @@ view-answered stream sub aggregation u0 u1 pair h unit new total p held a t is a
           aggregation = aggregation;
           ahead = ahead i;
           slots = slots i;
-          delivered =
-              held-lent k new.packets i;
+          delivered = held-lent k new.packets i;
         })
     by_taken (Accepted draw n packets) j e b =
         let same : a ≡ answers.Accepted draw n (length packets) = cc in

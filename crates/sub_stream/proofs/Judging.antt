@@ -26,9 +26,8 @@ bodies-packet_without_tag (q ∷ ps) p = ap (λ x. q.body ++ x) (bodies-packet_w
 
 pub posted-packet_without_tag : (ps : List Packet) (p : Packet) → posted_sum (ps ++ packet_without_tag p ∷ [])
     ≡ posted_sum (ps ++ p ∷ [])
-posted-packet_without_tag ps p =
-    sum_by-append (λ (x : Packet). x.prefix.posted) ps (packet_without_tag p ∷ []) ∙ sym
-    (sum_by-append (λ (x : Packet). x.prefix.posted) ps (p ∷ []))
+posted-packet_without_tag ps p = sum_by-append (λ (x : Packet). x.prefix.posted) ps (packet_without_tag p ∷ [])
+    ∙ sym (sum_by-append (λ (x : Packet). x.prefix.posted) ps (p ∷ []))
 
 opened_from_byte-packet_without_tag : (key iv : List ℕ) (n : ℕ) (ps : List Packet) (p : Packet)
     → opened_from_byte key iv n (ps ++ packet_without_tag p ∷ []) ≡ opened_from_byte key iv n (ps ++ p ∷ [])
@@ -63,9 +62,8 @@ tag-seen ahead x p iv clear bodies b is_iv is_clear is_bodies is =
 
 pub judged-tag : (ahead : List ℕ) (allowed : ℕ) (x : LiveKey) (p : Packet) → p.prefix.m ≡ true
     → is_tagged_behind ahead x p ≡ false → judged_packet ahead allowed x p ≡ Failed fail.Tag
-judged-tag ahead allowed x p m tag =
-    λ i. if m i then outcome_of_checks (tag i) (nat_le (posted_sum (x.packets ++ p ∷ [])) allowed) x p else Held x.draw
-    (x.units + 1)
+judged-tag ahead allowed x p m tag = λ i. if m i then outcome_of_checks (tag i)
+    (nat_le (posted_sum (x.packets ++ p ∷ [])) allowed) x p else Held x.draw (x.units + 1)
 
 pub judged-order : (ahead : List ℕ) (allowed : ℕ) (x : LiveKey) (p : Packet) → p.prefix.m ≡ true
     → is_tagged_behind ahead x p ≡ true

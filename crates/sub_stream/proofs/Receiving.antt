@@ -33,8 +33,7 @@ live_seen (Live held) units ps = refl
 
 pub key_seen : (k : Bool) (pair : SlotPair) (u0 u1 : ℕ) (h : Holds) (ps : List Packet)
     → live_in (seen_slot (receiver_slots_seen pair u0 u1 h ps) k)
-    ≡ option_map (live_key_seen (units_of k u0 u1) (held_of k h ps))
-    (live_held (slot_in pair k))
+    ≡ option_map (live_key_seen (units_of k u0 u1) (held_of k h ps)) (live_held (slot_in pair k))
 key_seen true pair u0 u1 h ps = live_seen pair.one u1 (held_one h ps)
 key_seen false pair u0 u1 h ps = live_seen pair.zero u0 (held_zero h ps)
 

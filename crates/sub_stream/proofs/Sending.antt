@@ -78,6 +78,5 @@ goes true pair units ps s h =
     subst (λ (p : SlotPair). Goes true p units ps) (sym (as_sender pair s))
     (goes_both true pair.one pair.zero units ps
     (λ no. none_open ps (h (or_comm (is_live pair.zero) (is_live pair.one) ∙ no))))
-goes false pair units ps s h =
-    subst (λ (p : SlotPair). Goes false p units ps) (sym (as_sender pair s))
+goes false pair units ps s h = subst (λ (p : SlotPair). Goes false p units ps) (sym (as_sender pair s))
     (goes_both false pair.zero pair.one units ps (λ no. none_open ps (h no)))

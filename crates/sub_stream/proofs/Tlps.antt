@@ -35,8 +35,7 @@ tlp_at : (ps : List Packet) (tlps : List (Option HeadView)) (i : ℕ) (p : Packe
     → AllHaveTlp ps tlps → slice_get ps i ≡ Some p → HasTlp p (get_or tlps i d)
 tlp_at [] tlps i p d has at = absurd (cc)
 tlp_at (q ∷ ps) [] i p d has at = absurd has
-tlp_at (q ∷ ps) (o ∷ tlps) zero p d has at =
-    subst (λ (x : Packet). HasTlp x o) (same_Some q p at) has.0
+tlp_at (q ∷ ps) (o ∷ tlps) zero p d has at = subst (λ (x : Packet). HasTlp x o) (same_Some q p at) has.0
 tlp_at (q ∷ ps) (o ∷ tlps) (suc i) p d has at = tlp_at ps tlps i p d has.1 at
 
 fewer : (ps : List Packet) (tlps : List (Option HeadView)) → AllHaveTlp ps tlps → length ps ≤ length tlps

@@ -10,8 +10,7 @@ use Rattle.ide_prefix.specs.Packet.{Packet}
 use Rattle.ide_prefix.specs.Iv.{iv_of}
 use Rattle.ide_prefix.specs.Units.{authenticated_bytes, encrypted_bytes, packet_without_tag}
 use Rattle.spec_stream.specs.Stream.{LaneSlot, Empty, Programmed, Live, LaneSlots, LiveKey, PacketOutcome, NotKeyed}
-use Rattle.spec_stream.specs.Stream.{Failed}
-use Rattle.spec_stream.specs.Stream.{Held, Accepted, slot_in_set, with_slot, live_in, holds_any, posted_sum}
+use Rattle.spec_stream.specs.Stream.{Failed, Held, Accepted, slot_in_set, with_slot, live_in, holds_any, posted_sum}
 use Rattle.spec_stream.specs.Stream.{outcome_of_checks, slot_without_packets, gone_on, accepted_slots}
 use Rattle.spec_stream.specs.Slots.{begun_slot, no_slots}
 use Rattle.key_slots.specs.{SlotPair, DrawnKey, slot_in as key_slot_in, with_both, live_draw, is_only_live}

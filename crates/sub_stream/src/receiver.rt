@@ -245,7 +245,15 @@ impl Rx {
             Ok((cipher, draw)) => {
                 let units = units_in(k, self.zero, self.one);
                 keep_held(&mut self.unit, self.holds);
-                let taken = take_under(cipher, draw, units, packet, allowed, total, &mut self.unit);
+                let taken = take_under_key(
+                    cipher,
+                    draw,
+                    units,
+                    packet,
+                    allowed,
+                    total,
+                    &mut self.unit,
+                );
                 count_accepted(&taken, k, &mut self.slots, &mut self.zero, &mut self.one);
                 self.holds = Holds::after(k, &taken);
                 taken
@@ -369,7 +377,7 @@ fn is_tagged(cipher: &Gcm, iv: &[u8; 12], unit: &ReceivedPackets, tag: Option<&[
 
 // Answers a packet under the key, for which the unit has room. Then the packet is with the held ones, or the unit is
 // decrypted.
-fn take_under(
+fn take_under_key(
     cipher: &Gcm,
     draw: u32,
     units: u64,

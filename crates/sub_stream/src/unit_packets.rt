@@ -54,7 +54,7 @@ fn mask_bodies(buf: &mut UnitBuf, cipher: &Gcm, iv: &[u8; 12])
     cipher.mask(iv, 0, buf.body_mut());
 }
 
-fn posted_in(prefix: Prefix) -> u64
+fn posted_in_prefix(prefix: Prefix) -> u64
     ensures value { result ≡ prefix.posted }
     ensures small { result ≤ 255 }
 {
@@ -143,7 +143,7 @@ impl UnitPackets {
     {
         let i = self.buf.count();
         self.prefixes[i] = *prefix;
-        self.posted += posted_in(*prefix);
+        self.posted += posted_in_prefix(*prefix);
         let _ = self.buf.add(&write_prefix(prefix), head, body);
     }
 

@@ -10,8 +10,8 @@ use Rattle.byteorder.specs.Endian.{little_bytes}
 use Rattle.byteorder.specs.Numbers.{little_number-reads_back}
 use Rattle.ide_types.proofs.Cells.{IsBytes, cells}
 use Rattle.tdisp_codec.specs.declared.fault.TdispFault.TheVariants.{Version, Kind}
-use Rattle.tdisp_codec.specs.Messages.{Ignored, message_bytes, SpellsMessage, type_in, function_field, body_in}
-use Rattle.tdisp_codec.specs.Messages.{message_fault, message_fault_at}
+use Rattle.tdisp_codec.specs.Messages.{IsIgnored, message_bytes, SpellsMessage, type_in, function_field, body_in}
+use Rattle.tdisp_codec.specs.Messages.{message_fault, message_fault_at_place}
 use Rattle.tdisp_codec.proofs.Octets.{no_bytes, AreOctets, are_bytes, octets, joins, leads, drop_split_cells}
 use Rattle.tdisp_codec.proofs.Octets.{list_cells, number_4, below_4, drop_octets, four_bytes, ignored_bytes}
 use Rattle.tdisp_codec.proofs.Shapes.{IsSized, IsShaped, Judged, judged_at, judged_length, IsReader}
@@ -109,14 +109,14 @@ messages_sized known body_size k lt e says = record {
 
 -- by the tests of the reader, place by place, and then by the length
 messages_judged : (known : ℕ → Bool) (body_size : ℕ → List ℕ → ℕ) (s : List ℕ) → IsBytes s
-    → Judged (message_fits known) (message_size body_size) message_fault_at s
+    → Judged (message_fits known) (message_size body_size) message_fault_at_place s
     (message_fault (known (type_in s)) (message_size body_size s) s)
 messages_judged known body_size s octets =
-    let at = judged_at (message_fits known) (message_size body_size) message_fault_at s in
+    let at = judged_at (message_fits known) (message_size body_size) message_fault_at_place s in
     at 0 (Kind 0) _ (omega arith) (omega arith) (λ i lt. absurd (omega arith)) refl (λ more one.
     at 1 (Version 1) _ (omega arith) (omega arith) one refl (λ more two.
     at 2 (Kind 2) _ (omega arith) (omega arith) two refl (λ more three.
-    judged_length (message_fits known) (message_size body_size) message_fault_at s octets
+    judged_length (message_fits known) (message_size body_size) message_fault_at_place s octets
     (λ i lt. elim (cases_lt i 3) [ inl less ↦ three i less | inr past ↦ past_three known i _ past ])
     (rw (eq-eqb (length s) (length s) refl) refl)
     (λ lt. rw (
@@ -145,7 +145,7 @@ pub record Messages (V : Type 0) : Type 1 where
 pub record IsSpelling {V : Type 0} (m : Messages V) (v : V) (s : List ℕ) : Type 0 where
   pub function : m.function_of v < 2 ^ 32
   pub fits : m.Fits v
-  pub reserved : Ignored (m.reserved_of v)
+  pub reserved : IsIgnored (m.reserved_of v)
   pub message : SpellsMessage (m.type_of v) (m.function_of v) (m.body_of v reserved.bytes) s
 
 -- the body of a value as it is written, and read again
@@ -158,7 +158,7 @@ pub record IsWritten {V : Type 0} (m : Messages V) (v : V) (body : List ℕ) : T
 -- a body is that of the value that is read from it
 pub record IsBack {V : Type 0} (m : Messages V) (type function : ℕ) (body : List ℕ) (v : V) : Type 0 where
   pub fits : m.Fits v
-  pub reserved : Ignored (m.reserved_of v)
+  pub reserved : IsIgnored (m.reserved_of v)
   pub type_is : type ≡ m.type_of v
   pub function_is : function ≡ m.function_of v
   pub body_is : body ≡ m.body_of v reserved.bytes
@@ -170,7 +170,7 @@ pub record IsCodec {V : Type 0} (m : Messages V) (Spells : V → List ℕ → Ty
   pub says : SaysItsSize m.body_size
   pub spelling : (v : V) (s : List ℕ) → Spells v s → IsSpelling m v s
   pub spells : (v : V) (s : List ℕ) → IsSpelling m v s → Spells v s
-  pub written : (v : V) (x : Ignored (m.reserved_of v)) → m.Fits v → IsWritten m v (m.body_of v x.bytes)
+  pub written : (v : V) (x : IsIgnored (m.reserved_of v)) → m.Fits v → IsWritten m v (m.body_of v x.bytes)
   pub back : (type function : ℕ) (b : List ℕ) → m.known type ≡ true → IsBytes b → length b ≡ m.body_size type b
       → IsBack m type function b (m.from type function b)
 
@@ -211,7 +211,7 @@ module _ {V : Type 0} {m : Messages V} {Spells : V → List ℕ → Type 0} (c :
       })
 
   pub message_reader : IsReader Spells (λ s. m.from (type_in s) (function_field s) (body_in s)) (message_fits m.known)
-      (message_size m.body_size) message_fault_at
+      (message_size m.body_size) message_fault_at_place
       (λ s. message_fault (m.known (type_in s)) (message_size m.body_size s) s)
   message_reader = record {
     head = 1 ∷ 16 ∷ c.one ∷ [];

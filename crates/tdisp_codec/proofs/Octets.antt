@@ -11,7 +11,7 @@ use Rattle.std.proofs.lemmas.Nat.{le_bytes_2, le_bytes_4, le_bytes_8}
 use Rattle.byteorder.specs.Endian.{little_bytes, little_number}
 use Rattle.byteorder.specs.Numbers.{little_from-lt}
 use Rattle.ide_types.proofs.Cells.{IsBytes, cells, drop_cells, all_bytes}
-use Rattle.tdisp_codec.specs.Messages.{Ignored}
+use Rattle.tdisp_codec.specs.Messages.{IsIgnored}
 
 abbrev pub IsByte : ℕ → Type 0
 IsByte b = b < 256
@@ -121,7 +121,7 @@ pub zero_bytes_by : (n : ℕ) → AllByRecursion IsByte (replicate n 0)
 zero_bytes_by zero = tt
 zero_bytes_by (suc n) = (omega arith, zero_bytes_by n)
 
-abbrev pub ignored_bytes : (n i : ℕ) (s : List ℕ) → IsBytes s → Ignored n
+abbrev pub ignored_bytes : (n i : ℕ) (s : List ℕ) → IsBytes s → IsIgnored n
 ignored_bytes n i s f = record
     { bytes = cells n i s; long = length-cells n i s; octets = all_of (cells n i s) (cells_octets n i s f) }
 
@@ -139,7 +139,7 @@ at_value P n k here other = elim (cases_eq n k) [
 ]
 
 -- zeros in reserved places
-abbrev pub zeros : (n : ℕ) → Ignored n
+abbrev pub zeros : (n : ℕ) → IsIgnored n
 zeros n = record {
   bytes = replicate n 0;
   long = length-replicate n 0;

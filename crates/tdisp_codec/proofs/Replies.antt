@@ -8,12 +8,12 @@ use Rattle.std.proofs.lemmas.List.{drop_at}
 use Rattle.byteorder.specs.Endian.{little_bytes, little_number}
 use Rattle.byteorder.specs.Numbers.{little_number-reads_back}
 use Rattle.ide_types.proofs.Cells.{IsBytes, cells}
-use Rattle.tdisp_codec.specs.Messages.{Ignored}
+use Rattle.tdisp_codec.specs.Messages.{IsIgnored}
 use Rattle.tdisp_codec.specs.Replies.{Reply, Version, Capabilities, LockInterface, DeviceInterfaceReport}
 use Rattle.tdisp_codec.specs.Replies.{DeviceInterfaceState, StartInterface, StopInterface, BindP2p, UnbindP2p, Error}
 use Rattle.tdisp_codec.specs.Replies.{reply_type, reply_function, reply_reserved, reply_body, reply_spelling}
 use Rattle.tdisp_codec.specs.Replies.{IsCountedReply}
-use Rattle.tdisp_codec.specs.Replies.{FitsReplyBody, FitsReply, SpellsReply, is_reply, reply_size, reply_of_type}
+use Rattle.tdisp_codec.specs.Replies.{FitsReplyBody, FitsReply, SpellsReply, is_reply, reply_size, typed_reply}
 use Rattle.tdisp_codec.proofs.Octets.{octets, joins, leads, at_value, take_long, nonce_fits, IsByte, list_cells}
 use Rattle.tdisp_codec.proofs.Octets.{drop_split_cells, take_cells, drop_octets, all_of, number_2, number_4, below_2}
 use Rattle.tdisp_codec.proofs.Octets.{below_4, two_bytes, four_bytes, no_bytes, ignored_bytes, zeros, same_2}
@@ -30,7 +30,7 @@ replies = record {
   body_of = reply_body;
   known = is_reply;
   body_size = reply_size;
-  from = reply_of_type;
+  from = typed_reply;
 }
 
 abbrev limits : ℕ → List ℕ → ℕ → ℕ → ℕ → List ℕ
@@ -39,7 +39,7 @@ limits lock_flags x width this all = little_bytes 2 lock_flags ++ (x ++ (width �
 -- each list is written out to its length, so each field is computed at its place
 capabilities_again : (function device lock_flags width this all : ℕ) (requests x : List ℕ) → device < 2 ^ 32
     → length requests ≡ 16 → lock_flags < 2 ^ 16 → length x ≡ 3
-    → reply_of_type 0x02 function (little_bytes 4 device ++ (requests ++ limits lock_flags x width this all))
+    → typed_reply 0x02 function (little_bytes 4 device ++ (requests ++ limits lock_flags x width this all))
     ≡ Capabilities function device requests lock_flags width this all
 capabilities_again function device lock_flags width this all requests x d long l three =
     let y = cells 3 0 x in
@@ -54,7 +54,7 @@ capabilities_again function device lock_flags width this all requests x d long l
     rw one (cc)
 
 -- reply by reply: the body as it is written has the length that is read of it, and gives the fields back
-written : (r : Reply) (x : Ignored (reply_reserved r)) → IsCountedReply r → FitsReplyBody r
+written : (r : Reply) (x : IsIgnored (reply_reserved r)) → IsCountedReply r → FitsReplyBody r
     → IsWritten replies r (reply_body r x.bytes)
 written (Version function versions) x c f = record
     { known = refl; octets = leads (length versions) c (octets versions f); size = omega arith; again = refl }
@@ -100,7 +100,7 @@ written (Error function code value) x c f = record {
 }
 
 abbrev Back : ℕ → ℕ → List ℕ → Type 0
-Back type function body = IsBack replies type function body (reply_of_type type function body)
+Back type function body = IsBack replies type function body (typed_reply type function body)
 
 -- its fields stand at fixed places, so the 28 bytes are cut there
 capabilities_back : (function : ℕ) (b : List ℕ) → IsBytes b → length b ≡ 28 → Back 0x02 function b
@@ -112,7 +112,7 @@ capabilities_back function b f long =
     let e7 = get_or-drop 20 b 7 0 in
     let r : take 16 (drop 4 b) ≡ cells 16 4 b = take_cells 16 4 b (omega arith) in
     let some : All IsByte (take 16 (drop 4 b)) = rw r (ignored_bytes 16 4 b f).octets in
-    let whole : cells 28 0 b ≡ reply_body (reply_of_type 0x02 function b) (cells 3 22 b) = rw r (cc) in
+    let whole : cells 28 0 b ≡ reply_body (typed_reply 0x02 function b) (cells 3 22 b) = rw r (cc) in
     record {
       fits = (
         tt,
@@ -149,7 +149,7 @@ portion_back : (function : ℕ) (b : List ℕ) → IsBytes b → length b ≡ 4 
 portion_back function b f long =
     let small = below_2 0 b f in
     let count : length (drop 4 b) ≡ little_number 2 b = omega (arith, length-drop 4 b) in
-    let whole : cells 4 0 b ++ drop 4 b ≡ reply_body (reply_of_type 0x04 function b) [] = rw count
+    let whole : cells 4 0 b ++ drop 4 b ≡ reply_body (typed_reply 0x04 function b) [] = rw count
     (cc (number_2 0 b f, number_2 2 b f)) in
     record {
       fits = (omega arith, (below_2 2 b f, all_of (drop 4 b) (drop_octets 4 b f)));

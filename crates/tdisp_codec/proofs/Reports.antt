@@ -197,6 +197,5 @@ view_spelled view flat =
 
 pub joined : (out front ranges size device a b c d : List ℕ) → a ≡ out ++ front → b ≡ a ++ ranges → c ≡ b ++ size → d
     ≡ c ++ device → d ≡ out ++ (front ++ (ranges ++ (size ++ device)))
-joined out front ranges size device a b c d e f g h =
-    h ∙ ap (λ (x : List ℕ). x ++ device) (g ∙ ap (λ (x : List ℕ). x ++ size) (f ∙ ap (λ (x : List ℕ). x ++ ranges) e)) ∙
-    simp append_assoc
+joined out front ranges size device a b c d e f g h = h ∙ ap (λ (x : List ℕ). x ++ device)
+    (g ∙ ap (λ (x : List ℕ). x ++ size) (f ∙ ap (λ (x : List ℕ). x ++ ranges) e)) ∙ simp append_assoc

@@ -10,10 +10,10 @@ use Rattle.tdisp_codec.specs.declared.request.RequestView.TheVariants.{GetVersio
 use Rattle.tdisp_codec.specs.declared.request.RequestView.TheVariants.{GetDeviceInterfaceReport}
 use Rattle.tdisp_codec.specs.declared.request.RequestView.TheVariants.{GetDeviceInterfaceState, StartInterface}
 use Rattle.tdisp_codec.specs.declared.request.RequestView.TheVariants.{StopInterface, BindP2p, UnbindP2p}
-use Rattle.tdisp_codec.specs.Messages.{Ignored}
+use Rattle.tdisp_codec.specs.Messages.{IsIgnored}
 use Rattle.tdisp_codec.specs.Requests.{request_type, request_function, request_reserved, request_body, request_spelling}
 use Rattle.tdisp_codec.specs.Requests.{FitsRequestBody, FitsRequest, SpellsRequest, is_request, request_size}
-use Rattle.tdisp_codec.specs.Requests.{request_of_type}
+use Rattle.tdisp_codec.specs.Requests.{typed_request}
 use Rattle.tdisp_codec.proofs.Octets.{octets, joins, leads, at_value, take_long, nonce_fits, list_cells, all_of}
 use Rattle.tdisp_codec.proofs.Octets.{number_2, number_8, below_2, below_8, two_bytes, eight_bytes, no_bytes}
 use Rattle.tdisp_codec.proofs.Octets.{ignored_bytes, zeros}
@@ -28,14 +28,14 @@ requests = record {
   body_of = request_body;
   known = is_request;
   body_size = λ type body. request_size type;
-  from = request_of_type;
+  from = typed_request;
 }
 
 -- ---- from a request to its body, and back
 
 -- the reserved byte is written out, so each field is computed at its place
 lock_again : (function flags stream offset mask : ℕ) (x : List ℕ)
-    → FitsRequestBody (LockInterface function flags stream offset mask) → length x ≡ 1 → request_of_type 0x83 function
+    → FitsRequestBody (LockInterface function flags stream offset mask) → length x ≡ 1 → typed_request 0x83 function
     (little_bytes 2 flags ++ (stream ∷ (x ++ (little_bytes 8 offset ++ little_bytes 8 mask))))
     ≡ LockInterface function flags stream offset mask
 lock_again function flags stream offset mask x f long =
@@ -47,7 +47,7 @@ lock_again function flags stream offset mask x f long =
     rw one (cc)
 
 -- request by request: the body as it is written has the length of its type, and gives the fields back
-written : (r : RequestView) (x : Ignored (request_reserved r)) → FitsRequestBody r
+written : (r : RequestView) (x : IsIgnored (request_reserved r)) → FitsRequestBody r
     → IsWritten requests r (request_body r x.bytes)
 written (GetVersion function) x f = record { known = refl; octets = no_bytes; size = refl; again = refl }
 written (GetCapabilities function) x f = record
@@ -79,14 +79,14 @@ written (UnbindP2p function stream) x f = record
     { known = refl; octets = leads stream f no_bytes; size = refl; again = refl }
 
 abbrev Back : ℕ → ℕ → List ℕ → Type 0
-Back type function body = IsBack requests type function body (request_of_type type function body)
+Back type function body = IsBack requests type function body (typed_request type function body)
 
 lock_back : (function : ℕ) (b : List ℕ) → IsBytes b → length b ≡ 20 → Back 0x83 function b
 lock_back function b f long =
     let x2 = number_2 0 b f in
     let x8 = number_8 4 b f in
     let y8 = number_8 12 b f in
-    let lock = request_of_type 0x83 function b in
+    let lock = typed_request 0x83 function b in
     let whole : cells 20 0 b ≡ request_body lock (cells 1 3 b) = cc in
     record {
       fits = (below_2 0 b f, f 2, below_8 4 b f, below_8 12 b f);
@@ -110,8 +110,7 @@ back type function b known f =
       fits = tt;
       reserved = record { bytes = b; long = long; octets = all_of b f };
       type_is = refl;
-      function_is =
-          refl;
+      function_is = refl;
       body_is = refl;
     }) (λ n2.
     at 0x83 (lock_back function b f) (λ n3.
@@ -121,8 +120,7 @@ back type function b known f =
       reserved = zeros 0;
       type_is = refl;
       function_is = refl;
-      body_is =
-          list_cells 4 b long ∙ cc (number_2 0 b f, number_2 2 b f);
+      body_is = list_cells 4 b long ∙ cc (number_2 0 b f, number_2 2 b f);
     }) (λ n4.
     at 0x85 (λ long. record
     { fits = tt; reserved = zeros 0; type_is = refl; function_is = refl; body_is = list_cells 0 b long }) (λ n5.

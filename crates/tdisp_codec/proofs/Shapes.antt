@@ -210,8 +210,7 @@ module _ (fits : ℕ → ℕ → Bool) (size : List ℕ → ℕ) (cause : List �
 
   -- all bytes pass, so only the length can be wrong
   pub judged_length : IsBytes s → FitsTo fits s (length s) → cause s (length s) ≡ Short (length s)
-      → (size s < length s → cause s (size s) ≡ Trailing (size s))
-      → Judged fits size cause s (length_fault (size s) s)
+      → (size s < length s → cause s (size s) ≡ Trailing (size s)) → Judged fits size cause s (length_fault (size s) s)
   judged_length octets all short trailing = elim (cases_lt (length s) (size s)) [
     | inl less ↦ rw (lt-ltb _ _ less) (inr (
       length s,

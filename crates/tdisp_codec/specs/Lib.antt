@@ -9,15 +9,15 @@ pub use Rattle.tdisp_codec.specs.declared.request.RequestView.{RequestView}
 pub use Rattle.tdisp_codec.specs.declared.reply.ReplyView.{ReplyView}
 pub use Rattle.tdisp_codec.specs.declared.report.ReportRange.{ReportRange}
 pub use Rattle.tdisp_codec.specs.declared.report.ReportView.{ReportView}
-pub use Rattle.tdisp_codec.specs.Messages.{Ignored, message_bytes, message_spelling, SpellsMessage, IsSpelled, type_in}
-pub use Rattle.tdisp_codec.specs.Messages.{function_field, body_in, length_fault, message_fault, read_or}
-pub use Rattle.tdisp_codec.specs.Messages.{message_fault_at, IsFirstFault, function_of}
+pub use Rattle.tdisp_codec.specs.Messages.{IsIgnored, message_bytes, message_spelling, SpellsMessage, IsSpelled}
+pub use Rattle.tdisp_codec.specs.Messages.{type_in, function_field, body_in, length_fault, message_fault, read_or}
+pub use Rattle.tdisp_codec.specs.Messages.{message_fault_at_place, IsFirstFault, function_of}
 pub use Rattle.tdisp_codec.specs.Requests.{request_type, request_function, request_body, request_spelling, FitsRequest}
-pub use Rattle.tdisp_codec.specs.Requests.{SpellsRequest, is_request, request_size, request_of_type, request_in}
+pub use Rattle.tdisp_codec.specs.Requests.{SpellsRequest, is_request, request_size, typed_request, request_in}
 pub use Rattle.tdisp_codec.specs.Requests.{request_reading}
 pub use Rattle.tdisp_codec.specs.Replies.{Reply, reply_shown, reply_answer, reply_type, reply_function, reply_body}
 pub use Rattle.tdisp_codec.specs.Replies.{reply_spelling, IsCountedReply, FitsReply, SpellsReply, is_reply, reply_size}
-pub use Rattle.tdisp_codec.specs.Replies.{reply_of_type, decoded_reply, reply_reading}
+pub use Rattle.tdisp_codec.specs.Replies.{typed_reply, decoded_reply, reply_reading}
 pub use Rattle.tdisp_codec.specs.Ranges.{range_bytes, FitsRange, range_from, ranges_in}
 pub use Rattle.tdisp_codec.specs.Reports.{Report, report_shown, report_spelling, IsCountedReport, FitsReport}
 pub use Rattle.tdisp_codec.specs.Reports.{SpellsReport, report_size, report_in, report_reading, report_fault_at}

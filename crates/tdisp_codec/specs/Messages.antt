@@ -9,7 +9,7 @@ use Rattle.tdisp_codec.specs.declared.fault.TdispFault.TheVariants.{Short, Trail
 -- ---- what bytes spell
 
 -- reserved bytes, which may hold anything
-pub record Ignored (n : ℕ) : Type 0 where
+pub record IsIgnored (n : ℕ) : Type 0 where
   pub bytes : List ℕ
   pub long : length bytes ≡ n
   pub octets : All (λ b. b < 256) bytes
@@ -25,8 +25,8 @@ message_spelling type function body = message_bytes (replicate 2 0) (replicate 8
 
 -- the bytes are a message of this type, function ID and body, whatever the header's reserved bytes hold
 pub record SpellsMessage (type function : ℕ) (body bytes : List ℕ) : Type 0 where
-  pub first : Ignored 2
-  pub second : Ignored 8
+  pub first : IsIgnored 2
+  pub second : IsIgnored 8
   pub spelled : bytes ≡ message_bytes first.bytes second.bytes type function body
 
 -- the bytes spell a value
@@ -73,8 +73,8 @@ read_or value (Some fault) = Err fault
 
 -- ---- where bytes go off, and why
 
-abbrev pub message_fault_at : List ℕ → ℕ → TdispFault
-message_fault_at bytes place =
+abbrev pub message_fault_at_place : List ℕ → ℕ → TdispFault
+message_fault_at_place bytes place =
     if place == length bytes then Short place
     else if place == 1 then Version 1
     else if nat_lt place 3 then Kind place

@@ -5,7 +5,7 @@ use Rattle.byteorder.specs.Endian.{little_bytes, little_number}
 use Rattle.tdisp_codec.specs.declared.fault.TdispFault.{TdispFault}
 use Rattle.tdisp_codec.specs.declared.reply.ReplyView.{ReplyView}
 use Rattle.tdisp_codec.specs.declared.reply.ReplyView.TheVariants as views
-use Rattle.tdisp_codec.specs.Messages.{Ignored, SpellsMessage, message_spelling, type_in, function_field, body_in}
+use Rattle.tdisp_codec.specs.Messages.{IsIgnored, SpellsMessage, message_spelling, type_in, function_field, body_in}
 use Rattle.tdisp_codec.specs.Messages.{message_fault, read_or}
 
 -- a reply as a value: lent bytes are the bytes
@@ -110,7 +110,7 @@ FitsReply reply = (reply_function reply < 2 ^ 32) × IsCountedReply reply × Fit
 -- the bytes are the reply's, but for the reserved ones, which may hold anything
 pub record SpellsReply (reply : Reply) (bytes : List ℕ) : Type 0 where
   pub fits : FitsReply reply
-  pub reserved : Ignored (reply_reserved reply)
+  pub reserved : IsIgnored (reply_reserved reply)
   pub message : SpellsMessage (reply_type reply) (reply_function reply) (reply_body reply reserved.bytes) bytes
 
 -- ---- reading
@@ -135,8 +135,8 @@ capabilities_from function body rest =
     Capabilities function (little_number 4 body) (take 16 (drop 4 body)) (little_number 2 rest) (slice_index rest 5)
     (slice_index rest 6) (slice_index rest 7)
 
-abbrev pub reply_of_type : ℕ → ℕ → List ℕ → Reply
-reply_of_type type function body =
+abbrev pub typed_reply : ℕ → ℕ → List ℕ → Reply
+typed_reply type function body =
     if type == 0x01 then Version function (drop 1 body)
     else if type == 0x02 then capabilities_from function body (drop 20 body)
     else if type == 0x03 then LockInterface function (take 32 body)
@@ -149,7 +149,7 @@ reply_of_type type function body =
     else StopInterface function
 
 abbrev pub decoded_reply : List ℕ → Reply
-decoded_reply bytes = reply_of_type (type_in bytes) (function_field bytes) (body_in bytes)
+decoded_reply bytes = typed_reply (type_in bytes) (function_field bytes) (body_in bytes)
 
 -- the reply, or the first fault
 abbrev pub reply_reading : List ℕ → Result Reply TdispFault

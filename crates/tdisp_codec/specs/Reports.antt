@@ -7,7 +7,7 @@ use Rattle.tdisp_codec.specs.declared.fault.TdispFault.{TdispFault}
 use Rattle.tdisp_codec.specs.declared.fault.TdispFault.TheVariants.{Short, Trailing}
 use Rattle.tdisp_codec.specs.declared.report.ReportRange.{ReportRange}
 use Rattle.tdisp_codec.specs.declared.report.ReportView.{ReportView}
-use Rattle.tdisp_codec.specs.Messages.{Ignored, length_fault, read_or}
+use Rattle.tdisp_codec.specs.Messages.{IsIgnored, length_fault, read_or}
 use Rattle.tdisp_codec.specs.Ranges.{range_bytes, FitsRange, ranges_in}
 
 -- a report as a value
@@ -60,7 +60,7 @@ pub record FitsReport (report : Report) : Type 0 where
 -- the bytes are the report's, but for the reserved ones, which may hold anything
 pub record SpellsReport (report : Report) (bytes : List ℕ) : Type 0 where
   pub fits : FitsReport report
-  pub reserved : Ignored 2
+  pub reserved : IsIgnored 2
   pub spelled : bytes ≡ report_bytes reserved.bytes report
 
 -- ---- reading, in which bytes that are missing count as 0

@@ -8,7 +8,7 @@ use Rattle.tdisp_codec.specs.declared.request.RequestView.TheVariants.{GetVersio
 use Rattle.tdisp_codec.specs.declared.request.RequestView.TheVariants.{GetDeviceInterfaceReport}
 use Rattle.tdisp_codec.specs.declared.request.RequestView.TheVariants.{GetDeviceInterfaceState, StartInterface}
 use Rattle.tdisp_codec.specs.declared.request.RequestView.TheVariants.{StopInterface, BindP2p, UnbindP2p}
-use Rattle.tdisp_codec.specs.Messages.{Ignored, SpellsMessage, message_spelling, type_in, function_field, body_in}
+use Rattle.tdisp_codec.specs.Messages.{IsIgnored, SpellsMessage, message_spelling, type_in, function_field, body_in}
 use Rattle.tdisp_codec.specs.Messages.{message_fault, read_or}
 
 abbrev pub request_type : RequestView → ℕ
@@ -72,7 +72,7 @@ FitsRequest request = (request_function request < 2 ^ 32) × FitsRequestBody req
 -- the bytes are the request's, but for the reserved ones, which may hold anything
 pub record SpellsRequest (request : RequestView) (bytes : List ℕ) : Type 0 where
   pub fits : FitsRequest request
-  pub reserved : Ignored (request_reserved request)
+  pub reserved : IsIgnored (request_reserved request)
   pub message : SpellsMessage (request_type request) (request_function request)
       (request_body request reserved.bytes) bytes
 
@@ -92,8 +92,8 @@ request_size type =
     else if type == 0x89 then 1
     else 0
 
-abbrev pub request_of_type : ℕ → ℕ → List ℕ → RequestView
-request_of_type type function body =
+abbrev pub typed_request : ℕ → ℕ → List ℕ → RequestView
+typed_request type function body =
     if type == 0x81 then GetVersion function
     else if type == 0x82 then GetCapabilities function
     else if type == 0x83 then
@@ -107,7 +107,7 @@ request_of_type type function body =
     else StopInterface function
 
 abbrev pub request_in : List ℕ → RequestView
-request_in bytes = request_of_type (type_in bytes) (function_field bytes) (body_in bytes)
+request_in bytes = typed_request (type_in bytes) (function_field bytes) (body_in bytes)
 
 -- the request, or the first fault
 abbrev pub request_reading : List ℕ → Result RequestView TdispFault

@@ -5,7 +5,7 @@ ghost use Rattle.std.specs.List.{flat_map};
 ghost use Rattle.tdisp_codec.specs.declared.fault.TdispFault.{TdispFault};
 ghost use Rattle.tdisp_codec.specs.declared.request.RequestView.{RequestView};
 ghost use Rattle.tdisp_codec.specs.declared.report.ReportRange.{ReportRange};
-ghost use Rattle.tdisp_codec.specs.Messages.{message_fault_at, IsFirstFault};
+ghost use Rattle.tdisp_codec.specs.Messages.{message_fault_at_place, IsFirstFault};
 ghost use Rattle.tdisp_codec.specs.Requests.{FitsRequest, SpellsRequest, request_spelling, request_reading};
 ghost use Rattle.tdisp_codec.specs.Replies.{Reply, FitsReply, SpellsReply, reply_spelling, reply_reading};
 ghost use Rattle.tdisp_codec.specs.Ranges.{range_bytes, FitsRange, ranges_in};
@@ -18,7 +18,7 @@ pub fn request_is_grammar()
     ensures reads { (request : RequestView) (bytes : List ℕ) → All (λ b. b < 256) bytes
         → (SpellsRequest request bytes) ↔ (request_reading bytes ≡ Ok request) }
     ensures refuses { (bytes : List ℕ) (fault : TdispFault) → All (λ b. b < 256) bytes
-        → (IsFirstFault SpellsRequest message_fault_at bytes fault) ↔ (request_reading bytes ≡ Err fault) }
+        → (IsFirstFault SpellsRequest message_fault_at_place bytes fault) ↔ (request_reading bytes ≡ Err fault) }
 {}
 
 /// What is written spells the request, and is read as it.
@@ -34,7 +34,7 @@ pub fn reply_is_grammar()
     ensures reads { (reply : Reply) (bytes : List ℕ) → All (λ b. b < 256) bytes
         → (SpellsReply reply bytes) ↔ (reply_reading bytes ≡ Ok reply) }
     ensures refuses { (bytes : List ℕ) (fault : TdispFault) → All (λ b. b < 256) bytes
-        → (IsFirstFault SpellsReply message_fault_at bytes fault) ↔ (reply_reading bytes ≡ Err fault) }
+        → (IsFirstFault SpellsReply message_fault_at_place bytes fault) ↔ (reply_reading bytes ≡ Err fault) }
 {}
 
 /// What is written spells the reply, and is read as it.

@@ -5,9 +5,9 @@ ghost use Rattle.byteorder.specs.Endian.{little_number};
 ghost use Rattle.tdisp_codec.specs.Messages.{length_fault as length_fault_of, message_fault as message_fault_of};
 ghost use Rattle.tdisp_codec.specs.Messages.{function_of};
 ghost use Rattle.tdisp_codec.specs.Requests.{is_request as is_request_type, request_size as request_size_of};
-ghost use Rattle.tdisp_codec.specs.Requests.{request_of_type, request_reading};
+ghost use Rattle.tdisp_codec.specs.Requests.{typed_request, request_reading};
 ghost use Rattle.tdisp_codec.specs.Replies.{is_reply as is_reply_type, reply_size as reply_size_of};
-ghost use Rattle.tdisp_codec.specs.Replies.{DeviceInterfaceReport, capabilities_from, reply_of_type, reply_shown};
+ghost use Rattle.tdisp_codec.specs.Replies.{DeviceInterfaceReport, capabilities_from, typed_reply, reply_shown};
 ghost use Rattle.tdisp_codec.specs.Replies.{reply_answer, reply_reading};
 
 use crate::fault::TdispFault;
@@ -103,7 +103,7 @@ fn nonce(bytes: &[u8]) -> [u8; 32]
 /// The request of this type with this body.
 fn request(kind: u8, function: u32, body: &[u8]) -> RequestView
     requires { length body.now ≡ request_size_of kind }
-    ensures { result ≡ request_of_type kind function body.now }
+    ensures { result ≡ typed_request kind function body.now }
 {
     match kind {
         0x81 => RequestView::GetVersion { function },
@@ -204,7 +204,7 @@ fn portion<'a>(function: u32, body: &'a [u8]) -> ReplyView<'a>
 /// The reply of this type with this body.
 fn reply<'a>(kind: u8, function: u32, body: &'a [u8]) -> ReplyView<'a>
     requires { length body.now ≡ reply_size_of kind body.now }
-    ensures { reply_shown result ≡ reply_of_type kind function body.now }
+    ensures { reply_shown result ≡ typed_reply kind function body.now }
 {
     match kind {
         0x01 => ReplyView::Version {

@@ -6,7 +6,7 @@ use Rattle.std.proofs.lemmas.List.{take_all}
 use Rattle.tlp_layout.specs.{Layout, HeadView, body_size, TlpFault, SpellsHead, head_size, layout_of_byte, fault_at}
 use Rattle.tlp_layout.specs.{IsFault, IsHeadFault, head_of, rest_size, whole_size, may_follow, SpellsTlp, with_payload}
 use Rattle.tlp_layout.specs.declared.fault.TlpFault.TheVariants as faults
-use Rattle.tlp_layout.specs.Inside.{Agrees, TlpGoesOff, TlpGoesOffAt}
+use Rattle.tlp_layout.specs.Inside.{Agrees, TlpGoesOff, TlpGoesOffAtPlace}
 use Rattle.ide_types.proofs.Cells.{IsBytes}
 use Rattle.tlp_layout.proofs.Heads.{back, head_size_at_least}
 use Rattle.tlp_layout.proofs.Walk.{IsWalked, fits_from, agrees_there}
@@ -19,14 +19,14 @@ no_kind : (o : Option Layout) → o ≡ None → is_some o ≡ true → ⊥
 no_kind None e t = absurd cc
 no_kind (Some k) e t = absurd cc
 
-stops_short : (s : List ℕ) (f : TlpFault) (place : ℕ) → TlpGoesOffAt s f place → place < head_size (get_or s 0 0)
+stops_short : (s : List ℕ) (f : TlpFault) (place : ℕ) → TlpGoesOffAtPlace s f place → place < head_size (get_or s 0 0)
 stops_short s f place h = elim (cases_eq place 0) [
   | inl none ↦ omega (arith, head_size_at_least (get_or s 0 0))
   | inr some ↦ (h.behind (omega arith)).2
 ]
 
 stops_end : (size : List ℕ → ℕ) (s : List ℕ) (f : TlpFault) (place : ℕ) → place ≤ size s → IsBytes s
-    → TlpGoesOffAt s f place → EndsAt size may_follow s place
+    → TlpGoesOffAtPlace s f place → EndsAt size may_follow s place
 stops_end size s f place sized fit h = record {
   within = h.within;
   sized = sized;

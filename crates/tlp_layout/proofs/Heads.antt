@@ -156,8 +156,7 @@ status_back n lt =
 status_byte_back : (b6 b7 : ℕ) → b6 < 256 → b7 < 256
     → 0x20 * status_bits (completion_status (b6 / 32)) + 0x10 * bit (eqb (b6 / 16 % 2) 1) + (256 * (b6 % 16) + b7) / 256
     ≡ b6
-status_byte_back b6 b7 lt less =
-    omega (arith, bit_is (b6 / 16 % 2) (omega arith), status_back (b6 / 32) (omega arith))
+status_byte_back b6 b7 lt less = omega (arith, bit_is (b6 / 16 % 2) (omega arith), status_back (b6 / 32) (omega arith))
 
 -- the places of a header that have bits that are 0
 clear_at : (k : Layout) (s : List ℕ) (i : ℕ) → IsRight k s → 0 < i → i < length s
@@ -450,9 +449,8 @@ type_small one = grind arith
 
 kept_fields : (l : Lead) (p : Bool) (f : Fields) → FitsLead l → FitsFields l f
     → IsRight (layout_of f) (head_bytes (head_with l p f))
-kept_fields l p (Memory f) fl ff =
-    right layouts.Memory p l.wide 0x00 _ (memory_kind p l.wide) (omega arith) (memory_long l.wide f)
-    (memory_fit l.wide f l fl ff)
+kept_fields l p (Memory f) fl ff = right layouts.Memory p l.wide 0x00 _ (memory_kind p l.wide) (omega arith)
+    (memory_long l.wide f) (memory_fit l.wide f l fl ff)
 kept_fields l p (Config f) fl ff =
     let type = type_small f.one in
     rw ff.0 (right layouts.Config p false (0x04 + bit f.one) _ (config_kind p f.one) type refl (config_fit f l fl ff))

@@ -98,6 +98,5 @@ next xs i d less =
 
 pub list_any-next : {X : Type 0} (test : X → Bool) (xs : List X) (i : ℕ) (d : X) → i < length xs
     → list_any test (take i xs) ≡ false → test (get_or xs i d) ≡ false → list_any test (take (i + 1) xs) ≡ false
-list_any-next {X} test xs i d less none other =
-    ap (λ (l : List X). list_any test l) (next xs i d less) ∙ list_any-append_one test (take i xs) (get_or xs i d) none
-    ∙ other
+list_any-next {X} test xs i d less none other = ap (λ (l : List X). list_any test l) (next xs i d less)
+    ∙ list_any-append_one test (take i xs) (get_or xs i d) none ∙ other

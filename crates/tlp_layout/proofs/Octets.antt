@@ -49,6 +49,5 @@ is_width None wide = true
 is_width (Some k) wide = has_width k wide
 
 pub width_of : (k : Layout) (b : ℕ) → b < 256 → layout_of_byte b ≡ Some k → has_width k (is_wide b) ≡ true
-width_of k b lt kind =
-    sym (ap (λ (o : Option Layout). is_width o (is_wide b)) kind)
+width_of k b lt kind = sym (ap (λ (o : Option Layout). is_width o (is_wide b)) kind)
     ∙ agree_below_at (λ b. is_width (layout_of_byte b) (is_wide b)) (λ b. true) 256 b refl lt

@@ -4,7 +4,7 @@ use Rattle.std.proofs.Common.{length-append}
 use Rattle.std.specs.Prelude.{MatchResult}
 use Rattle.tlp_layout.specs.{TlpFault, HeadView, head_bytes, head_length, header, body, with_payload, read_of}
 use Rattle.tlp_layout.specs.Terms.{Tlp}
-use Rattle.tlp_layout.specs.Reading.{IsTlpWith}
+use Rattle.tlp_layout.specs.Reading.{IsTlpWithHead}
 use Rattle.tlp_layout.proofs.Readings.{read_spells_tlp, rest_is, head_sized}
 
 pub record PartsByHead (head : HeadView) (bytes : List ℕ) : Type 0 where
@@ -27,5 +27,5 @@ of_result : (head : HeadView) (bytes : List ℕ) (r : Result Tlp TlpFault) → r
 of_result head bytes (Ok t) is same = rw (← same) (of_tlp t bytes is)
 of_result head bytes (Err fault) is none = absurd none
 
-pub parts_by_head : (head : HeadView) (bytes : List ℕ) → IsTlpWith head bytes → PartsByHead head bytes
+pub parts_by_head : (head : HeadView) (bytes : List ℕ) → IsTlpWithHead head bytes → PartsByHead head bytes
 parts_by_head head bytes = of_result head bytes (read_of bytes) refl

@@ -44,8 +44,7 @@ field_bytes wide (Memory f) =
 field_bytes wide (Config f) =
     big_bytes 2 f.requester ++ (f.tag % 256) ∷ (0x10 * f.last_be + f.first_be) ∷ big_bytes 2 f.destination
     ++ (f.register / 64) ∷ (0x04 * (f.register % 64)) ∷ []
-field_bytes wide (Message f) =
-    big_bytes 2 f.requester ++ (f.tag % 256) ∷ f.code ∷ big_bytes 2 f.destination ++ f.kept
+field_bytes wide (Message f) = big_bytes 2 f.requester ++ (f.tag % 256) ∷ f.code ∷ big_bytes 2 f.destination ++ f.kept
 field_bytes wide (Completion f) =
     big_bytes 2 f.completer ++ (0x20 * status_bits f.status + 0x10 * bit f.bcm + f.count / 256) ∷ (f.count % 256)
     ∷ big_bytes 2 f.requester ++ (f.tag % 256) ∷ f.lower ∷ []

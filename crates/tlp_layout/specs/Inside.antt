@@ -9,7 +9,7 @@ Agrees layout s n =
     (i : ℕ) → 0 < i → i < n → is_allowed_byte layout (head_size (slice_index s 0)) i (slice_index s i) ≡ true
 
 -- the bytes go off a header at this place
-pub record TlpGoesOffAt (s : List ℕ) (fault : TlpFault) (place : ℕ) : Type 0 where
+pub record TlpGoesOffAtPlace (s : List ℕ) (fault : TlpFault) (place : ℕ) : Type 0 where
   pub within : place ≤ length s
   pub cause : fault ≡ fault_at s place
   pub first : place ≡ 0 → place < length s → layout_of_byte (slice_index s 0) ≡ None
@@ -18,4 +18,4 @@ pub record TlpGoesOffAt (s : List ℕ) (fault : TlpFault) (place : ℕ) : Type 0
       × (place < length s → is_allowed_byte layout (head_size (slice_index s 0)) place (slice_index s place) ≡ false)
 
 abbrev pub TlpGoesOff : List ℕ → TlpFault → Type 0
-TlpGoesOff s fault = (place : ℕ) × TlpGoesOffAt s fault place
+TlpGoesOff s fault = (place : ℕ) × TlpGoesOffAtPlace s fault place

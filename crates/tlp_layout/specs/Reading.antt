@@ -69,8 +69,7 @@ fields_of layouts.Completion s = Completion (record {
 })
 
 abbrev pub head_of : Layout → List ℕ → HeadView
-head_of layout s =
-    record { lead = lead_of s; has_payload = has_data (slice_index s 0); fields = fields_of layout s }
+head_of layout s = record { lead = lead_of s; has_payload = has_data (slice_index s 0); fields = fields_of layout s }
 
 -- the header that the bytes begin with, of the layout that byte 0 names
 abbrev pub head_read : List ℕ → HeadView
@@ -124,5 +123,5 @@ unfoldable pub read_of : List ℕ → Result Tlp TlpFault
 read_of bytes = whole_reading wants_tlp may_follow tlp_read fault_at bytes
 
 -- the bytes are a TLP with this header
-abbrev pub IsTlpWith : HeadView → List ℕ → Type 0
-IsTlpWith head bytes = MatchResult (read_of bytes) (λ t. header t ≡ head) (λ _. ⊥)
+abbrev pub IsTlpWithHead : HeadView → List ℕ → Type 0
+IsTlpWithHead head bytes = MatchResult (read_of bytes) (λ t. header t ≡ head) (λ _. ⊥)

@@ -2,7 +2,7 @@
 
 ghost use Rattle.std.specs.Prelude.{◌≡◌};
 ghost use Rattle.tlp_layout.specs.Tlp.{viewed_result};
-ghost use Rattle.tlp_layout.specs.Reading.{read_of, IsTlpWith};
+ghost use Rattle.tlp_layout.specs.Reading.{read_of, IsTlpWithHead};
 
 use crate::fault::TlpFault;
 use crate::head::HeadView;
@@ -42,7 +42,7 @@ impl<'a> OutgoingTlp<'a> {
     /// The bytes of a TLP that was written with this header.
     #[tactic(auto, using(crate::proofs::Written::parts_by_head))]
     pub fn written(bytes: &'a [u8], head: HeadView) -> OutgoingTlp<'a>
-        requires { IsTlpWith head bytes.now }
+        requires { IsTlpWithHead head bytes.now }
         ensures { result ≡ bytes.now }
     {
         let (_, payload) = bytes.split_at(head.size());

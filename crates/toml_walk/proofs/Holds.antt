@@ -19,8 +19,8 @@ use Rattle.toml_walk.specs.Fault.{◌>>=◌, or_fault}
 use Rattle.toml_walk.specs.Bounds.{admits, has_form}
 use Rattle.toml_walk.specs.Walk.{Text, Reader, place, required_value, found_or, optional, table, values_of, is_past}
 use Rattle.toml_walk.specs.Walk.{within_span, each, list, given_value}
-use Rattle.toml_walk.specs.Values.{integer, bounded_number, number, text, or_length, key_bytes, hex_bytes, both, two_in}
-use Rattle.toml_walk.specs.Values.{two}
+use Rattle.toml_walk.specs.Values.{integer, bounded_number, number, text, or_length, key_bytes, hex_bytes, both}
+use Rattle.toml_walk.specs.Values.{two_in_list, two}
 
 -- what a reading gives, if it gives a value
 pub record Holds {A : Type 0} (P : A → Type 0) (r : Result A PlanFault) : Type 0 where
@@ -135,8 +135,7 @@ optional_holds P t ms name default read p h = found_holds P _ default read (get_
 
 pub given_holds : {A : Type 0} (P : A → Type 0) (read : Reader A) → ((path : Text) (d : Data) → Holds P (read path d))
     → (path : Text) (d : Data) → Holds (λ (o : Option A). IfSome o P) (given_value read path d)
-given_holds {A} P read h path d =
-    next P (λ (o : Option A). IfSome o P) (read path d) (λ x. Ok (Some x)) (h path d)
+given_holds {A} P read h path d = next P (λ (o : Option A). IfSome o P) (read path d) (λ x. Ok (Some x)) (h path d)
     (λ x p. gives (λ (o : Option A). IfSome o P) (Some x) p)
 
 pub table_holds : {A : Type 0} (P : A → Type 0) (keys : Text → Members → Result A PlanFault)
@@ -193,7 +192,7 @@ both_holds first last path d e =
     (λ n q. gives _ (m, n) (p, q)))
 
 two_in_holds : (allowed : Bool) (first last : Bounds) (path : Text) (ds : List Data)
-    → Holds (λ (p : ℕ × ℕ). Admitted first p.0 × Admitted last p.1) (two_in allowed first last path ds)
+    → Holds (λ (p : ℕ × ℕ). Admitted first p.0 × Admitted last p.1) (two_in_list allowed first last path ds)
 two_in_holds allowed first last path [] = faulty _ _
 two_in_holds allowed first last path (d ∷ []) = faulty _ _
 two_in_holds true first last path (d ∷ e ∷ []) = both_holds first last path d e
@@ -204,4 +203,4 @@ two_in_holds allowed first last path (d ∷ e ∷ f ∷ ds) = faulty _ _
 pub two_holds : (allowed : Bool) (first last : Bounds) (path : Text) (d : Data)
     → Holds (λ (p : ℕ × ℕ). Admitted first p.0 × Admitted last p.1) (two allowed first last path d)
 two_holds allowed first last path d = next (λ _. Unit {0}) _ (values_of path d)
-    (λ ds. two_in allowed first last path ds) (anything _) (λ ds _. two_in_holds allowed first last path ds)
+    (λ ds. two_in_list allowed first last path ds) (anything _) (λ ds _. two_in_holds allowed first last path ds)

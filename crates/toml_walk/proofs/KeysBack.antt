@@ -28,8 +28,7 @@ named_escape b = cond (b == 98) 8 (cond (b == 116) 9 (cond (b == 110) 10 (cond (
 
 abbrev escape : List ℕ → ℕ × List ℕ
 escape [] = (0, [])
-escape (b ∷ bs) =
-    cond (b == 117) (four (λ n rest. (n, rest)) bs)
+escape (b ∷ bs) = cond (b == 117) (four (λ n rest. (n, rest)) bs)
     (cond (b == 85) (four (λ m more. four (λ n rest. (m * 65536 + n, rest)) more) bs) (named_escape b, bs))
 
 abbrev unshown : List ℕ → ℕ × List ℕ

@@ -7,13 +7,13 @@ use Rattle.std.specs.declared.alloc.Global.{Global}
 use Rattle.toml.specs.declared.value.Value.{Value}
 use Rattle.toml_walk.specs.declared.fault.PlanFault.{PlanFault}
 use Rattle.toml_walk.specs.Fault.{◌>>=◌}
-use Rattle.toml_walk.specs.Walk.{Text, list_of, key_names}
+use Rattle.toml_walk.specs.Walk.{Text, data_list, key_names}
 
-pub list_of_items : (ds : List Data) → list_of (items_of ds) ≡ ds
+pub list_of_items : (ds : List Data) → data_list (items_of ds) ≡ ds
 list_of_items [] = refl
 list_of_items (d ∷ ds) = ap (λ (xs : List Data). d ∷ xs) (list_of_items ds)
 
-pub list_of_view : (vs : List Value) → list_of (items_view vs) ≡ map view vs
+pub list_of_view : (vs : List Value) → data_list (items_view vs) ≡ map view vs
 list_of_view vs = list_of_items (map view vs)
 
 keys_of_members : (es : List (String Global × Value)) → key_names (members_view es)

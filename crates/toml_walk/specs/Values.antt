@@ -56,13 +56,14 @@ both first last path d e = do
   Ok (m, n)
 
 -- a list of two numbers: more are Limit, fewer are Range, and so are two if none are allowed
-abbrev pub two_in : Bool → Bounds → Bounds → Text → List Data → Result (ℕ × ℕ) PlanFault
-two_in allowed first last path [] = Err (Range path (pos 0))
-two_in allowed first last path (d ∷ []) = Err (Range path (pos 1))
-two_in allowed first last path (d ∷ e ∷ []) = if allowed then both first last path d e else Err (Range path (pos 2))
-two_in allowed first last path (d ∷ e ∷ f ∷ ds) = Err (Limit path)
+abbrev pub two_in_list : Bool → Bounds → Bounds → Text → List Data → Result (ℕ × ℕ) PlanFault
+two_in_list allowed first last path [] = Err (Range path (pos 0))
+two_in_list allowed first last path (d ∷ []) = Err (Range path (pos 1))
+two_in_list allowed first last path (d ∷ e ∷ []) = if allowed then both first last path d e else Err
+    (Range path (pos 2))
+two_in_list allowed first last path (d ∷ e ∷ f ∷ ds) = Err (Limit path)
 
 abbrev pub two : Bool → Bounds → Bounds → Reader (ℕ × ℕ)
 two allowed first last path d = do
   ds ← values_of path d
-  two_in allowed first last path ds
+  two_in_list allowed first last path ds

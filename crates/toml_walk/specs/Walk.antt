@@ -81,13 +81,13 @@ table keys path d = do
   ms ← or_fault (as_table d) (Kind path)
   keys (path ++ codes ".") ms
 
-abbrev pub list_of : Items → List Data
-list_of no_items = []
-list_of (item d ds) = d ∷ list_of ds
+abbrev pub data_list : Items → List Data
+data_list no_items = []
+data_list (item d ds) = d ∷ data_list ds
 
 -- the elements of a list
 abbrev pub values_of : Reader (List Data)
-values_of path d = or_fault (option_map list_of (as_array d)) (Kind path)
+values_of path d = or_fault (option_map data_list (as_array d)) (Kind path)
 
 abbrev pub is_past : Option ℕ → ℕ → Bool
 is_past None n = false

@@ -4,7 +4,8 @@ ghost use Rattle.std.specs.Prelude.{◌≡◌, map, option_map, length};
 ghost use Rattle.toml.specs.Data.{as_array};
 ghost use Rattle.toml.specs.View.{view};
 ghost use Rattle.toml_walk.specs.Fault.{Gives};
-ghost use Rattle.toml_walk.specs.Walk.{list_of, values_of, within_span, each, list, is_past, count_between, any_number};
+ghost use Rattle.toml_walk.specs.Walk.{data_list, values_of, within_span, each, list, is_past, count_between};
+ghost use Rattle.toml_walk.specs.Walk.{any_number};
 
 use crate::{PlanError, PlanFault, Reader, place_path};
 use ide_types::{Bytes, Items};
@@ -57,7 +58,7 @@ impl CountRange {
 // The elements of a list.
 #[tactic(auto, using(crate::proofs::Lists::list_of_view))]
 fn items_if_list(value: &Value) -> Option<&[Value]>
-    ensures { option_map (λ vs. map view vs.now) result ≡ option_map list_of (as_array (view value.now)) }
+    ensures { option_map (λ vs. map view vs.now) result ≡ option_map data_list (as_array (view value.now)) }
 {
     match value.as_array() {
         None => None,

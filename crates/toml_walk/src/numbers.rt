@@ -5,7 +5,7 @@ ghost use Rattle.toml.specs.View.{view};
 ghost use Rattle.toml_walk.specs.Bounds.{greatest, within, bounds_of_form};
 ghost use Rattle.toml_walk.specs.Fault.{Gives};
 ghost use Rattle.toml_walk.specs.Walk.{values_of};
-ghost use Rattle.toml_walk.specs.Values.{integer, bounded_number, number, both, two_in, two};
+ghost use Rattle.toml_walk.specs.Values.{integer, bounded_number, number, both, two_in_list, two};
 
 use crate::list::items_of;
 use crate::{Bounds, Form, GREATEST, PlanError, PlanFault, Reader, place_path};
@@ -217,7 +217,7 @@ fn two_of(
     path: &[u8],
     values: &[Value],
 ) -> Result<(u64, u64), PlanError>
-    ensures gives { Gives (λ p. p) result (two_in allowed first.now last.now path.now (map view values.now)) }
+    ensures gives { Gives (λ p. p) result (two_in_list allowed first.now last.now path.now (map view values.now)) }
     ensures first_most { IfOk result (λ p. p.0 ≤ first.now.most) }
     ensures last_most { IfOk result (λ p. p.1 ≤ last.now.most) }
 {

@@ -53,9 +53,8 @@ each_extends {A} r s h path i (d ∷ ds) =
     gives Same (x ∷ xs) (y ∷ ys) cc))
 
 pub list_extends : {A : Type 0} (span : CountRange) (r s : Reader A) → Extends r s → Extends (list span r) (list span s)
-list_extends span r s h path d =
-    then Same (values_of path d) _ _ (λ ds.
-    then Same (within_span span path ds) _ _ (λ cs. each_extends r s h path 0 cs))
+list_extends span r s h path d = then Same (values_of path d) _ _
+    (λ ds. then Same (within_span span path ds) _ _ (λ cs. each_extends r s h path 0 cs))
 
 pub table_extends : {A : Type 0} (r s : Text → Members → Result A PlanFault)
     → ((t : Text) (ms : Members) → Carries Same (r t ms) (s t ms)) → Extends (table r) (table s)

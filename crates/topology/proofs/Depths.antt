@@ -21,11 +21,11 @@ use Rattle.toml_walk.specs.declared.fault.PlanFault.{PlanFault}
 use Rattle.toml_walk.specs.declared.list.CountRange.{CountRange}
 use Rattle.toml_walk.specs.Fault.{◌>>=◌, or_fault}
 use Rattle.toml_walk.specs.Bounds.{greatest, within, bounds_of_form, admits}
-use Rattle.toml_walk.specs.Values.{integer as any_integer, number, truth, text, key_bytes, hex_bytes, two, two_in}
-use Rattle.toml_walk.specs.Walk.{Text, Reader, place, is_known, key_names, unknown_in, only_known, required_value}
-use Rattle.toml_walk.specs.Walk.{optional, table, list_of, values_of, is_past, within_span, each, list, count_between}
-use Rattle.toml_walk.specs.Walk.{any_number, given_value as walk_given}
+use Rattle.toml_walk.specs.Values.{integer as any_integer, number, truth, text, key_bytes, hex_bytes, two, two_in_list}
 use Rattle.toml_walk.specs.Values.{bounded_number}
+use Rattle.toml_walk.specs.Walk.{Text, Reader, place, is_known, key_names, unknown_in, only_known, required_value}
+use Rattle.toml_walk.specs.Walk.{optional, table, data_list, values_of, is_past, within_span, each, list}
+use Rattle.toml_walk.specs.Walk.{count_between, any_number, given_value as walk_given}
 use Rattle.toml_walk.specs.declared.fault.PlanFault.TheVariants.{Missing, Kind, Range}
 use Rattle.std.specs.Option.{option_and_then}
 use Rattle.std.specs.Prelude.{if◌then◌else◌, pos, negsuc}
@@ -141,17 +141,17 @@ greater : (a b n : ℕ) → a ≤ n → b ≤ n → max a b ≤ n
 greater a b n h k = omega (arith, h, k)
 
 each_deep : {A : Type 0} (n : ℕ) (one : Reader A) → Deep n one → (path : Text) (i : ℕ) (ds : Items) (xs : List A)
-    → items_are_sorted ds ≡ true → each one path i (list_of ds) ≡ Ok xs → items_depth ds ≤ n
+    → items_are_sorted ds ≡ true → each one path i (data_list ds) ≡ Ok xs → items_depth ds ≤ n
 each_deep n one h path i no_items xs s e = omega arith
 each_deep n one h path i (item d ds) xs s e =
     let parts = and_parts (is_sorted d) (items_are_sorted ds) s in
     let a = first (one (place path i) d) _ xs e in
-    let b = first (each one path (i + 1) (list_of ds)) _ xs a.2 in
+    let b = first (each one path (i + 1) (data_list ds)) _ xs a.2 in
     greater (depth d) (items_depth ds) n (h (place path i) d a.0 parts.0 a.1)
     (each_deep n one h path (i + 1) ds b.0 parts.1 b.1)
 
 array_of : (path : Text) (d : Data) (ds : List Data) → values_of path d ≡ Ok ds → (items : Items) × (d ≡ array items)
-    × (list_of items ≡ ds)
+    × (data_list items ≡ ds)
 array_of path (string x) ds e = absurd cc
 array_of path (integer x) ds e = absurd cc
 array_of path (float x) ds e = absurd cc
@@ -173,14 +173,14 @@ list_deep n span one h path d x s e =
     let b = first (within_span span path a.0) _ x a.2 in
     let same : a.0 ≡ b.0 = same_count (is_past span.most (length a.0))
     (nat_lt (length a.0) span.least || (not span.allowed && nat_lt 0 (length a.0))) _ _ a.0 b.0 b.1 in
-    let read : each one path 0 (list_of items) ≡ Ok x = subst (λ (cs : List Data). each one path 0 cs ≡ Ok x)
+    let read : each one path 0 (data_list items) ≡ Ok x = subst (λ (cs : List Data). each one path 0 cs ≡ Ok x)
     (sym (those ∙ same)) b.2 in
     let sorted : items_are_sorted items ≡ true = subst (λ (z : Data). is_sorted z ≡ true) is s in
     let few = each_deep n one h path 0 items x sorted read in
     subst (λ (z : Data). depth z ≤ suc n) (sym is) (omega (arith, few))
 
 two_items : (allowed : Bool) (one last : Bounds) (path : Text) (items : Items) (x : ℕ × ℕ) → items_are_sorted items
-    ≡ true → two_in allowed one last path (list_of items) ≡ Ok x → items_depth items ≤ 0
+    ≡ true → two_in_list allowed one last path (data_list items) ≡ Ok x → items_depth items ≤ 0
 two_items allowed one last path no_items x s e = absurd cc
 two_items allowed one last path (item d no_items) x s e = absurd cc
 two_items true one last path (item d (item f no_items)) x s e =
@@ -197,8 +197,8 @@ two_deep : (allowed : Bool) (one last : Bounds) → Deep 1 (two allowed one last
 two_deep allowed one last path d x s e =
     let a = first (values_of path d) _ x e in
     let (items, is, those) = array_of path d a.0 a.1 in
-    let read : two_in allowed one last path (list_of items) ≡ Ok x = subst
-    (λ (cs : List Data). two_in allowed one last path cs ≡ Ok x) (sym those) a.2 in
+    let read : two_in_list allowed one last path (data_list items) ≡ Ok x = subst
+    (λ (cs : List Data). two_in_list allowed one last path cs ≡ Ok x) (sym those) a.2 in
     let sorted : items_are_sorted items ≡ true = subst (λ (z : Data). is_sorted z ≡ true) is s in
     let few = two_items allowed one last path items x sorted read in
     subst (λ (z : Data). depth z ≤ 1) (sym is) (omega (arith, few))
@@ -551,9 +551,8 @@ two_read : (t : Text) (o : Option Data) → (or_fault o (Missing (t ++ codes "ve
 two_read t None e = absurd cc
 two_read t (Some d) e = by (as_integer d) e
   where
-    by : (z : Option ℤ) →
-        (or_fault z (Kind (t ++ codes "version")) >>= bounded_number (within 1 2) (t ++ codes "version"))
-        ≡ Ok 2
+    by : (z : Option ℤ)
+        → (or_fault z (Kind (t ++ codes "version")) >>= bounded_number (within 1 2) (t ++ codes "version")) ≡ Ok 2
         → is_two z ≡ true
     by None e = absurd cc
     by (Some (pos n)) e = two n (admits (within 1 2) n) e

@@ -126,9 +126,8 @@ pub record LinkHolds (l : LinkDraft) : Type 0 where
   pub hop_classes : IfSome l.hop_classes (All (λ c. c ≤ 7))
 
 classes_hold : (path : Text) (d : Data) → Holds (All (λ c. c ≤ 7)) (list any_number (number (within 0 7)) path d)
-classes_hold path d =
-    weaker (Listed any_number (Upto 7)) _ _ (list_holds _ (Upto 7) (number (within 0 7)) (upto 7) path d)
-    (λ xs l. l.each)
+classes_hold path d = weaker (Listed any_number (Upto 7)) _ _
+    (list_holds _ (Upto 7) (number (within 0 7)) (upto 7) path d) (λ xs l. l.each)
 
 nonces_hold : (path : Text) (d : Data) → Holds (λ xs. (length xs ≤ 1024) × All IsKey xs)
     (list (count_between 0 1024) key_bytes path d)

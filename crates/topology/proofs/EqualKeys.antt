@@ -8,7 +8,7 @@ use Rattle.std.specs.Cmp.Lexicographic.{slice_cmp}
 use Rattle.std.specs.List.{position_from}
 use Rattle.std.specs.Ordering.{nat_cmp}
 use Rattle.std.specs.Str.{bytes_eq}
-use Rattle.topology.specs.Rules.{pair_or, pair_from}
+use Rattle.topology.specs.Rules.{pair_or_next, pair_from}
 
 -- of the keys from place i on, the least pair was found, and the map has the first place of each
 pub record Looked (keys : List (List ℕ)) (places : BTreeMap (List ℕ) ℕ) (pair : Option (ℕ × ℕ)) (i : ℕ) : Type 0 where
@@ -20,7 +20,7 @@ pub record Looked (keys : List (List ℕ)) (places : BTreeMap (List ℕ) ℕ) (p
 pub looked_more : (keys : List (List ℕ)) (m n : BTreeMap (List ℕ) ℕ) (pair : Option (ℕ × ℕ)) (old : Option ℕ) (i : ℕ)
     → 0 < i → Looked keys m pair i → old ≡ get (slice_cmp nat_cmp) m (get_or keys (i - 1) [])
     → Updates (slice_cmp nat_cmp) m n (get_or keys (i - 1) []) (Some (i - 1))
-    → Looked keys n (pair_or (i - 1) old pair) (i - 1)
+    → Looked keys n (pair_or_next (i - 1) old pair) (i - 1)
 looked_more keys m n pair old i some h e u =
     let lt : i - 1 < length keys = omega (arith, h.within) in
     let next : suc (i - 1) ≡ i = omega arith in

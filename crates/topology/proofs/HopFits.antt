@@ -11,7 +11,7 @@ use Rattle.std.proofs.lemmas.Option.{slice_get-get_or, slice_get-map}
 use Rattle.ide_types.specs.declared.stream.StreamPlan.{StreamPlan}
 use Rattle.ide_types.specs.declared.plan.PeerPlan.{PeerPlan}
 use Rattle.ide_types.specs.Plans.{has_stream_id, lists_class, hop_has_id, link_has_id, links_have_id}
-use Rattle.ide_types.specs.Fits.{FitsHopIf, FitsPeer}
+use Rattle.ide_types.specs.Fits.{FitsHopIfAny, FitsPeer}
 use Rattle.topology.specs.declared.draft.LinkDraft.{LinkDraft}
 use Rattle.topology.specs.Rules.{link_has, draft_streams, is_peer_with_id, refused_class, classes_apart}
 use Rattle.topology.specs.Meaning.{hop_of, link_of}
@@ -71,7 +71,7 @@ classes_small (Some classes) h = h
 
 pub hop_fits : (peers : List PeerPlan) (link : ℕ) (streams : List StreamPlan) (hop : Option ℕ)
     (classes : Option (List ℕ)) → IfSome hop (Upto 255) → IfSome classes (All (λ c. c ≤ 7))
-    → ((id : ℕ) → hop ≡ Some id → HopRuled peers link streams id classes) → FitsHopIf streams (hop_of hop classes)
+    → ((id : ℕ) → hop ≡ Some id → HopRuled peers link streams id classes) → FitsHopIfAny streams (hop_of hop classes)
 hop_fits peers link streams None classes h c r = tt
 hop_fits peers link streams (Some id) classes h c r =
     let ruled = r id refl in
@@ -117,8 +117,7 @@ no_id links link id (Some l) is own other = rw (own, hop_other l.hop l.hop_class
 pub links_have_not : (links : List LinkDraft) (link id : ℕ) → link_has links link id ≡ false
     → ((l : LinkDraft) → slice_get links link ≡ Some l → (n : ℕ) → l.hop ≡ Some n → n ≢ id)
     → links_have_id (map link_of links) link id ≡ false
-links_have_not links link id own other =
-    subst (λ o. link_has_id o id ≡ false) (sym (slice_get-map link_of links link))
+links_have_not links link id own other = subst (λ o. link_has_id o id ≡ false) (sym (slice_get-map link_of links link))
     (no_id links link id (slice_get links link) refl own other)
 
 true_false : true ≡ false → ⊥

@@ -71,8 +71,7 @@ top_known false k h = or_right _ _ h
 
 known_is : (ms : Members) → Carries Same (only_known [] (top_names (is_newer ms)) ms)
     (only_known [] (top_names (is_newer (migrated_members ms))) (migrated_members ms))
-known_is ms =
-    rw (newer_is ms, same_unknown (top_names true) (codes "version") (integer (pos 2)) ms refl)
+known_is ms = rw (newer_is ms, same_unknown (top_names true) (codes "version") (integer (pos 2)) ms refl)
     (more_known (top_names (is_newer ms)) (top_names true) [] ms (top_known (is_newer ms)))
 
 version_is : (ms : Members) → Carries (λ (v w : ℕ). w ≡ 2)

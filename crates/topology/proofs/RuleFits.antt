@@ -17,10 +17,10 @@ use Rattle.toml_walk.specs.Walk.{Text, place}
 use Rattle.topology.specs.declared.draft.InterfaceDraft.{InterfaceDraft}
 use Rattle.topology.specs.declared.draft.LinkDraft.{LinkDraft}
 use Rattle.topology.specs.declared.draft.PlanDraft.{PlanDraft}
-use Rattle.topology.specs.Rules.{pair_or, pair_from, refused_pair, no_clash, at_most, in_sixes, same_requester}
+use Rattle.topology.specs.Rules.{pair_or_next, pair_from, refused_pair, no_clash, at_most, in_sixes, same_requester}
 use Rattle.topology.specs.Rules.{is_bound, each_bound, link_rules, each_link, interface_count, allowed_or_range}
 use Rattle.topology.specs.Rules.{link_has, peer_rules, each_peer, is_peer_with_id, is_hop_taken, classes_apart}
-use Rattle.topology.specs.Rules.{hop_rules_of, hop_rules, each_hop, rules}
+use Rattle.topology.specs.Rules.{hop_rules_of_fields, hop_rules, each_hop, rules}
 
 -- both steps gave a value
 pub steps : {B : Type 0} (r : Result (Unit {0}) PlanFault) (f : Unit {0} → Result B PlanFault) (y : B) → (r >>= f)
@@ -33,7 +33,7 @@ tested : {B : Type 0} (b : Bool) (r : Result B PlanFault) (f : PlanFault) (y : B
 tested true r f y e = (refl, e)
 tested false r f y e = cc
 
-no_later : (i : ℕ) (o : Option ℕ) (later : Option (ℕ × ℕ)) → pair_or i o later ≡ None → (o ≡ None) × (later ≡ None)
+no_later : (i : ℕ) (o : Option ℕ) (later : Option (ℕ × ℕ)) → pair_or_next i o later ≡ None → (o ≡ None) × (later ≡ None)
 no_later i None later e = (refl, e)
 no_later i (Some j) later e = cc
 
@@ -66,8 +66,7 @@ map_itself {A} (x ∷ xs) = ap (λ (ys : List A). x ∷ ys) (map_itself xs)
 -- no two elements clash
 pub clash_free : {A : Type 0} (path : Text) (clash : A → A → Bool) (xs : List A) → no_clash path clash xs ≡ Ok tt
     → AllPairs (λ a b. clash a b ≡ false) xs
-clash_free path clash xs e =
-    rw (map_itself xs) at
+clash_free path clash xs e = rw (map_itself xs) at
     (apart clash (λ a b. clash a b ≡ false) (λ x. x) (λ a b h. h) 0 xs (no_pair path (pair_from clash 0 xs) e))
 
 -- nor do what they are mapped to
@@ -196,8 +195,8 @@ hop_ruled : (path : Text) (peers : List PeerPlan) (link : ℕ) (l : LinkDraft) �
     → HopIsRuled peers link l
 unfolding hop_rules
 hop_ruled path peers link l e id is =
-    let ruled : hop_rules_of path peers link l.streams (Some id) l.hop_classes
-    ≡ Ok tt = subst (λ o. hop_rules_of path peers link l.streams o l.hop_classes ≡ Ok tt) is e in
+    let ruled : hop_rules_of_fields path peers link l.streams (Some id) l.hop_classes
+    ≡ Ok tt = subst (λ o. hop_rules_of_fields path peers link l.streams o l.hop_classes ≡ Ok tt) is e in
     let a = steps (allowed_or_range (path ++ codes ".hop") id (not (is_hop_taken peers link l.streams id))) _ tt ruled
     in
     let new = or_parts _ _ (not_true _ (allowed_is (path ++ codes ".hop") id _ a.0)) in

@@ -65,8 +65,7 @@ ranges_hold allowed path d =
 
 classes_hold : (allowed : Bool) (path : Text) (d : Data) → Holds (All (λ c. c ≤ 7))
     (list (only_if allowed any_number) (number (within 0 7)) path d)
-classes_hold allowed path d =
-    weaker (Listed (only_if allowed any_number) (Upto 7)) _ _
+classes_hold allowed path d = weaker (Listed (only_if allowed any_number) (Upto 7)) _ _
     (list_holds _ (Upto 7) (number (within 0 7)) (upto 7) path d) (λ xs l. l.each)
 
 -- key by key, as the keys are read; the kind says which lists may have elements

@@ -17,14 +17,14 @@ use Rattle.topology.specs.declared.draft.LinkDraft.{LinkDraft}
 use Rattle.topology.specs.declared.draft.PlanDraft.{PlanDraft}
 
 -- the pair of a place and a later one if there is a later one, else a later pair
-abbrev pub pair_or : ℕ → Option ℕ → Option (ℕ × ℕ) → Option (ℕ × ℕ)
-pair_or i (Some j) later = Some (i, j)
-pair_or i None later = later
+abbrev pub pair_or_next : ℕ → Option ℕ → Option (ℕ × ℕ) → Option (ℕ × ℕ)
+pair_or_next i (Some j) later = Some (i, j)
+pair_or_next i None later = later
 
 -- the least pair of places of elements that clash, the first place first; places count from i on
 abbrev pub pair_from : {A : Type 0} → (A → A → Bool) → ℕ → List A → Option (ℕ × ℕ)
 pair_from clash i [] = None
-pair_from clash i (x ∷ xs) = pair_or i (position_from (clash x) (i + 1) xs) (pair_from clash (i + 1) xs)
+pair_from clash i (x ∷ xs) = pair_or_next i (position_from (clash x) (i + 1) xs) (pair_from clash (i + 1) xs)
 
 abbrev pub refused_pair : Text → Option (ℕ × ℕ) → Result (Unit {0}) PlanFault
 refused_pair path None = Ok tt
@@ -129,17 +129,17 @@ abbrev pub classes_apart : Text → List StreamPlan → Option (List ℕ) → Re
 classes_apart path streams None = Ok tt
 classes_apart path streams (Some classes) = refused_class path (find (lists_class streams) classes)
 
-abbrev pub hop_rules_of : Text → List PeerPlan → ℕ → List StreamPlan → Option ℕ → Option (List ℕ)
+abbrev pub hop_rules_of_fields : Text → List PeerPlan → ℕ → List StreamPlan → Option ℕ → Option (List ℕ)
     → Result (Unit {0}) PlanFault
-hop_rules_of path peers link streams None None = Ok tt
-hop_rules_of path peers link streams None (Some classes) = Err (Missing (path ++ codes ".hop"))
-hop_rules_of path peers link streams (Some id) classes = do
+hop_rules_of_fields path peers link streams None None = Ok tt
+hop_rules_of_fields path peers link streams None (Some classes) = Err (Missing (path ++ codes ".hop"))
+hop_rules_of_fields path peers link streams (Some id) classes = do
   _ ← allowed_or_range (path ++ codes ".hop") id (not (is_hop_taken peers link streams id))
   classes_apart (path ++ codes ".hop_tcs") streams classes
 
 -- the hop of a link: classes do not stand alone, the ID is new, and no class is one of a stream's
 unfoldable pub hop_rules : Text → List PeerPlan → ℕ → LinkDraft → Result (Unit {0}) PlanFault
-hop_rules path peers link l = hop_rules_of path peers link l.streams l.hop l.hop_classes
+hop_rules path peers link l = hop_rules_of_fields path peers link l.streams l.hop l.hop_classes
 
 -- the hops of each link from place i on
 abbrev pub each_hop : List PeerPlan → ℕ → List LinkDraft → Result (Unit {0}) PlanFault

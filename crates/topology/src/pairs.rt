@@ -24,7 +24,12 @@ pub(crate) trait Clash {
 }
 
 // The place of the first element that may not stand beside one, the places counted from `from` on.
-fn clash_from<C: Clash>(clash: &C, one: &C::Item, from: usize, items: &[C::Item]) -> Option<usize>
+fn clash_from_place<C: Clash>(
+    clash: &C,
+    one: &C::Item,
+    from: usize,
+    items: &[C::Item],
+) -> Option<usize>
     requires { from + length items.now < 2 ^ 64 }
     ensures { result ≡ position_from (C.clashes clash.now one.now) from items.now }
 {
@@ -41,7 +46,7 @@ pub(crate) fn first_pair<C: Clash>(clash: &C, items: &[C::Item]) -> Option<(usiz
     ensures { result ≡ pair_from (C.clashes clash.now) 0 items.now }
 {
     for (i, one) in items.iter().enumerate() {
-        if let Some(j) = clash_from(clash, one, i + 1, &items[i + 1..]) {
+        if let Some(j) = clash_from_place(clash, one, i + 1, &items[i + 1..]) {
             return Some((i, j));
         }
     }

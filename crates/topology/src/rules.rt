@@ -8,7 +8,7 @@ ghost use Rattle.toml_walk.specs.declared.fault.PlanFault.TheVariants.{Limit};
 ghost use Rattle.ide_types.specs.Plans.{interface_limit, is_selective, has_stream_id, lists_class};
 ghost use Rattle.topology.specs.Rules.{refused_pair, no_clash, in_sixes, is_id, is_bound, each_bound, link_rules};
 ghost use Rattle.topology.specs.Rules.{each_link, interface_count, allowed_or_range, link_has, is_id_taken, peer_rules};
-ghost use Rattle.topology.specs.Rules.{each_peer, is_peer_with_id, refused_class, classes_apart, hop_rules_of};
+ghost use Rattle.topology.specs.Rules.{each_peer, is_peer_with_id, refused_class, classes_apart, hop_rules_of_fields};
 ghost use Rattle.topology.specs.Rules.{hop_rules, each_hop, rules};
 
 use crate::draft::{InterfaceDraft, LinkDraft, PlanDraft};
@@ -61,7 +61,7 @@ fn check_keys(alloc: Global, pool: &[[u8; 32]]) -> Result<(), PlanError>
     refuse_pair(Bytes::copied(alloc, b"pool")?, equal_keys(alloc, pool)?)
 }
 
-fn is_selective_of(stream: &StreamPlan, number: i64) -> bool
+fn is_selective_stream(stream: &StreamPlan, number: i64) -> bool
     ensures { result ≡ (is_selective stream.now.selector && is_id number stream.now.id) }
 {
     match &stream.selector {
@@ -73,7 +73,9 @@ fn is_selective_of(stream: &StreamPlan, number: i64) -> bool
 fn names_selective(streams: &[StreamPlan], number: i64) -> bool
     ensures { result ≡ is_bound streams.now number }
 {
-    streams.iter().any(|stream| is_selective_of(stream, number))
+    streams
+        .iter()
+        .any(|stream| is_selective_stream(stream, number))
 }
 
 // Each interface is bound to a selective stream of its link.
@@ -314,7 +316,7 @@ fn check_some_hop(
     id: u8,
 ) -> Result<(), PlanError>
     ensures { Gives (λ u. u) result
-        (hop_rules_of path.now peers.now link draft.now.streams (Some id) draft.now.hop_classes) }
+        (hop_rules_of_fields path.now peers.now link draft.now.streams (Some id) draft.now.hop_classes) }
 {
     let streams = draft.streams.as_slice();
     let taken = has_id(streams, id) || any_ends_with(peers, link, id);

@@ -45,8 +45,7 @@ pub cause_says : (regions : List Region) (s : Span) (t : Bool) (g : Grant)
     → is_applied (block_effect (block_cause regions s t g)) ≡
     ((t && is_on_bound g.stream g.draw g.bound) && is_placed regions s)
 cause_says regions s false g = refl
-cause_says regions s true g =
-    grant_says g.bound g.stream g.draw (place_cause regions s) (is_placed regions s)
+cause_says regions s true g = grant_says g.bound g.stream g.draw (place_cause regions s) (is_placed regions s)
     (placed_tests (in_one_region regions s.address (span_byte_count s)) (crosses s))
 
 pub some_if : (b : Bool) (w : Write) → b ≡ is_some (if b then Some w else None)

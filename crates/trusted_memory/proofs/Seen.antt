@@ -24,8 +24,7 @@ get_or-bytes_from f at (suc n) (suc k) less =
 -- a list of bytes is what its places say
 pub is_bytes_from : (f : ℕ → ℕ) (at : ℕ) (s : List ℕ) → ((k : ℕ) → k < length s → get_or s k 0 ≡ f (at + k)) → s
     ≡ bytes_from f at (length s)
-is_bytes_from f at s h =
-    ext_get_or 0 s (bytes_from f at (length s)) (sym (length-bytes_from f at (length s)))
+is_bytes_from f at s h = ext_get_or 0 s (bytes_from f at (length s)) (sym (length-bytes_from f at (length s)))
     (λ k less. h k less ∙ sym (get_or-bytes_from f at (length s) k less))
 
 pub bytes_from-zero : (at n : ℕ) → bytes_from (λ _. 0) at n ≡ replicate n 0

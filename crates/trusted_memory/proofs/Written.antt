@@ -105,8 +105,7 @@ pub record PutsPage (n : ℕ) (new : List ℕ) (es es' : List (ℕ × List ℕ))
 -- what is found at a page then
 found : (n q : ℕ) (b : Bool) (new : List ℕ) (es es' : List (ℕ × List ℕ)) → PutsPage n new es es' → eqb n q ≡ b
     → lookup (eqb q) es' ≡ cond b (Some new) (lookup (eqb q) es)
-found n q b new es es' puts e =
-    puts.at q ∙ ap (λ (t : Bool). cond t (Some new) (lookup (eqb q) es)) e
+found n q b new es es' puts e = puts.at q ∙ ap (λ (t : Bool). cond t (Some new) (lookup (eqb q) es)) e
 
 page_bytes-put : (n q : ℕ) (new : List ℕ) (es es' : List (ℕ × List ℕ)) → PutsPage n new es es' → page_bytes es' q
     ≡ cond (eqb n q) new (page_bytes es q)
@@ -195,9 +194,8 @@ has_page-lookup rs es spare n = sym (is_some-lookup (eqb n) es)
 
 pub has_page-same : (rs : List Region) (es es' : List (ℕ × List ℕ)) (spare spare' : ℕ) → SamePages es es' → (n : ℕ)
     → has_page (memory_seen rs es' spare') n ≡ has_page (memory_seen rs es spare) n
-has_page-same rs es es' spare spare' same n =
-    has_page-lookup rs es' spare' n ∙ ap (λ (o : Option (List ℕ)). is_some o) (same n) ∙ sym
-    (has_page-lookup rs es spare n)
+has_page-same rs es es' spare spare' same n = has_page-lookup rs es' spare' n
+    ∙ ap (λ (o : Option (List ℕ)). is_some o) (same n) ∙ sym (has_page-lookup rs es spare n)
 
 pub has_page-put : (rs : List Region) (es es' : List (ℕ × List ℕ)) (spare spare' n : ℕ) (new : List ℕ)
     → PutsPage n new es es' → (q : ℕ)

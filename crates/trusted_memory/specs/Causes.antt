@@ -29,8 +29,7 @@ place_cause regions s =
 -- T is clear; else what the grant says; else where the bytes lie
 abbrev pub block_cause : List Region → Span → Bool → Grant → Option BlockCause
 block_cause regions s false grant = Some NotTrusted
-block_cause regions s true grant =
-    option_or (grant_cause grant.bound grant.stream grant.draw) (place_cause regions s)
+block_cause regions s true grant = option_or (grant_cause grant.bound grant.stream grant.draw) (place_cause regions s)
 
 -- ---- effects
 

@@ -49,8 +49,7 @@ lower_address s = (s.address + first_or (first_and_last (enabled_places s)) 0) %
 
 -- the bytes that the read names: those that it enables as they stand in memory, and 0 for the others
 abbrev pub read_bytes : (ℕ → ℕ) → Span → List ℕ
-read_bytes byte s =
-    map (λ i. if is_enabled s i then byte (s.address + i) else 0) (range_with_len 0 (span_byte_count s))
+read_bytes byte s = map (λ i. if is_enabled s i then byte (s.address + i) else 0) (range_with_len 0 (span_byte_count s))
 
 -- Length counts double words, and 0 stands for 1024
 abbrev pub completion_head : MemReadView → HeadView

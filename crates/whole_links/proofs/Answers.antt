@@ -30,7 +30,7 @@ use Rattle.all_links.specs.{port_in, LinkEnds, EndsView, AreLinks, port_on}
 use Rattle.all_links.proofs.{find_at, port_is, wired}
 use Rattle.all_links.specs.declared.links.Links.{Links}
 use Rattle.all_links.specs.States.{links_state}
-use Rattle.all_links.specs.Links.{Ends, EndsIf, EndsSending, EndsSendingOr}
+use Rattle.all_links.specs.Links.{Ends, EndsIfSo, EndsSending, EndsSendingOrStays}
 use Rattle.all_links.specs.Accesses.{reads_at, sizes_at, mmio_at}
 use Rattle.trusted_memory.specs.{bytes_from}
 use Rattle.guarded_memory.specs.Contents.{has_bytes}
@@ -39,7 +39,7 @@ use Rattle.all_links.proofs.Finds.{nothing_changes}
 use Rattle.whole_links.specs.declared.whole.WholeLinks.{WholeLinks}
 use Rattle.whole_links.specs.Besides.{reply_at_ends, link_reply, draw_below, shown_mmio, place_named, has_shown}
 use Rattle.whole_links.specs.Besides.{bytes_shown}
-use Rattle.whole_links.specs.Whole.{IsBoundedWhole, WholeEnds, WholeEndsOr}
+use Rattle.whole_links.specs.Whole.{IsBoundedWhole, WholeEnds, WholeEndsOrStays}
 use Rattle.whole_links.proofs.Ends.{ends_if, stays_with}
 
 -- ---- the host's end of a link
@@ -149,7 +149,7 @@ sent_as_answer : {verdict : Verdict} (plan : Plan) (old new : WholeLinks) (link 
     (l : LinkEnds) → slice_get old.links.ends.links link ≡ Some l
     → draw_below (sealing_draw_in l.host r.bound.stream Cpl) r.bound.floor ≡ None
     → EndsSending plan verdict old.links new.links (port_at Host link) r.bytes false true
-    → EndsIf (λ b. b.reply link ≡ Ok r) plan verdict old.links new.links (Access (ae.Answer link))
+    → EndsIfSo (λ b. b.reply link ≡ Ok r) plan verdict old.links new.links (Access (ae.Answer link))
 sent_as_answer {verdict} plan old new link r l l_is below x = record {
   counted = x.counted;
   bounded = x.bounded;
@@ -171,11 +171,11 @@ sent_as_answer {verdict} plan old new link r l l_is below x = record {
 pub answer_sent_or : (plan : Plan) (r : Result Verdict OutOfMemory) (old new : WholeLinks) (link : ℕ)
     (reply : BoundCompletion) (l : LinkEnds) → link_reply old link ≡ Ok reply → slice_get old.links.ends.links link
     ≡ Some l → draw_below (sealing_draw_in l.host reply.bound.stream Cpl) reply.bound.floor ≡ None
-    → EndsSendingOr plan r old.links new.links (port_at Host link) reply.bytes false true → new.accesses ≡ old.accesses
-    → IsBoundedWhole old → WholeEndsOr plan r old new (Access (ae.Answer link))
-answer_sent_or plan (Ok verdict) old new link reply l due l_is below x same bounded =
-    ends_if plan (sent_as_answer plan old new link reply l l_is below x) bounded.whole (ap length same)
-    (λ answer by regions. due)
+    → EndsSendingOrStays plan r old.links new.links (port_at Host link) reply.bytes false true → new.accesses
+    ≡ old.accesses
+    → IsBoundedWhole old → WholeEndsOrStays plan r old new (Access (ae.Answer link))
+answer_sent_or plan (Ok verdict) old new link reply l due l_is below x same bounded = ends_if plan
+    (sent_as_answer plan old new link reply l l_is below x) bounded.whole (ap length same) (λ answer by regions. due)
 answer_sent_or plan (Err e) old new link reply l due l_is below x same bounded = stays_with x same
 
 -- ---- on no link

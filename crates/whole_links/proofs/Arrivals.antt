@@ -13,7 +13,7 @@ use Rattle.spec_keys.specs.History.{History}
 use Rattle.spec_links.specs.History.{ArrivedBytes}
 use Rattle.spec_links.specs.Packets.{arrival_at}
 use Rattle.spec_links.specs.Plan.{has_port, partner}
-use Rattle.spec_links.specs.Guarded.{happens_by}
+use Rattle.spec_links.specs.Guarded.{happens_by_packets}
 use Rattle.machine_ports.specs.Machine.{BesidePorts, LinkPacket, LinkState, Stepped, altered_to, brought_to, cut_short}
 use Rattle.machine_ports.specs.Machine.{packet_numbered, stepped_arrival}
 unfoldable use Rattle.machine_ports.specs.Machine.{step_of}
@@ -27,7 +27,7 @@ use Rattle.all_links.specs.BesideAfter.{BesideBytes}
 use Rattle.all_links.specs.States.{links_state}
 use Rattle.all_links.specs.declared.links.Links.{Links}
 use Rattle.all_links.proofs.{sealed_there}
-use Rattle.whole_links.specs.Accesses.{AccessesArriveAt}
+use Rattle.whole_links.specs.Accesses.{AccessesArriveInState}
 use Rattle.whole_links.specs.Besides.{beside_whole}
 use Rattle.whole_links.specs.Packets.{altered_bytes, bytes_left, packet_event, incoming_event, passed_on}
 use Rattle.whole_links.specs.Packets.{incoming_bytes}
@@ -114,17 +114,15 @@ module _ (plan : Plan) (st : LinkState) where
 
   incoming_step : (i : Incoming) (b : BesidePorts) → step_of plan b st (incoming_event i)
       ≡ stepped_arrival plan b st (arrival_by plan (incoming_bytes plan st.packets i))
-  incoming_step (Given port bytes) b =
-      given_step port bytes.now b
+  incoming_step (Given port bytes) b = given_step port bytes.now b
       ∙ ap (λ (a : Option ArrivedBytes). stepped_arrival plan b st a) (incoming_arrival (Given port bytes))
   incoming_step (Sent n p) b =
       packet_step n p b ∙ ap (λ (a : Option ArrivedBytes). stepped_arrival plan b st a) (incoming_arrival (Sent n p))
 
   pub nothing_brought : (i : Incoming) → None ≡ incoming_bytes plan st.packets i → (b : BesidePorts)
       → step_of plan b st (incoming_event i) ≡ (v.Nothing, st)
-  nothing_brought i none b =
-      incoming_step i b
-      ∙ ap (λ (o : Option LinkPacket). stepped_arrival plan b st (arrival_by plan o)) (sym none)
+  nothing_brought i none b = incoming_step i b ∙ ap
+      (λ (o : Option LinkPacket). stepped_arrival plan b st (arrival_by plan o)) (sym none)
 
 incoming_quiet : (plan : Plan) (i : Incoming) → IsQuiet plan (incoming_event i)
 incoming_quiet plan (Given port bytes) = λ w k. refl
@@ -135,8 +133,7 @@ incoming_quiet plan (Sent n (Cut len)) = λ w k. refl
 -- the port is one of the plan
 port_given : (plan : Plan) (port : PortName) (bytes : List ℕ) (b : Bool) (x : LinkPacket) → has_port plan port ≡ b
     → Some x ≡ (if b then Some (record { port = port; bytes = bytes }) else None) → has_port plan x.port ≡ true
-port_given plan port bytes true x has is =
-    ap (λ (y : LinkPacket). has_port plan y.port) (same_Some x _ is) ∙ has
+port_given plan port bytes true x has is = ap (λ (y : LinkPacket). has_port plan y.port) (same_Some x _ is) ∙ has
 port_given plan port bytes false x has is = absurd (none-some x (sym is))
 
 -- what is passed on comes from a packet
@@ -225,7 +222,7 @@ module _ (plan : Plan) (old : WholeLinks) (e : Event) (end : PortName) (bytes : 
           (sym brought.arrival) (on.leads regions);
     }
 
-    pub arrived_accesses : AccessesArriveAt plan e verdict old after
+    pub arrived_accesses : AccessesArriveInState plan e verdict old after
     arrived_accesses = record {
       many = lands.accesses_many;
       turn = λ h links stands.
@@ -233,7 +230,8 @@ module _ (plan : Plan) (old : WholeLinks) (e : Event) (end : PortName) (bytes : 
           (brought.has h links stands) in
           subst (λ (a : Option ArrivedBytes). let ps = unit_in plan (links_state plan old.links) a in
           AccessesTurn (waiting_reads_after plan ps e verdict) same_floors
-          (λ link. happens_by plan (policy_in old.links.keeper.interfaces old.links.ends old.accesses).statuses ps e
+          (λ link. happens_by_packets plan (policy_in old.links.keeper.interfaces old.links.ends old.accesses).statuses
+          ps e
           verdict link)
           (carried_next (unit_tlps plan ps verdict) e verdict) old.accesses ys)
           (sym brought.arrival) (on.turn e brought.quiet);

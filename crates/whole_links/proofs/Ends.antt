@@ -16,14 +16,14 @@ use Rattle.all_links.proofs.Finds.{nothing_changes}
 use Rattle.all_links.specs.{IsBounded}
 use Rattle.all_links.specs.declared.links.Links.{Links}
 use Rattle.all_links.specs.States.{links_state}
-use Rattle.all_links.specs.Links.{Ends, EndsIf, EndsWith, EndsAs, EndsAsOr, Stays}
+use Rattle.all_links.specs.Links.{Ends, EndsIfSo, EndsIfAnswered, EndsOrHasNone, EndsOrHasNoneOrStays, Stays}
 use Rattle.all_links.specs.Accesses.{AccessesStay}
 use Rattle.link_stores.specs.declared.link.LinkAccesses.{LinkAccesses}
 use Rattle.join_ends.proofs.Turns.{stays_all}
 use Rattle.whole_links.specs.declared.whole.WholeLinks.{WholeLinks}
 use Rattle.whole_links.specs.Besides.{beside_whole}
-use Rattle.whole_links.specs.Whole.{HasAllAccesses, IsBoundedWhole, IsSaid, WholeEnds, WholeStays, WholeEndsAs}
-use Rattle.whole_links.specs.Whole.{WholeEndsAsOr}
+use Rattle.whole_links.specs.Whole.{HasAllAccesses, IsBoundedWhole, IsSaid, WholeEnds, WholeStays, WholeEndsOrHasNone}
+use Rattle.whole_links.specs.Whole.{WholeEndsOrHasNoneOrStays}
 
 -- what is said of every plan may be taken of this one
 pub any_plan : Plan
@@ -31,13 +31,13 @@ any_plan = record { version = 0; portion = 0; units_per_key = 0; pool = []; link
 
 -- an event that the links bound leaves all of it bounded
 pub bounded_with : {verdict : Verdict} {event : Event} (old : WholeLinks) (mid : Links)
-    → EndsWith any_plan verdict old.links mid event → HasAllAccesses old
+    → EndsIfAnswered any_plan verdict old.links mid event → HasAllAccesses old
     → IsBoundedWhole (record { links = mid; accesses = old.accesses })
 bounded_with old mid x whole = record { bounded = x.bounded; whole = whole ∙ sym x.many }
 
 -- what is said beside the ports is so
 pub ends_if : {IsSo : BesidePorts → Type 0} {verdict : Verdict} {old new : WholeLinks} {event : Event} (plan : Plan)
-    → EndsIf IsSo plan verdict old.links new.links event → HasAllAccesses old → length new.accesses
+    → EndsIfSo IsSo plan verdict old.links new.links event → HasAllAccesses old → length new.accesses
     ≡ length old.accesses
     → ((answer : InterfaceEvent → Verdict) → IsSaid answer old event → old.links.trusted.contents.regions ≡ plan.memory
     → IsSo (beside_whole plan old answer)) → WholeEnds plan verdict old new event
@@ -50,24 +50,24 @@ ends_if {IsSo} {verdict} {old} {new} {event} plan x whole many so = record {
 }
 
 pub ends_with : {verdict : Verdict} {old new : WholeLinks} {event : Event} (plan : Plan)
-    → EndsWith plan verdict old.links new.links event → HasAllAccesses old → new.accesses ≡ old.accesses
+    → EndsIfAnswered plan verdict old.links new.links event → HasAllAccesses old → new.accesses ≡ old.accesses
     → WholeEnds plan verdict old new event
 ends_with plan x whole same = ends_if plan x whole (ap length same) (λ answer by regions. by)
 
 -- an event, and how it is spelled
 pub ends_of : {verdict : Verdict} {event : Event} (plan : Plan) (old new : WholeLinks) (e : Event) (mid : Links)
-    → event ≡ e → EndsWith plan verdict old.links mid e → HasAllAccesses old → new.links ≡ mid
+    → event ≡ e → EndsIfAnswered plan verdict old.links mid e → HasAllAccesses old → new.links ≡ mid
     → new.accesses ≡ old.accesses → WholeEnds plan verdict old new event
 ends_of {verdict} {event} plan old new e mid is x whole links same =
     subst (λ (v : Event). WholeEnds plan verdict old new v) (sym is)
-    (ends_with plan (subst (λ (s : Links). EndsWith plan verdict old.links s e) (sym links) x) whole same)
+    (ends_with plan (subst (λ (s : Links). EndsIfAnswered plan verdict old.links s e) (sym links) x) whole same)
 
 -- what is noted of accesses once the links have a verdict
 pub ends_noted : {verdict : Verdict} {event : Event} (plan : Plan) (old new : WholeLinks) (mid : Links)
-    → EndsWith plan verdict old.links mid event → IsBoundedWhole old → new.links ≡ mid
+    → EndsIfAnswered plan verdict old.links mid event → IsBoundedWhole old → new.links ≡ mid
     → length new.accesses ≡ length old.accesses → WholeEnds plan verdict old new event
 ends_noted {verdict} {event} plan old new mid x bounded same many =
-    ends_if plan (subst (λ (s : Links). EndsWith plan verdict old.links s event) (sym same) x) bounded.whole many
+    ends_if plan (subst (λ (s : Links). EndsIfAnswered plan verdict old.links s event) (sym same) x) bounded.whole many
     (λ answer by regions. by)
 
 pub whole_noted : {verdict : Verdict} {event : Event} (plan : Plan) (old mid new : WholeLinks)
@@ -89,8 +89,8 @@ whole_noted {verdict} {event} plan old mid new x same many = record {
 -- ---- a verdict, or none
 
 pub ends_as : (plan : Plan) (o : Option Verdict) (old new : WholeLinks) (event : Event)
-    → EndsAs plan o old.links new.links event → HasAllAccesses old → length new.accesses ≡ length old.accesses
-    → WholeEndsAs plan o old new event
+    → EndsOrHasNone plan o old.links new.links event → HasAllAccesses old → length new.accesses ≡ length old.accesses
+    → WholeEndsOrHasNone plan o old new event
 ends_as plan (Some verdict) old new event x whole many = ends_if plan x whole many (λ answer by regions. by)
 ends_as plan None old new event x whole many = x
 
@@ -102,16 +102,17 @@ stays_with {old} {new} x same = record {
 
 -- of an event on an interface, and how it is spelled
 pub ends_as_or : (plan : Plan) (r : Result (Option Verdict) OutOfMemory) (old new : WholeLinks)
-    (event e : InterfaceEvent) → event ≡ e → EndsAsOr plan r old.links new.links (Interface e) → HasAllAccesses old
-    → new.accesses ≡ old.accesses → WholeEndsAsOr plan r old new (Interface event)
+    (event e : InterfaceEvent) → event ≡ e → EndsOrHasNoneOrStays plan r old.links new.links (Interface e)
+    → HasAllAccesses old
+    → new.accesses ≡ old.accesses → WholeEndsOrHasNoneOrStays plan r old new (Interface event)
 ends_as_or plan (Ok o) old new event e is x whole same =
-    subst (λ (y : InterfaceEvent). WholeEndsAs plan o old new (Interface y)) (sym is)
+    subst (λ (y : InterfaceEvent). WholeEndsOrHasNone plan o old new (Interface y)) (sym is)
     (ends_as plan o old new (Interface e) x whole (ap length same))
 ends_as_or plan (Err memory) old new event e is x whole same = stays_with x same
 
 -- for want of memory
 pub err_stays : (plan : Plan) (r : Result (Option Verdict) OutOfMemory) (old new : WholeLinks) (event : Event) → IsErr r
-    → Stays old.links new.links → new.accesses ≡ old.accesses → WholeEndsAsOr plan r old new event
+    → Stays old.links new.links → new.accesses ≡ old.accesses → WholeEndsOrHasNoneOrStays plan r old new event
 err_stays plan (Ok o) old new event is x same = absurd (true≢false (sym is))
 err_stays plan (Err e) old new event is x same = stays_with x same
 

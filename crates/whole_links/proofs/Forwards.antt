@@ -27,13 +27,13 @@ use Rattle.machine_ports.specs.Forwards.{first_waiting}
 use Rattle.machine_ports.specs.Machine.{BesidePorts, LinkState, Stepped, stepped_forward}
 unfoldable use Rattle.machine_ports.specs.Machine.{step_of}
 use Rattle.all_links.specs.States.{links_state}
-use Rattle.all_links.specs.Links.{Ends, EndsIf, EndsSending, EndsSendingOr}
+use Rattle.all_links.specs.Links.{Ends, EndsIfSo, EndsSending, EndsSendingOrStays}
 use Rattle.all_links.specs.Accesses.{carried_on_link}
 use Rattle.all_links.specs.Besides.{beside_in}
 use Rattle.all_links.proofs.Finds.{nothing_changes}
 use Rattle.whole_links.specs.declared.whole.WholeLinks.{WholeLinks}
 use Rattle.whole_links.specs.Besides.{forward_in}
-use Rattle.whole_links.specs.Whole.{IsBoundedWhole, WholeEnds, WholeEndsOr}
+use Rattle.whole_links.specs.Whole.{IsBoundedWhole, WholeEnds, WholeEndsOrStays}
 use Rattle.whole_links.proofs.Ends.{ends_if, stays_with}
 
 -- ---- the ends of a hop
@@ -135,15 +135,14 @@ pub forward_empty : {verdict : Verdict} {old new : WholeLinks} (plan : Plan) (li
     → has_hop plan link ≡ true → carried_on_link old.accesses link d ≡ [] → verdict ≡ v.Access (av.Empty link)
     → new.links ≡ record old.links { steps = old.links.steps + 1 }
     → new.accesses ≡ old.accesses → IsBoundedWhole old → WholeEnds plan verdict old new (Forward link d)
-forward_empty {verdict} {old} {new} plan link d has none says is same bounded =
-    forward_only plan link d
+forward_empty {verdict} {old} {new} plan link d has none says is same bounded = forward_only plan link d
     (λ i. if has i then first_waiting link (none i) else Err v.Nothing) says is same bounded
 
 -- ---- the send
 
 sent_as_forward : {verdict : Verdict} (plan : Plan) (old new : WholeLinks) (link : ℕ) (d : Direction) (x : HopTlp)
     → has_hop plan link ≡ true → EndsSending plan verdict old.links new.links (leaving_end link d) x.bytes false x.t
-    → EndsIf (λ b. b.forward link d ≡ Ok x) plan verdict old.links new.links (Forward link d)
+    → EndsIfSo (λ b. b.forward link d ≡ Ok x) plan verdict old.links new.links (Forward link d)
 sent_as_forward {verdict} plan old new link d x has sent = record {
   counted = sent.counted;
   bounded = sent.bounded;
@@ -164,8 +163,8 @@ first_is link (y ∷ xs) x some is = ap (λ (z : HopTlp). Ok z) (sym is)
 pub forward_sent_or : (plan : Plan) (r : Result Verdict OutOfMemory) (old new : WholeLinks) (link : ℕ) (d : Direction)
     (x : HopTlp) → has_hop plan link ≡ true → 0 < length (carried_on_link old.accesses link d)
     → x ≡ slice_index_or (carried_on_link old.accesses link d) 0 x
-    → EndsSendingOr plan r old.links new.links (leaving_end link d) x.bytes false x.t
-    → new.accesses ≡ old.accesses → IsBoundedWhole old → WholeEndsOr plan r old new (Forward link d)
+    → EndsSendingOrStays plan r old.links new.links (leaving_end link d) x.bytes false x.t
+    → new.accesses ≡ old.accesses → IsBoundedWhole old → WholeEndsOrStays plan r old new (Forward link d)
 forward_sent_or plan (Ok verdict) old new link d x has some first sent same bounded =
     ends_if plan (sent_as_forward plan old new link d x has sent) bounded.whole (ap length same)
     (λ answer by regions.

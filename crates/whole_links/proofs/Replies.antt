@@ -10,7 +10,7 @@ use Rattle.tlp_layout.specs.declared.fault.TlpFault.{TlpFault}
 use Rattle.tlp_layout.specs.declared.head.HeadView.{HeadView}
 use Rattle.tlp_layout.specs.declared.tlp.Tlp.{Tlp}
 use Rattle.tlp_layout.specs.Tlp.{header}
-use Rattle.tlp_layout.specs.Reading.{read_of, IsTlpWith}
+use Rattle.tlp_layout.specs.Reading.{read_of, IsTlpWithHead}
 use Rattle.trusted_memory.specs.declared.read.MemReadView.{MemReadView}
 use Rattle.trusted_memory.specs.{completion, completion_head}
 unfoldable use Rattle.trusted_memory.specs.{completion_bytes}
@@ -57,17 +57,17 @@ module _ (s : WholeLinks) (link : ℕ) (l : LinkEnds) (a : LinkAccesses)
 -- it is a TLP with the header that it was written with
 pub made_with : (byte : ℕ → ℕ) (read : MemReadView) (head : HeadView) (bytes : List ℕ)
     → bytes ≡ completion_bytes byte read → head ≡ completion_head read
-    → read_of (completion_bytes byte read) ≡ Ok (completion byte read) → IsTlpWith head bytes
+    → read_of (completion_bytes byte read) ≡ Ok (completion byte read) → IsTlpWithHead head bytes
 made_with byte read head bytes made is reads =
     subst (λ (r : Result Tlp TlpFault). MatchResult r (λ t. header t ≡ head) (λ _. ⊥)) (sym (ap read_of made ∙ reads))
     (sym is)
 
 -- a reply that is judged goes by it
 pub reply_made : (ends : EndsView) (link : ℕ) (bytes : List ℕ) (stream : Option ChosenStream) (head : HeadView)
-    (r : Result Reply Verdict) → IfOk r (λ x. (x.stream ≡ stream) × (x.head ≡ head)) → IsTlpWith head bytes
+    (r : Result Reply Verdict) → IfOk r (λ x. (x.stream ≡ stream) × (x.head ≡ head)) → IsTlpWithHead head bytes
     → IsTakenAtHost ends link bytes stream → IfOk r (λ x. IsReplyMade ends link x bytes)
 reply_made ends link bytes stream head (Ok x) same at taken = record {
-  head = subst (λ (h : HeadView). IsTlpWith h bytes) (sym same.1) at;
+  head = subst (λ (h : HeadView). IsTlpWithHead h bytes) (sym same.1) at;
   stream = subst (λ (s : Option ChosenStream). IsTakenAtHost ends link bytes s) (sym same.0) taken;
 }
 reply_made ends link bytes stream head (Err verdict) same at taken = tt

@@ -16,7 +16,7 @@ use Rattle.event_verdicts.specs.declared.access.AccessVerdict.TheVariants as av
 use Rattle.spec_interfaces.specs.Exchanges.{carries, changes_device}
 use Rattle.guarded_memory.specs.Happenings.{Happened, InterfaceReset, AllReset, InterfaceStopped}
 use Rattle.spec_keys.specs.History.{History}
-use Rattle.spec_links.specs.Guarded.{happens_by}
+use Rattle.spec_links.specs.Guarded.{happens_by_packets}
 use Rattle.spec_links.specs.History.{ArrivedBytes}
 use Rattle.spec_links.specs.Hops.{HopTlp}
 use Rattle.machine_ports.specs.Machine.{LinkState}
@@ -45,8 +45,7 @@ takes_read verdict = false
 
 abbrev pub floors_set : Links → ℕ → Option (ℕ × ℕ) → ℕ → List ℕ → List ℕ
 floors_set s i None link floors = floors
-floors_set s i (Some at) link floors =
-    if at.0 == link then slice_set floors at.1 (device_draw s i at.0) else floors
+floors_set s i (Some at) link floors = if at.0 == link then slice_set floors at.1 (device_draw s i at.0) else floors
 
 -- of an interface that came into RUN
 abbrev pub floors_if : Bool → Links → ℕ → ℕ → List ℕ → List ℕ
@@ -110,11 +109,11 @@ pub record AccessesArrive (plan : Plan) (arrival : LinkState → Option ArrivedB
   pub turn : (h : History) → AreLinks plan old.ends old.keeper.keys → PortsStandFor plan (links_state plan old) h
       → let ps = unit_in plan (links_state plan old) (arrival (links_state plan old)) in
       AccessesTurn (waiting_reads_after plan ps e verdict) same_floors
-      (λ link. happens_by plan (policy_in old.keeper.interfaces old.ends xs).statuses ps e verdict link)
+      (λ link. happens_by_packets plan (policy_in old.keeper.interfaces old.ends xs).statuses ps e verdict link)
       (carried_next (unit_tlps plan ps verdict) e verdict) xs ys
 
-abbrev pub AccessesArriveAt : Plan → Event → Verdict → WholeLinks → WholeLinks → Type 0
-AccessesArriveAt plan e verdict old new =
+abbrev pub AccessesArriveInState : Plan → Event → Verdict → WholeLinks → WholeLinks → Type 0
+AccessesArriveInState plan e verdict old new =
     AccessesArrive plan (arrival_in_state plan e) e verdict old.links old.accesses new.accesses
 
 -- an answer to a read
@@ -134,12 +133,13 @@ AccessesForward e verdict old new =
     AccessesTurn same_reads same_floors nothing_happens (carried_after_event e verdict) old.accesses new.accesses
 
 abbrev pub AccessesAfter : Plan → Event → Verdict → WholeLinks → WholeLinks → Type 0
-AccessesAfter plan (event.Pass n) verdict old new = AccessesArriveAt plan (event.Pass n) verdict old new
-AccessesAfter plan (event.Alter n at mask) verdict old new = AccessesArriveAt plan (event.Alter n at mask) verdict old
+AccessesAfter plan (event.Pass n) verdict old new = AccessesArriveInState plan (event.Pass n) verdict old new
+AccessesAfter plan (event.Alter n at mask) verdict old new = AccessesArriveInState plan (event.Alter n at mask) verdict
+    old
     new
-AccessesAfter plan (event.Cut n len) verdict old new = AccessesArriveAt plan (event.Cut n len) verdict old new
+AccessesAfter plan (event.Cut n len) verdict old new = AccessesArriveInState plan (event.Cut n len) verdict old new
 AccessesAfter plan (event.Arrive port bytes) verdict old new =
-    AccessesArriveAt plan (event.Arrive port bytes) verdict old new
+    AccessesArriveInState plan (event.Arrive port bytes) verdict old new
 AccessesAfter plan (event.Reset link ends) verdict old new = AccessesReset plan (event.Reset link ends) verdict old new
 AccessesAfter plan (event.Interface e) verdict old new = AccessesInterface e verdict old new
 AccessesAfter plan (event.Access (ae.Answer link)) verdict old new =

@@ -10,7 +10,7 @@ use Rattle.event_verdicts.specs.declared.verdict.Verdict.TheVariants as v
 use Rattle.event_verdicts.specs.declared.access.AccessVerdict.TheVariants as av
 use Rattle.ide_types.specs.declared.binding.Binding.{Binding}
 use Rattle.tlp_layout.specs.Outgoing.{outgoing_of, stream_taken}
-use Rattle.tlp_layout.specs.Reading.{IsTlpWith}
+use Rattle.tlp_layout.specs.Reading.{IsTlpWithHead}
 use Rattle.trusted_memory.specs.{MemoryContents, byte_at, bytes_from}
 use Rattle.trusted_memory.specs.declared.queue.WaitingRead.{WaitingRead}
 unfoldable use Rattle.trusted_memory.specs.{completion_bytes}
@@ -55,7 +55,7 @@ reply_binding (Err verdict) = Err verdict
 
 -- the bytes are a TLP with the reply's header, and take its stream at the host's port of a link
 pub record IsReplyMade (ends : EndsView) (link : ℕ) (reply : Reply) (bytes : List ℕ) : Type 0 where
-  pub head : IsTlpWith reply.head bytes
+  pub head : IsTlpWithHead reply.head bytes
   pub stream : IsTakenAtHost ends link bytes reply.stream
 
 -- the number of the interface of a link with this requester ID

@@ -6,8 +6,8 @@ pub use Rattle.all_links.specs.{AreLinks, EndsView, HostKeeper, InterfacesView, 
 pub use Rattle.all_links.specs.{code_behind, grants_in, keyed_if, live_of, peer_live, place_on_links, name_of}
 pub use Rattle.all_links.specs.{names_from_line, names_of, new_all_ends, new_ends, operated_on, ops_by_line, line_ops}
 pub use Rattle.all_links.specs.{port_in, port_on, state_of, stopped_if, trusting_on, unit_tlps, views_after, PairEnds}
-pub use Rattle.all_links.specs.{bound_on, bound_trust, far_hop_trust, link_trust, live_at_port, live_for, pair_port}
-pub use Rattle.all_links.specs.{status_for, stream_named, waiting_reads_after, writes_by}
+pub use Rattle.all_links.specs.{bound_on, bound_trust, far_hop_trust, link_trust, live_at_port, live_for_operation}
+pub use Rattle.all_links.specs.{pair_port, status_for_operation, stream_named, waiting_reads_after, writes_by}
 pub use Rattle.all_links.specs.Accesses.{AccessesTurn, AreLeftBy, carried_on_link, device_draw, floors_at, mmio_at}
 pub use Rattle.all_links.specs.Accesses.{nothing_happens, policy_in, reads_at, runs_in, same_carried, same_floors}
 pub use Rattle.all_links.specs.Accesses.{same_reads, sizes_at, statuses_of_ends}

@@ -53,14 +53,15 @@ pub record WholeStays (old new : WholeLinks) : Type 0 where
   pub accesses : AccessesStay old.accesses new.accesses
 
 -- an event with a verdict, or one that has none
-abbrev pub WholeEndsAs : Plan → Option Verdict → WholeLinks → WholeLinks → Event → Type 0
-WholeEndsAs plan (Some verdict) old new event = WholeEnds plan verdict old new event
-WholeEndsAs plan None old new event = HasNoVerdict plan old.links event
+abbrev pub WholeEndsOrHasNone : Plan → Option Verdict → WholeLinks → WholeLinks → Event → Type 0
+WholeEndsOrHasNone plan (Some verdict) old new event = WholeEnds plan verdict old new event
+WholeEndsOrHasNone plan None old new event = HasNoVerdict plan old.links event
 
-abbrev pub WholeEndsOr : Plan → Result Verdict OutOfMemory → WholeLinks → WholeLinks → Event → Type 0
-WholeEndsOr plan (Ok verdict) old new event = WholeEnds plan verdict old new event
-WholeEndsOr plan (Err e) old new event = WholeStays old new
+abbrev pub WholeEndsOrStays : Plan → Result Verdict OutOfMemory → WholeLinks → WholeLinks → Event → Type 0
+WholeEndsOrStays plan (Ok verdict) old new event = WholeEnds plan verdict old new event
+WholeEndsOrStays plan (Err e) old new event = WholeStays old new
 
-abbrev pub WholeEndsAsOr : Plan → Result (Option Verdict) OutOfMemory → WholeLinks → WholeLinks → Event → Type 0
-WholeEndsAsOr plan (Ok verdict) old new event = WholeEndsAs plan verdict old new event
-WholeEndsAsOr plan (Err e) old new event = WholeStays old new
+abbrev pub WholeEndsOrHasNoneOrStays : Plan → Result (Option Verdict) OutOfMemory → WholeLinks → WholeLinks → Event
+    → Type 0
+WholeEndsOrHasNoneOrStays plan (Ok verdict) old new event = WholeEndsOrHasNone plan verdict old new event
+WholeEndsOrHasNoneOrStays plan (Err e) old new event = WholeStays old new

@@ -19,7 +19,7 @@ use std::alloc::Global;
 
 impl WholeLinks {
     ghost use Rattle.ide_types.specs.declared.plan.Plan.{Plan as PlanView};
-    ghost use Rattle.whole_links.specs.Whole.{IsBoundedWhole, WholeEnds, WholeEndsAs, WholeEndsAsOr};
+    ghost use Rattle.whole_links.specs.Whole.{IsBoundedWhole, WholeEnds, WholeEndsOrHasNone, WholeEndsOrHasNoneOrStays};
     ghost use Rattle.whole_links.specs.Accesses.{floors_if, halted_in, happens_at, AccessesInterface};
 
     // Of an interface, which is found at this place, that was not in RUN, and is now: its device takes trusted writes
@@ -46,7 +46,7 @@ impl WholeLinks {
     fn start(&mut self, alloc: Global, interface: u64, loss: Option<Loss>) -> Option<Verdict>
         requires steps { self.old.links.steps < 2 ^ 28 }
         requires bounded { IsBoundedWhole self.old }
-        ensures ends { (plan : PlanView) → WholeEndsAs plan result self.old self.new
+        ensures ends { (plan : PlanView) → WholeEndsOrHasNone plan result self.old self.new
             (Event.Interface (InterfaceEvent.Start interface loss)) }
         ensures sides { IfSome result (λ v. BesideInterface (InterfaceEvent.Start interface loss) self.old.links
             self.new.links) }
@@ -89,7 +89,7 @@ impl WholeLinks {
     fn halt(&mut self, alloc: Global, interface: u64, loss: Option<Loss>) -> Option<Verdict>
         requires steps { self.old.links.steps < 2 ^ 28 }
         requires bounded { IsBoundedWhole self.old }
-        ensures ends { (plan : PlanView) → WholeEndsAs plan result self.old self.new
+        ensures ends { (plan : PlanView) → WholeEndsOrHasNone plan result self.old self.new
             (Event.Interface (InterfaceEvent.Halt interface loss)) }
         ensures sides { IfSome result (λ v. BesideInterface (InterfaceEvent.Halt interface loss) self.old.links
             self.new.links) }
@@ -144,7 +144,8 @@ impl WholeLinks {
         requires steps { self.old.links.steps < 2 ^ 28 }
         requires bounded { IsBoundedWhole self.old }
         requires allowed { IsAllowedInterface event.now }
-        ensures ends { (plan : PlanView) → WholeEndsAsOr plan result self.old self.new (Event.Interface event.now) }
+        ensures ends { (plan : PlanView) → WholeEndsOrHasNoneOrStays plan result self.old self.new
+            (Event.Interface event.now) }
         ensures sides { IfOk result (λ o. IfSome o (λ v. BesideInterface event.now self.old.links self.new.links)) }
         ensures accesses { IfOk result (λ o. IfSome o (λ v. AccessesInterface event.now v self.old self.new)) }
     {

@@ -91,8 +91,8 @@ fn incoming_bytes<'a>(
 }
 
 impl WholeLinks {
-    ghost use Rattle.whole_links.specs.Accesses.{AccessesArriveAt};
-    ghost use Rattle.whole_links.specs.Whole.{IsBoundedWhole, WholeEndsOr};
+    ghost use Rattle.whole_links.specs.Accesses.{AccessesArriveInState};
+    ghost use Rattle.whole_links.specs.Whole.{IsBoundedWhole, WholeEndsOrStays};
 
     // Bytes arrive: they meet the end of the line that has their stream. The memory for them, for what they may write,
     // and for a TLP that waits at a switch, is taken first.
@@ -104,11 +104,11 @@ impl WholeLinks {
     ) -> Result<Verdict, OutOfMemory>
         requires steps { self.old.links.steps < 2 ^ 28 }
         requires bounded { IsBoundedWhole self.old }
-        ensures ends { WholeEndsOr plan.now result self.old self.new (incoming_event incoming.entry) }
+        ensures ends { WholeEndsOrStays plan.now result self.old self.new (incoming_event incoming.entry) }
         ensures sides { IfOk result (λ v.
             BesideBytes plan.now (incoming_event incoming.entry) v self.old.links self.new.links) }
         ensures accesses { IfOk result (λ v.
-            AccessesArriveAt plan.now (incoming_event incoming.entry) v self.old self.new) }
+            AccessesArriveInState plan.now (incoming_event incoming.entry) v self.old self.new) }
     {
         match incoming_bytes(alloc, plan, &self.links.packets, incoming)? {
             None => Ok(self.links.only(Verdict::Nothing)),
@@ -143,11 +143,11 @@ impl WholeLinks {
     ) -> Result<Verdict, OutOfMemory>
         requires steps { self.old.links.steps < 2 ^ 28 }
         requires bounded { IsBoundedWhole self.old }
-        ensures ends { WholeEndsOr plan.now result self.old self.new (Event.Arrive port bytes.now) }
+        ensures ends { WholeEndsOrStays plan.now result self.old self.new (Event.Arrive port bytes.now) }
         ensures sides { IfOk result (λ v.
             BesideBytes plan.now (Event.Arrive port bytes.now) v self.old.links self.new.links) }
         ensures accesses { IfOk result (λ v.
-            AccessesArriveAt plan.now (Event.Arrive port bytes.now) v self.old self.new) }
+            AccessesArriveInState plan.now (Event.Arrive port bytes.now) v self.old self.new) }
     {
         self.land_incoming(alloc, plan, Incoming::Given { port, bytes })
     }
@@ -163,11 +163,11 @@ impl WholeLinks {
     ) -> Result<Verdict, OutOfMemory>
         requires steps { self.old.links.steps < 2 ^ 28 }
         requires bounded { IsBoundedWhole self.old }
-        ensures ends { WholeEndsOr plan.now result self.old self.new (packet_event packet passage) }
+        ensures ends { WholeEndsOrStays plan.now result self.old self.new (packet_event packet passage) }
         ensures sides { IfOk result (λ v.
             BesideBytes plan.now (packet_event packet passage) v self.old.links self.new.links) }
         ensures accesses { IfOk result (λ v.
-            AccessesArriveAt plan.now (packet_event packet passage) v self.old self.new) }
+            AccessesArriveInState plan.now (packet_event packet passage) v self.old self.new) }
     {
         self.land_incoming(alloc, plan, Incoming::Sent { packet, passage })
     }

@@ -24,7 +24,7 @@ impl WholeLinks {
     ghost use Rattle.ide_types.specs.declared.plan.Plan.{Plan as PlanView};
     ghost use Rattle.whole_links.specs.Besides.{completion_with_bytes, reply_numbered, link_reply, reader_of};
     ghost use Rattle.whole_links.specs.Besides.{has_shown, bytes_shown, reply_binding, IsReplyMade};
-    ghost use Rattle.whole_links.specs.Whole.{HasAllAccesses, IsBoundedWhole, WholeEndsOr};
+    ghost use Rattle.whole_links.specs.Whole.{HasAllAccesses, IsBoundedWhole, WholeEndsOrStays};
     ghost use Rattle.whole_links.specs.Accesses.{takes_read, AccessesAfter};
 
     // Of this read of an interface: appends its completion, and says which stream that is to take and the least draw
@@ -122,7 +122,7 @@ impl WholeLinks {
         requires here { link < length self.old.links.ends.links }
         requires due { link_reply self.old link ≡ completion_with_bytes (Ok reply.now.binding) bytes.now }
         requires made { IsReplyMade self.old.links.ends link reply.now bytes.now }
-        ensures ends { WholeEndsOr plan.now result self.old self.new (Event.Access (AccessEvent.Answer link)) }
+        ensures ends { WholeEndsOrStays plan.now result self.old self.new (Event.Access (AccessEvent.Answer link)) }
         ensures sides { IfOk result (λ v. BesideStays self.old.links self.new.links) }
         ensures accesses { self.new.accesses ≡ self.old.accesses }
         ensures kind { IfOk result (λ v. is_sending v ≡ true) }
@@ -150,7 +150,7 @@ impl WholeLinks {
         requires steps { self.old.links.steps < 2 ^ 28 }
         requires bounded { IsBoundedWhole self.old }
         requires here { link < length self.old.links.ends.links }
-        ensures ends { WholeEndsOr plan.now result self.old self.new (Event.Access (AccessEvent.Answer link)) }
+        ensures ends { WholeEndsOrStays plan.now result self.old self.new (Event.Access (AccessEvent.Answer link)) }
         ensures sides { IfOk result (λ v. BesideStays self.old.links self.new.links) }
         ensures accesses { self.new.accesses ≡ self.old.accesses }
         ensures kind { IfOk result (λ v. is_sending v ≡ true) }
@@ -172,7 +172,7 @@ impl WholeLinks {
     ) -> Result<Verdict, OutOfMemory>
         requires steps { self.old.links.steps < 2 ^ 28 }
         requires bounded { IsBoundedWhole self.old }
-        ensures ends { WholeEndsOr plan.now result self.old self.new (Event.Access (AccessEvent.Answer link)) }
+        ensures ends { WholeEndsOrStays plan.now result self.old self.new (Event.Access (AccessEvent.Answer link)) }
         ensures sides { IfOk result (λ v. BesideStays self.old.links self.new.links) }
         ensures accesses { IfOk result (λ v. AccessesAfter plan.now (Event.Access (AccessEvent.Answer link)) v self.old
             self.new) }
@@ -215,7 +215,7 @@ impl WholeLinks {
     ) -> Result<Verdict, OutOfMemory>
         requires steps { self.old.links.steps < 2 ^ 28 }
         requires bounded { IsBoundedWhole self.old }
-        ensures ends { (plan : PlanView) → WholeEndsOr plan result self.old self.new
+        ensures ends { (plan : PlanView) → WholeEndsOrStays plan result self.old self.new
             (Event.Access (AccessEvent.Mmio interface bar offset length)) }
         ensures sides { IfOk result (λ v. BesideStays self.old.links self.new.links) }
         ensures accesses { IfOk result (λ v. self.new.accesses ≡ self.old.accesses) }

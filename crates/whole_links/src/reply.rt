@@ -21,9 +21,9 @@ pub struct Reply {
     pub head: HeadView,
 }
 
-/// The reply to a read of an interface that is bound so, if its completion, which was written with this header and takes
-/// this stream, takes the bound one, and if its read came under a draw from the floor on; else the verdict that drops
-/// the read.
+/// The reply to a read of an interface that is bound so, if its completion, which was written with this header and
+/// takes this stream, takes the bound one, and if its read came under a draw from the floor on; else the verdict that
+/// drops the read.
 pub fn judged(
     stream: Option<ChosenStream>,
     head: HeadView,

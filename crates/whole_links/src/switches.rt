@@ -14,7 +14,7 @@ use script_events::Event;
 use tlp_layout::OutgoingTlp;
 
 impl WholeLinks {
-    ghost use Rattle.whole_links.specs.Whole.{IsBoundedWhole, WholeEndsOr};
+    ghost use Rattle.whole_links.specs.Whole.{IsBoundedWhole, WholeEndsOrStays};
     ghost use Rattle.whole_links.specs.Accesses.{is_sealed, AccessesForward};
 
     // Seals the first TLP that waits in a direction at the switch of a link behind it, as it came.
@@ -28,7 +28,7 @@ impl WholeLinks {
         requires bounded { IsBoundedWhole self.old }
         requires here { link < length self.old.links.ends.links }
         requires hop { has_hop_in plan.now link ≡ true }
-        ensures ends { WholeEndsOr plan.now result self.old self.new (Event.Forward link direction) }
+        ensures ends { WholeEndsOrStays plan.now result self.old self.new (Event.Forward link direction) }
         ensures sides { IfOk result (λ v. BesideStays self.old.links self.new.links) }
         ensures accesses { self.new.accesses ≡ self.old.accesses }
         ensures kind { IfOk result (λ v. is_sending v ≡ true) }
@@ -40,7 +40,7 @@ impl WholeLinks {
             Some(tlp) => {
                 let end = leaving_end(link, direction);
                 let sent = OutgoingTlp::of(tlp.bytes.as_slice());
-                self.links.send_at(plan, end, &sent, false, tlp.t)
+                self.links.send_at_end(plan, end, &sent, false, tlp.t)
             }
         }
     }
@@ -54,7 +54,7 @@ impl WholeLinks {
     ) -> Result<Verdict, OutOfMemory>
         requires steps { self.old.links.steps < 2 ^ 28 }
         requires bounded { IsBoundedWhole self.old }
-        ensures ends { WholeEndsOr plan.now result self.old self.new (Event.Forward link direction) }
+        ensures ends { WholeEndsOrStays plan.now result self.old self.new (Event.Forward link direction) }
         ensures sides { IfOk result (λ v. BesideStays self.old.links self.new.links) }
         ensures accesses { IfOk result (λ v. AccessesForward (Event.Forward link direction) v self.old self.new) }
     {

@@ -26,8 +26,8 @@ pub struct WholeLinks {
 
 impl WholeLinks {
     ghost use Rattle.ide_types.specs.declared.plan.Plan.{Plan as PlanView};
-    ghost use Rattle.whole_links.specs.Whole.{IsFirstWhole, IsBoundedWhole, WholeEnds, WholeEndsAs};
-    ghost use Rattle.whole_links.specs.Whole.{WholeEndsOr, WholeEndsAsOr};
+    ghost use Rattle.whole_links.specs.Whole.{IsFirstWhole, IsBoundedWhole, WholeEnds, WholeEndsOrHasNone};
+    ghost use Rattle.whole_links.specs.Whole.{WholeEndsOrStays, WholeEndsOrHasNoneOrStays};
     ghost use Rattle.whole_links.specs.Accesses.{AccessesAfter};
 
     /// The links of the plan before the first event, with no read and no TLP that waits, and 0 in all ranges of its
@@ -68,7 +68,7 @@ impl WholeLinks {
         requires steps { self.old.links.steps < 2 ^ 28 }
         requires bounded { IsBoundedWhole self.old }
         requires allowed { IsAllowedAccess event.now }
-        ensures ends { WholeEndsOr plan.now result self.old self.new (Event.Access event.now) }
+        ensures ends { WholeEndsOrStays plan.now result self.old self.new (Event.Access event.now) }
         ensures sides { IfOk result (λ v. BesideStays self.old.links self.new.links) }
         ensures accesses { IfOk result (λ v. AccessesAfter plan.now (Event.Access event.now) v self.old self.new) }
     {
@@ -92,7 +92,7 @@ impl WholeLinks {
     ) -> Option<Verdict>
         requires steps { self.old.links.steps < 2 ^ 28 }
         requires bounded { IsBoundedWhole self.old }
-        ensures ends { (plan : PlanView) → WholeEndsAs plan result self.old self.new
+        ensures ends { (plan : PlanView) → WholeEndsOrHasNone plan result self.old self.new
             (operation_event operation line stream loss) }
         ensures sides { IfSome result (λ v. BesideOperation operation line stream v self.old.links self.new.links) }
         ensures accesses { self.new.accesses ≡ self.old.accesses }
@@ -114,7 +114,7 @@ impl WholeLinks {
         requires steps { self.old.links.steps < 2 ^ 28 }
         requires bounded { IsBoundedWhole self.old }
         requires allowed { IsAllowed event.now }
-        ensures ends { WholeEndsAsOr plan.now result self.old self.new event.now }
+        ensures ends { WholeEndsOrHasNoneOrStays plan.now result self.old self.new event.now }
         ensures sides { IfOk result (λ o. IfSome o (λ v.
             BesideAfter plan.now event.now v self.old.links self.new.links)) }
         ensures accesses { IfOk result (λ o. IfSome o (λ v. AccessesAfter plan.now event.now v self.old self.new)) }

@@ -22,7 +22,8 @@ use Rattle.spec_links.specs.History.{sealed_packets, shortened_arrival}
 unfoldable use Rattle.spec_links.specs.History.{arrival_of_event}
 use Rattle.machine_ports.specs.Machine.{kept_packet}
 use Rattle.machine_ports.specs.Stands.{rx_slot, rx_slots, rx_state_due}
-use Rattle.machine_operations.specs.{LinkState, PortsStand, altered_to, cut_short, whole_arrival, stream_state_due}
+use Rattle.machine_operations.specs.{LinkState, StreamsAndPacketsStand, altered_to, cut_short, whole_arrival}
+use Rattle.machine_operations.specs.{stream_state_due}
 use Rattle.machine_operations.proofs.{of_numbered}
 use Rattle.machine_operations.proofs.Terms.{at_each}
 use Rattle.machine_whole.specs.Machine.{Whole, arrival_of}
@@ -37,18 +38,16 @@ use Rattle.why_facts.proofs.Streams.{of_stream, receiver_is}
 
 -- ---- what an event brings
 
-pub arrival_is : (plan : Plan) (st : LinkState) (h : History) → PortsStand plan st h → (e : Event)
+pub arrival_is : (plan : Plan) (st : LinkState) (h : History) → StreamsAndPacketsStand plan st h → (e : Event)
     → arrival_of plan st e ≡ arrival_of_event plan h e
 unfolding arrival_of_event
 arrival_is plan st h stands (event.Pass n) =
     of_numbered st.packets (sealed_packets plan h) n stands.packets (option_and_then (whole_arrival plan))
     (option_map (λ x. arrival_at_partner plan x (packet_bytes x.1))) refl (λ x. refl)
-arrival_is plan st h stands (event.Alter n at mask) =
-    of_numbered st.packets (sealed_packets plan h) n stands.packets (option_and_then (altered_to plan at mask))
-    (option_and_then (altered_arrival plan at mask)) refl (λ x. refl)
-arrival_is plan st h stands (event.Cut n len) =
-    of_numbered st.packets (sealed_packets plan h) n stands.packets (option_and_then (cut_short plan len))
-    (option_and_then (shortened_arrival plan len)) refl (λ x. refl)
+arrival_is plan st h stands (event.Alter n at mask) = of_numbered st.packets (sealed_packets plan h) n stands.packets
+    (option_and_then (altered_to plan at mask)) (option_and_then (altered_arrival plan at mask)) refl (λ x. refl)
+arrival_is plan st h stands (event.Cut n len) = of_numbered st.packets (sealed_packets plan h) n stands.packets
+    (option_and_then (cut_short plan len)) (option_and_then (shortened_arrival plan len)) refl (λ x. refl)
 arrival_is plan st h stands (event.Arrive port bytes) = refl
 arrival_is plan st h stands e = refl
 

@@ -18,7 +18,7 @@ use Rattle.machine_whole.proofs.Streams.{peer_planned, seen_at, streams_are}
 use Rattle.why_facts.specs.declared.fact.Fact.{Fact}
 use Rattle.why_facts.specs.Forms.{asked_besides, asked_facts, bind_facts, face_facts, reported_facts}
 use Rattle.why_facts.specs.Due.{asked_facts_due, asked_site_due}
-use Rattle.why_facts.specs.Kept.{asked_face, asked_facts_in}
+use Rattle.why_facts.specs.Kept.{asked_face, asked_facts_in_state}
 use Rattle.why_facts.proofs.Sites.{found_is, with_face}
 
 -- the manager's state is read of a stream that the plan has, and of no other
@@ -64,7 +64,7 @@ site_is plan h used e (Some x) same =
     ap (λ (n : ℕ → ℕ). facts_said plan (streams_at h) n e (Some (with_face plan h x))) same
 
 pub asked_is : (plan : Plan) (w : Whole) (h : History) → WholeStandsFor plan w h → (e : InterfaceEvent) (o : Option ℕ)
-    → asked_facts_in plan w e o ≡ asked_facts_due plan h e o
+    → asked_facts_in_state plan w e o ≡ asked_facts_due plan h e o
 asked_is plan w h stands e None = refl
 asked_is plan w h stands e (Some i) =
     face_is plan w e (find_face (λ x. x.number == i) (sites plan) w.faces.list)

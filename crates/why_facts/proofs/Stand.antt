@@ -22,13 +22,11 @@ facts_stand plan w h (event.Send port bytes more trusted) stands = if_same (may_
     (send_is plan w h stands (sealing_end plan port bytes) (outgoing_at plan (sealing_end plan port bytes) bytes))
 facts_stand plan w h (event.Pass n) stands =
     arriving_is plan w h stands (event.Pass n) (packet_count_facts w) (sealed_due plan h) (sealed_is plan w h stands)
-facts_stand plan w h (event.Alter n at mask) stands =
-    arriving_is plan w h stands (event.Alter n at mask) (packet_count_facts w) (sealed_due plan h)
-    (sealed_is plan w h stands)
+facts_stand plan w h (event.Alter n at mask) stands = arriving_is plan w h stands (event.Alter n at mask)
+    (packet_count_facts w) (sealed_due plan h) (sealed_is plan w h stands)
 facts_stand plan w h (event.Cut n len) stands =
     arriving_is plan w h stands (event.Cut n len) (packet_count_facts w) (sealed_due plan h) (sealed_is plan w h stands)
-facts_stand plan w h (event.Arrive port bytes) stands =
-    arriving_is plan w h stands (event.Arrive port bytes) [] [] refl
+facts_stand plan w h (event.Arrive port bytes) stands = arriving_is plan w h stands (event.Arrive port bytes) [] [] refl
 facts_stand plan w h (event.Dump n) stands = sealed_is plan w h stands
 facts_stand plan w h (event.Establish line stream loss) stands = establish_is plan w h stands line stream
 facts_stand plan w h (event.Refresh line stream loss) stands = refresh_is plan w h stands line stream
@@ -36,9 +34,7 @@ facts_stand plan w h (event.Stop line stream loss) stands = stop_is plan w h sta
 facts_stand plan w h (event.Status line stream) stands = status_is plan w h stands line stream
 facts_stand plan w h (event.Interface e) stands = asked_is plan w h stands e (number_in e)
 facts_stand plan w h (event.Access (ae.Answer link)) stands = answer_is plan w h stands link
-facts_stand plan w h (event.Access (ae.Mmio interface bar offset len)) stands =
-    shown_is plan w h stands interface bar
+facts_stand plan w h (event.Access (ae.Mmio interface bar offset len)) stands = shown_is plan w h stands interface bar
 facts_stand plan w h (event.Forward link d) stands = forward_is plan w h stands link d
-facts_stand plan w h (event.Reset link ends) stands =
-    if_same (has_link plan link) _ _ _ (reset_is plan w h stands ends)
+facts_stand plan w h (event.Reset link ends) stands = if_same (has_link plan link) _ _ _ (reset_is plan w h stands ends)
 facts_stand plan w h event.Absent stands = refl

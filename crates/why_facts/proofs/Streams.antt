@@ -16,7 +16,7 @@ use Rattle.spec_links.specs.History.{has_failed, got_since, has_live_in, port_ke
 use Rattle.spec_links.specs.History.{posted_lane, sealed_packets, sent_packets, units_got, waits}
 use Rattle.spec_links.specs.Units.{open_unit, units}
 use Rattle.machine_ports.specs.Stands.{rx_slot, tx_slot, sealing_key, rx_state_due}
-use Rattle.machine_operations.specs.{LinkState, PortsStand, find, stream_state_due, state_due_if_planned}
+use Rattle.machine_operations.specs.{LinkState, StreamsAndPacketsStand, find, stream_state_due, state_due_if_planned}
 use Rattle.machine_operations.specs.{status_if_planned}
 use Rattle.machine_whole.proofs.Streams.{status_all}
 use Rattle.why_facts.specs.declared.fact.SetState.TheVariants as set
@@ -110,16 +110,17 @@ sender_is plan h port stream Cpl = λ i. posted_fact Cpl (posted_now plan h port
 
 -- ---- its state
 
-state_is : (plan : Plan) (st : LinkState) (h : History) → PortsStand plan st h → (port : PortName) (stream : ℕ)
-    → has_stream plan port stream ≡ true → stream_status (stream_state_due plan h port stream)
-    ≡ history_status h port.side port.line stream
+state_is : (plan : Plan) (st : LinkState) (h : History) → StreamsAndPacketsStand plan st h
+    → (port : PortName) (stream : ℕ) → has_stream plan port stream ≡ true
+    → stream_status (stream_state_due plan h port stream) ≡ history_status h port.side port.line stream
 state_is plan st h stands port stream known =
     let here : state_due_if_planned plan h port stream ≡ Some (stream_state_due plan h port stream) = rw known refl in
     sym (ap status_if_planned (stands.streams port stream ∙ here))
     ∙ status_all plan st h stands port.side port.line stream
 
 -- what is made of a stream at a port, if the port has it: its state aside, it is what the history gives
-pub of_stream : {A : Type 0} (plan : Plan) (st : LinkState) (h : History) → PortsStand plan st h → (port : PortName)
+pub of_stream : {A : Type 0} (plan : Plan) (st : LinkState) (h : History) → StreamsAndPacketsStand plan st h
+    → (port : PortName)
     (stream : ℕ) (f : Option StreamState → A) (none some : A) → f None ≡ none
     → (stream_status (stream_state_due plan h port stream) ≡ history_status h port.side port.line stream
     → f (Some (stream_state_due plan h port stream)) ≡ some)

@@ -262,8 +262,7 @@ facts_due plan h (event.Send port bytes more trusted) =
     if may_send plan port
     then send_facts_due plan h (sealing_end plan port bytes) (outgoing_at plan (sealing_end plan port bytes) bytes)
     else []
-facts_due plan h (event.Pass n) =
-    arrival_facts_due plan h (sealed_due plan h) (arrival_of_event plan h (event.Pass n))
+facts_due plan h (event.Pass n) = arrival_facts_due plan h (sealed_due plan h) (arrival_of_event plan h (event.Pass n))
 facts_due plan h (event.Alter n at mask) =
     arrival_facts_due plan h (sealed_due plan h) (arrival_of_event plan h (event.Alter n at mask))
 facts_due plan h (event.Cut n len) =

@@ -65,8 +65,7 @@ abbrev pub packets_fact : ℕ → List Fact
 packets_fact n = fact.Stream (sf.Packets n) ∷ []
 
 abbrev pub arrives_fact : Plan → PortName → Packet → Fact
-arrives_fact plan end p =
-    fact.Stream (sf.Arrives (port_of plan end) p.prefix.stream p.prefix.sub p.prefix.k)
+arrives_fact plan end p = fact.Stream (sf.Arrives (port_of plan end) p.prefix.stream p.prefix.sub p.prefix.k)
 
 abbrev pub sends_fact : Plan → PortName → ℕ → SubKind → Fact
 sends_fact plan end stream class = fact.Stream (sf.Sends (port_of plan end) stream class)

@@ -202,10 +202,9 @@ asked_face plan w e None = []
 asked_face plan w e (Some y) =
     asked_facts plan y.0 (asked_state_of_face plan (whole_streams plan w) w.faces.used y.0 y.1) e
 
-abbrev pub asked_facts_in : Plan → Whole → InterfaceEvent → Option ℕ → List Fact
-asked_facts_in plan w e None = memory_facts plan e
-asked_facts_in plan w e (Some i) =
-    asked_face plan w e (find_face (λ x. x.number == i) (sites plan) w.faces.list)
+abbrev pub asked_facts_in_state : Plan → Whole → InterfaceEvent → Option ℕ → List Fact
+asked_facts_in_state plan w e None = memory_facts plan e
+asked_facts_in_state plan w e (Some i) = asked_face plan w e (find_face (λ x. x.number == i) (sites plan) w.faces.list)
 
 -- ---- the memory of interfaces
 
@@ -220,8 +219,7 @@ facts_in plan w (event.Send port bytes more trusted) =
     if may_send plan port
     then send_facts_in plan w (sealing_end plan port bytes) (outgoing_at plan (sealing_end plan port bytes) bytes)
     else []
-facts_in plan w (event.Pass n) =
-    arrival_facts_in plan w (packet_count_facts w) (arrival_of plan w.links (event.Pass n))
+facts_in plan w (event.Pass n) = arrival_facts_in plan w (packet_count_facts w) (arrival_of plan w.links (event.Pass n))
 facts_in plan w (event.Alter n at mask) =
     arrival_facts_in plan w (packet_count_facts w) (arrival_of plan w.links (event.Alter n at mask))
 facts_in plan w (event.Cut n len) =
@@ -241,9 +239,8 @@ facts_in plan w (event.Refresh line stream loss) =
 facts_in plan w (event.Stop line stream loss) =
     if_found (find_op plan w.links line stream)
     (λ q. stop_facts plan (ports_of plan w.links) line stream q w.links.draws)
-facts_in plan w (event.Status line stream) =
-    if_found (find_op plan w.links line stream) (λ q. manager_fact q ∷ [])
-facts_in plan w (event.Interface e) = asked_facts_in plan w e (number_in e)
+facts_in plan w (event.Status line stream) = if_found (find_op plan w.links line stream) (λ q. manager_fact q ∷ [])
+facts_in plan w (event.Interface e) = asked_facts_in_state plan w e (number_in e)
 facts_in plan w (event.Access (ae.Answer link)) = answer_facts_in plan w link
 facts_in plan w (event.Access (ae.Mmio interface bar offset len)) =
     shown_in bar (find_face (λ x. x.number == interface) (sites plan) w.faces.list)

@@ -14,7 +14,7 @@ pub use appends::faces::{
     FaceSeen, push_draw, push_face, push_live, push_of_interface, push_reported,
 };
 pub use appends::memory::{
-    push_bar, push_bar_of, push_bytes, push_memory, push_region, push_span, push_takes,
+    push_bar, push_bar_if_there, push_bytes, push_memory, push_region, push_span, push_takes,
 };
 pub use appends::operations::{
     first_exchange, key_set, last_exchange, manager_state, may_go, push_manager, push_of_operation,

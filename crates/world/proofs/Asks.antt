@@ -120,8 +120,7 @@ module _ (plan : Plan) (old new : Links) (w : Whole) (verdict : Verdict) (both :
       ∙ ap (λ (ps : List PeerPlan). has_peer ps x.link line stream) both.links.peers_are
 
   has_nowhere : (i line stream : ℕ) → length (sites plan) ≤ i → has_peer_in old.keeper old.ends i line stream ≡ false
-  has_nowhere i line stream past =
-      ap (has_peer_if_there old.ends line stream)
+  has_nowhere i line stream past = ap (has_peer_if_there old.ends line stream)
       (interface_absent plan old.ends.links old.keeper.interfaces old.trusted.contents w i both.whole.beside past)
 
   -- an operation on a stream of this line

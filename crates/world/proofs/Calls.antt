@@ -88,9 +88,8 @@ set_item [] i j y z is = absurd (none-some z is)
 set_item (x ∷ xs) zero zero y z is = inl (refl, same_Some y z is)
 set_item (x ∷ xs) zero (suc j) y z is = inr (first_apart j, is)
 set_item (x ∷ xs) (suc i) zero y z is = inr (apart_first i, is)
-set_item (x ∷ xs) (suc i) (suc j) y z is =
-    ⊎_elim (λ same. inl (ap suc same.0, same.1)) (λ other. inr (apart_sooner i j other.0, other.1))
-    (set_item xs i j y z is)
+set_item (x ∷ xs) (suc i) (suc j) y z is = ⊎_elim (λ same. inl (ap suc same.0, same.1))
+    (λ other. inr (apart_sooner i j other.0, other.1)) (set_item xs i j y z is)
 
 either_none : (a b c : Bool) → a ≡ c → b ≡ false → (a || b) ≡ c
 either_none a b c same none = grind arith
@@ -229,8 +228,7 @@ module _ (plan : Plan) (ends : List LinkEnds) (m : InterfacesView) (memory : Mem
 
   is_other : (j : ℕ) (y : Site) → slice_get (sites plan) j ≡ Some y → (i == j) ≡ false
       → is_number (number_in e) y.number ≡ false
-  is_other j y there apart =
-      ap (λ (o : Option ℕ). is_number o y.number) number
+  is_other j y there apart = ap (λ (o : Option ℕ). is_number o y.number) number
       ∙ (ap (λ (n : ℕ). i == n) (site_numbered plan j y there) ∙ apart)
 
   given_at : (link : ℕ) → list_any is_true

@@ -110,9 +110,8 @@ device_first plan link l is =
     }
 
 memory_first : (rs : List Region) → IsLeftBy (new_contents rs) []
-memory_first rs a =
-    ap (λ (m : TrustedMemory). byte_at m.contents a) (sym (new_is_seen rs)) ∙ (byte_at-new rs a ∙ sym
-    (byte_last_written-none a))
+memory_first rs a = ap (λ (m : TrustedMemory). byte_at m.contents a) (sym (new_is_seen rs))
+    ∙ (byte_at-new rs a ∙ sym (byte_last_written-none a))
 
 beside_first : (plan : Plan)
     → IsBeside plan (first_links plan) (new_host plan.links plan.portion) (new_contents plan.memory) (new_whole plan)
@@ -229,8 +228,7 @@ module _ (plan : Plan) (s : WholeLinks) (begins : WholeBegins) (fits : FitsPlan 
   first_is = record { plan_is = refl; steps_are = is.links.steps; stands = first_stands }
 
   links_same : AreLinks plan s.links.ends s.links.keeper.keys
-  links_same =
-      subst (λ (v : EndsView). AreLinks plan v s.links.keeper.keys) (sym is.links.ends)
+  links_same = subst (λ (v : EndsView). AreLinks plan v s.links.keeper.keys) (sym is.links.ends)
       (subst (λ (k : KeeperView). AreLinks plan (new_all_ends plan) k) (sym is.links.keys) (links_first plan fits))
 
   bounded_same : IsBounded s.links.ends s.links.packets.packets s.links.steps

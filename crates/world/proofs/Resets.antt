@@ -61,8 +61,7 @@ none_settled is_secure (t ∷ ts) = ap (λ (us : List DeviceTdi). interface_afte
 done_verdict : (plan : Plan) (beside : BesidePorts) (st : LinkState) (link : ℕ) (ends : List PortName)
     → nat_lt link (length plan.links) ≡ true → (step_of plan beside st (event.Reset link ends)).0 ≡ v.Reset link
 unfolding step_of
-done_verdict plan beside st link ends there =
-    ap (λ (s : Stepped). s.0)
+done_verdict plan beside st link ends there = ap (λ (s : Stepped). s.0)
     (ap (λ (b : Bool). if b then (v.Reset link, reset_state plan st ends) else (v.Nothing, st)) there)
 
 turned : (a b : ℕ) → (a == b) ≡ (b == a)
@@ -103,8 +102,7 @@ module _ (plan : Plan) (old new : Links) (w : Whole) (both : AreBoth plan old ne
 
     same_device : (k : ℕ) (l l' : LinkEnds) → slice_get old.ends.links k ≡ Some l
         → slice_get new.ends.links k ≡ Some l' → SameDevice l.device.interfaces l'.device.interfaces
-    same_device k l l' at at' =
-        subst (SameDevice l.device.interfaces) (sym (sides.devices there k l l' at at'))
+    same_device k l l' at at' = subst (SameDevice l.device.interfaces) (sym (sides.devices there k l l' at at'))
         (reset_same (k == link) (secure_or_live l'.device.port (peer_live new.ends k)) l.device.interfaces)
 
     -- another device is led by the ends of its streams

@@ -39,8 +39,7 @@ pub record Turn (plan : Plan) (old new : Links) (w : Whole) (e : Event) (verdict
   pub step : ◌≡◌ {A = Stepped} (verdict, links_state plan new) (step_of plan (beside_of plan w) w.links e)
 
 abbrev pub IsAfter : Plan → Links → Whole → Event → Verdict → Type 0
-IsAfter plan new w e verdict =
-    IsBeside plan new.ends.links new.keeper.interfaces new.trusted.contents
+IsAfter plan new w e verdict = IsBeside plan new.ends.links new.keeper.interfaces new.trusted.contents
     (whole_after plan w e verdict (links_state plan new))
 
 grants_are : (plan : Plan) (old new : Links) (w : Whole) → AreBoth plan old new w
@@ -66,8 +65,7 @@ module _ (plan : Plan) (old new : Links) (w : Whole) (verdict : Verdict) (join :
       bind_beside plan old new w verdict t.both join i line stream loss sides t.step
   interface_after (ie.Unbind i line stream loss) t sides =
       unbind_beside plan old new w verdict t.both join i line stream loss sides t.step
-  interface_after (ie.View i) t sides =
-      view_beside plan old new w verdict (beside_of plan w) t.both sides i t.step
+  interface_after (ie.View i) t sides = view_beside plan old new w verdict (beside_of plan w) t.both sides i t.step
   interface_after (ie.Write i register value) t sides =
       write_beside plan old new w verdict t.both i register value sides t.step
   interface_after (ie.Flr i) t sides = flr_beside plan old new w verdict t.both i sides t.step
@@ -79,20 +77,15 @@ module _ (plan : Plan) (old new : Links) (w : Whole) (verdict : Verdict) (join :
       → IsAfter plan new w e verdict
   beside_after (event.Send port bytes more trusted) t sides =
       send_beside plan old new w verdict (beside_of plan w) t.both sides port bytes more trusted t.step
-  beside_after (event.Pass n) t sides =
-      arrives_beside plan old new w t.history (event.Pass n) verdict refl t.both t.stands
-      (grants_are plan old new w t.both) t.regions sides
-  beside_after (event.Alter n at mask) t sides =
-      arrives_beside plan old new w t.history (event.Alter n at mask) verdict refl t.both t.stands
-      (grants_are plan old new w t.both) t.regions sides
-  beside_after (event.Cut n len) t sides =
-      arrives_beside plan old new w t.history (event.Cut n len) verdict refl t.both t.stands
-      (grants_are plan old new w t.both) t.regions sides
-  beside_after (event.Arrive port bytes) t sides =
-      arrives_beside plan old new w t.history (event.Arrive port bytes) verdict refl t.both t.stands
-      (grants_are plan old new w t.both) t.regions sides
-  beside_after (event.Dump n) t sides =
-      dump_beside plan old new w verdict (beside_of plan w) t.both sides n t.step
+  beside_after (event.Pass n) t sides = arrives_beside plan old new w t.history (event.Pass n) verdict refl t.both
+      t.stands (grants_are plan old new w t.both) t.regions sides
+  beside_after (event.Alter n at mask) t sides = arrives_beside plan old new w t.history (event.Alter n at mask) verdict
+      refl t.both t.stands (grants_are plan old new w t.both) t.regions sides
+  beside_after (event.Cut n len) t sides = arrives_beside plan old new w t.history (event.Cut n len) verdict refl t.both
+      t.stands (grants_are plan old new w t.both) t.regions sides
+  beside_after (event.Arrive port bytes) t sides = arrives_beside plan old new w t.history (event.Arrive port bytes)
+      verdict refl t.both t.stands (grants_are plan old new w t.both) t.regions sides
+  beside_after (event.Dump n) t sides = dump_beside plan old new w verdict (beside_of plan w) t.both sides n t.step
   beside_after (event.Establish line stream loss) t sides =
       establish_beside plan old new w verdict t.both line stream loss sides t.step
   beside_after (event.Refresh line stream loss) t sides =

@@ -17,9 +17,9 @@ use Rattle.machine_whole.specs.Stands.{WholeStandsFor, WholeSteps}
 use Rattle.join_interfaces.specs.Joined.{InterfaceOperationsJoin}
 use Rattle.join_accesses.specs.{AreLinks, Ends, EndsView, HasNoVerdict, HostKeeper, IsBounded, links_state, BesideAfter}
 use Rattle.join_accesses.specs.{StandsForSome, state_of, WholeLinks, AccessesAfter, beside_whole, WholeEnds}
-use Rattle.join_accesses.specs.{WholeEndsAs, WholeStays, HasAllAccesses as EachHasAccesses, AreAccesses, LinkSeen}
-use Rattle.join_accesses.specs.{link_seen, AreDrawn, IsBeside, WorldView, IsAsBefore, WorldStandsFor, HasStood, IsStep}
-use Rattle.join_accesses.specs.{world_of, IsWorld}
+use Rattle.join_accesses.specs.{WholeEndsOrHasNone, WholeStays, HasAllAccesses as EachHasAccesses, AreAccesses}
+use Rattle.join_accesses.specs.{LinkSeen, link_seen, AreDrawn, IsBeside, WorldView, IsAsBefore, WorldStandsFor}
+use Rattle.join_accesses.specs.{HasStood, IsStep, world_of, IsWorld}
 use Rattle.join_accesses.proofs.{IsState}
 use Rattle.join_accesses.proofs.Said.{answers_are, beside_is, is_answered}
 use Rattle.join_accesses.proofs.Turned.{accesses_are}
@@ -123,11 +123,11 @@ module _ (plan : Plan) (old new : WholeLinks) (e : Event) (given : Given) (w : I
   not_without none = none (stands_for_some plan old w)
       (is_answered plan old w.stands.whole given.join w.links w.stands.is e)
 
-  pub has_verdict : (o : Option Verdict) → WholeEndsAs plan o old new e → IsSome o
+  pub has_verdict : (o : Option Verdict) → WholeEndsOrHasNone plan o old new e → IsSome o
   has_verdict (Some verdict) x = refl
   has_verdict None x = absurd (not_without x)
 
-  pub world_after : (o : Option Verdict) → WholeEndsAs plan o old new e → IfSome o (HasSides plan old new e)
+  pub world_after : (o : Option Verdict) → WholeEndsOrHasNone plan o old new e → IfSome o (HasSides plan old new e)
       → IsWorld plan new
   world_after None x sides = absurd (not_without x)
   world_after (Some verdict) x sides =
@@ -142,7 +142,7 @@ module _ (plan : Plan) (old new : WholeLinks) (e : Event) (given : Given) (w : I
       }
 
   pub step_after : (view : WorldView) → world_of plan old ≡ view → (o : Option Verdict) (verdict : Verdict)
-      → o ≡ Some verdict → WholeEndsAs plan o old new e → IfSome o (HasSides plan old new e)
+      → o ≡ Some verdict → WholeEndsOrHasNone plan o old new e → IfSome o (HasSides plan old new e)
       → IsStep view e verdict (world_of plan new)
   step_after view is None verdict some x sides = absurd (none-some verdict some)
   step_after view is (Some said) verdict some x sides =

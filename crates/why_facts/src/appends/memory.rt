@@ -102,7 +102,11 @@ fn range_of(bars: &[BarPlan], bar: u64) -> Option<BarPlan>
 }
 
 /// Appends the range of one of these BARs, if the interface has it.
-pub fn push_bar_of(facts: &mut Vec<Fact>, bars: &[BarPlan], bar: u64) -> Result<(), OutOfMemory>
+pub fn push_bar_if_there(
+    facts: &mut Vec<Fact>,
+    bars: &[BarPlan],
+    bar: u64,
+) -> Result<(), OutOfMemory>
     ensures { IfOk result (λ _. facts.new.items ≡ facts.old.items ++ bar_facts bar (slice_get bars.now bar)) }
 {
     match range_of(bars, bar) {

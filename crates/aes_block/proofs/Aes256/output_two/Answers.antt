@@ -4,14 +4,12 @@ use Rattle.aes_block.proofs.Rounds.{start_two, step_two, finish_two}
 use Rattle.aes_block.proofs.Aes256.output_two.Goals as goal
 
 pub rounds-init : goal.rounds-init
-rounds-init c =
-    start_two (round_words c.self.inside.key) c.self.inside.round_keys c.args.a c.args.b c.first_round-s.result
-    c.self.invariant c.fits-a c.fits-b c.first_round-s.ensures
+rounds-init c = start_two (round_words c.self.inside.key) c.self.inside.round_keys c.args.a c.args.b
+    c.first_round-s.result c.self.invariant c.fits-a c.fits-b c.first_round-s.ensures
 
 pub rounds-preserved : goal.rounds-preserved
-rounds-preserved c =
-    step_two (round_words c.self.inside.key) c.self.inside.round_keys c.args.a c.args.b c.rounds.s c.round-s.result
-    c.rounds.n c.self.invariant (omega arith) (omega arith) c.round-s.ensures c.rounds.invariant
+rounds-preserved c = step_two (round_words c.self.inside.key) c.self.inside.round_keys c.args.a c.args.b c.rounds.s
+    c.round-s.result c.rounds.n c.self.invariant (omega arith) (omega arith) c.round-s.ensures c.rounds.invariant
 
 pub returns-clause-first : goal.returns-clause-first
 returns-clause-first c =

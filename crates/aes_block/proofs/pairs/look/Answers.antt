@@ -7,6 +7,5 @@ pub swizzle : goal.swizzle
 swizzle c = may_look_twice c.args.at c.fits-at.0 c.requires
 
 pub returns : goal.returns
-returns c =
-    ap (λ (t : List ℕ). swz_l w8 16 t 0 c.args.at) c.side_by_side.ensures.both
+returns c = ap (λ (t : List ℕ). swz_l w8 16 t 0 c.args.at) c.side_by_side.ensures.both
     ∙ looked_twice c.args.table c.args.at (omega arith) c.fits-at.0 c.requires

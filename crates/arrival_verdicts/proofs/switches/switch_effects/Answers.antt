@@ -19,11 +19,9 @@ loop-i-preserved c = (
 )
 
 pub returns-clause-effects : goal.returns-clause-effects
-returns-clause-effects c =
-    all_effects c.args.packets.now c.args.unit.sub c.args.direction c.args.queues.now c.loop-i.i c.loop-i.list
-    c.loop-i.queues c.loop-i.invariant.0 (omega (arith, c.count-i-end.ensures.value))
+returns-clause-effects c = all_effects c.args.packets.now c.args.unit.sub c.args.direction c.args.queues.now c.loop-i.i
+    c.loop-i.list c.loop-i.queues c.loop-i.invariant.0 (omega (arith, c.count-i-end.ensures.value))
 
 pub returns-clause-queues : goal.returns-clause-queues
-returns-clause-queues c =
-    all_queues c.args.packets.now c.args.unit.sub c.args.direction c.args.queues.now c.loop-i.i c.loop-i.list
-    c.loop-i.queues c.loop-i.invariant.0 (omega (arith, c.count-i-end.ensures.value))
+returns-clause-queues c = all_queues c.args.packets.now c.args.unit.sub c.args.direction c.args.queues.now c.loop-i.i
+    c.loop-i.list c.loop-i.queues c.loop-i.invariant.0 (omega (arith, c.count-i-end.ensures.value))

@@ -8,6 +8,5 @@ pub returns-in_default-clause-effects : goal.returns-in_default-clause-effects
 returns-in_default-clause-effects c = c.new.ensures ∙ sym (no_unit c.args.arrival _ c.in_default.not-Accepted)
 
 pub returns-in_default-clause-queues : goal.returns-in_default-clause-queues
-returns-in_default-clause-queues c =
-    ap (λ (xs : List HopTlp). all_offered c.args.direction xs c.args.queues.now)
+returns-in_default-clause-queues c = ap (λ (xs : List HopTlp). all_offered c.args.direction xs c.args.queues.now)
     (sym (no_unit c.args.arrival (unit_waits c.args.packets.now) c.in_default.not-Accepted))

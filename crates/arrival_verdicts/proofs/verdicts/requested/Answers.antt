@@ -4,6 +4,5 @@ use Rattle.arrival_verdicts.proofs.Effects.{reads_are}
 use Rattle.arrival_verdicts.proofs.verdicts.requested.Goals as goal
 
 pub returns-clause-reads : goal.returns-clause-reads
-returns-clause-reads c =
-    ap (λ (a : LinkAccesses). a.reads) c.request.ensures.reads
+returns-clause-reads c = ap (λ (a : LinkAccesses). a.reads) c.request.ensures.reads
     ∙ reads_are c.args.unit.draw c.request.result c.args.tlp.now.head c.args.access.now.reads

@@ -281,9 +281,8 @@ returns-in_default-clause-file_names g c = asks_none (λ other. other ≡ c.args
     (g.S.Shelf.seen c.args.shelf.now).asked
 
 pub returns-in_default-read_piece-clause-file_names : goal.returns-in_default-read_piece-clause-file_names
-returns-in_default-read_piece-clause-file_names g c =
-    asks_more (λ other. other ≡ c.args.name.now) _ _ _ c.loop-n.invariant.names
-    c.in_default-read_piece.ensures.file_names
+returns-in_default-read_piece-clause-file_names g c = asks_more (λ other. other ≡ c.args.name.now) _ _ _
+    c.loop-n.invariant.names c.in_default-read_piece.ensures.file_names
 
 pub returns-then-n-eq0-clause-file_names : goal.returns-then-n-eq0-clause-file_names
 returns-then-n-eq0-clause-file_names g c =

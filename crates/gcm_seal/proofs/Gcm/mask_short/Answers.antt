@@ -11,7 +11,7 @@ returns c =
     let n : ℕ = 16 * c.args.block in
     let f : ℕ = c.min-first.result in
     let first : n + 0 ≡ n = omega arith in
-    two_parts key iv n (16 * (c.args.block + 1) + 0) f xs c.mask_within.new.buf c.mask_within-2.new.buf
+    two_parts key iv n (16 * (c.args.block + 1) + 0) f xs c.mask_in_block.new.buf c.mask_in_block-2.new.buf
     (omega (arith, c.min-first.ensures))
     (λ more. omega (arith, c.min-first.ensures, more))
-    (c.mask_within.ensures ∙ ap (λ (k : ℕ). masked_bytes key iv k (take f xs)) first) c.mask_within-2.ensures
+    (c.mask_in_block.ensures ∙ ap (λ (k : ℕ). masked_bytes key iv k (take f xs)) first) c.mask_in_block-2.ensures

@@ -71,33 +71,27 @@ pub returns-in-Err-Memory-clause-due_outcome : goal.returns-in-Err-Memory-clause
 returns-in-Err-Memory-clause-due_outcome g c = answered_without_memory _ _ _
 
 pub returns-in-Ok-Run-clause-due_outcome : goal.returns-in-Ok-Run-clause-due_outcome
-returns-in-Ok-Run-clause-due_outcome g c =
-    asks_for (rw c.in-Ok-Run.field-0-is at c.in-Ok-Run.ensures.ok)
+returns-in-Ok-Run-clause-due_outcome g c = asks_for (rw c.in-Ok-Run.field-0-is at c.in-Ok-Run.ensures.ok)
     (answered_run _ _ _ _ _ _ _ c.run_files.ensures.due_outcome)
 
 pub returns-in-Ok-Judge-clause-due_outcome : goal.returns-in-Ok-Judge-clause-due_outcome
-returns-in-Ok-Judge-clause-due_outcome g c =
-    asks_for (rw c.in-Ok-Judge.field-0-is at c.in-Ok-Judge.ensures.ok)
+returns-in-Ok-Judge-clause-due_outcome g c = asks_for (rw c.in-Ok-Judge.field-0-is at c.in-Ok-Judge.ensures.ok)
     (answered_judge _ _ _ _ _ _ _ _ c.judge.ensures.due_outcome)
 
 pub returns-in-Ok-Why-clause-due_outcome : goal.returns-in-Ok-Why-clause-due_outcome
-returns-in-Ok-Why-clause-due_outcome g c =
-    asks_for (rw c.in-Ok-Why.field-0-is at c.in-Ok-Why.ensures.ok)
+returns-in-Ok-Why-clause-due_outcome g c = asks_for (rw c.in-Ok-Why.field-0-is at c.in-Ok-Why.ensures.ok)
     (answered_why _ _ _ _ _ _ _ _ c.why.ensures.due_outcome)
 
 pub returns-in-Ok-Check-clause-due_outcome : goal.returns-in-Ok-Check-clause-due_outcome
-returns-in-Ok-Check-clause-due_outcome g c =
-    asks_for (rw c.in-Ok-Check.field-0-is at c.in-Ok-Check.ensures.ok)
+returns-in-Ok-Check-clause-due_outcome g c = asks_for (rw c.in-Ok-Check.field-0-is at c.in-Ok-Check.ensures.ok)
     (answered_check _ _ _ _ _ _ c.check_topology.ensures.due_outcome)
 
 pub returns-in-Ok-Migrate-clause-due_outcome : goal.returns-in-Ok-Migrate-clause-due_outcome
-returns-in-Ok-Migrate-clause-due_outcome g c =
-    asks_for (rw c.in-Ok-Migrate.field-0-is at c.in-Ok-Migrate.ensures.ok)
+returns-in-Ok-Migrate-clause-due_outcome g c = asks_for (rw c.in-Ok-Migrate.field-0-is at c.in-Ok-Migrate.ensures.ok)
     (answered_migrate _ _ _ _ _ _ c.migrate_topology.ensures.due_outcome)
 
 pub returns-in-Ok-Show-clause-due_outcome : goal.returns-in-Ok-Show-clause-due_outcome
-returns-in-Ok-Show-clause-due_outcome g c =
-    asks_for (rw c.in-Ok-Show.field-0-is at c.in-Ok-Show.ensures.ok)
+returns-in-Ok-Show-clause-due_outcome g c = asks_for (rw c.in-Ok-Show.field-0-is at c.in-Ok-Show.ensures.ok)
     (answered_show _ _ _ _ _ _ c.show_packets.ensures.due_outcome)
 
 pub returns-in-Ok-Generate-clause-due_outcome : goal.returns-in-Ok-Generate-clause-due_outcome
@@ -130,28 +124,24 @@ returns-in-Ok-Run-clause-output_so_far g c =
     asked_wrote (seen_run g c) _ (rw c.in-Ok-Run.field-0-is at c.in-Ok-Run.ensures.ok) c.run_files.ensures.output_so_far
 
 pub returns-in-Ok-Judge-clause-output_so_far : goal.returns-in-Ok-Judge-clause-output_so_far
-returns-in-Ok-Judge-clause-output_so_far g c =
-    asked_wrote (seen_judge g c) _ (rw c.in-Ok-Judge.field-0-is at c.in-Ok-Judge.ensures.ok)
-    c.judge.ensures.output_so_far
+returns-in-Ok-Judge-clause-output_so_far g c = asked_wrote (seen_judge g c) _
+    (rw c.in-Ok-Judge.field-0-is at c.in-Ok-Judge.ensures.ok) c.judge.ensures.output_so_far
 
 pub returns-in-Ok-Why-clause-output_so_far : goal.returns-in-Ok-Why-clause-output_so_far
 returns-in-Ok-Why-clause-output_so_far g c =
     asked_wrote (seen_why g c) _ (rw c.in-Ok-Why.field-0-is at c.in-Ok-Why.ensures.ok) c.why.ensures.output_so_far
 
 pub returns-in-Ok-Check-clause-output_so_far : goal.returns-in-Ok-Check-clause-output_so_far
-returns-in-Ok-Check-clause-output_so_far g c =
-    asked_wrote (seen_check g c) _ (rw c.in-Ok-Check.field-0-is at c.in-Ok-Check.ensures.ok)
-    c.check_topology.ensures.output_so_far
+returns-in-Ok-Check-clause-output_so_far g c = asked_wrote (seen_check g c) _
+    (rw c.in-Ok-Check.field-0-is at c.in-Ok-Check.ensures.ok) c.check_topology.ensures.output_so_far
 
 pub returns-in-Ok-Migrate-clause-output_so_far : goal.returns-in-Ok-Migrate-clause-output_so_far
-returns-in-Ok-Migrate-clause-output_so_far g c =
-    asked_wrote (seen_migrate g c) _ (rw c.in-Ok-Migrate.field-0-is at c.in-Ok-Migrate.ensures.ok)
-    c.migrate_topology.ensures.output_so_far
+returns-in-Ok-Migrate-clause-output_so_far g c = asked_wrote (seen_migrate g c) _
+    (rw c.in-Ok-Migrate.field-0-is at c.in-Ok-Migrate.ensures.ok) c.migrate_topology.ensures.output_so_far
 
 pub returns-in-Ok-Show-clause-output_so_far : goal.returns-in-Ok-Show-clause-output_so_far
-returns-in-Ok-Show-clause-output_so_far g c =
-    asked_wrote (seen_show g c) _ (rw c.in-Ok-Show.field-0-is at c.in-Ok-Show.ensures.ok)
-    c.show_packets.ensures.output_so_far
+returns-in-Ok-Show-clause-output_so_far g c = asked_wrote (seen_show g c) _
+    (rw c.in-Ok-Show.field-0-is at c.in-Ok-Show.ensures.ok) c.show_packets.ensures.output_so_far
 
 pub returns-in-Ok-Generate-clause-output_so_far : goal.returns-in-Ok-Generate-clause-output_so_far
 returns-in-Ok-Generate-clause-output_so_far g c = wrote_no_line (seen_generate g c) _ refl c.generate.ensures.ran
@@ -165,43 +155,36 @@ returns-in-Ok-GenerateTopology-clause-output_so_far g c =
     wrote_no_line (seen_topology g c) _ refl c.generate_topology.ensures.ran
 
 pub returns-in-Err-Usage-clause-reads_no_further : goal.returns-in-Err-Usage-clause-reads_no_further
-returns-in-Err-Usage-clause-reads_no_further g c =
-    nothing_read (seen_usage g c) _ (rw c.in-Err-Usage.field-0-is at c.in-Err-Usage.ensures.err) refl (λ contents
-    ahead. refl)
+returns-in-Err-Usage-clause-reads_no_further g c = nothing_read (seen_usage g c) _
+    (rw c.in-Err-Usage.field-0-is at c.in-Err-Usage.ensures.err) refl (λ contents ahead. refl)
 
 pub returns-in-Ok-Run-clause-reads_no_further : goal.returns-in-Ok-Run-clause-reads_no_further
-returns-in-Ok-Run-clause-reads_no_further g c =
-    asked_far (seen_run g c) _ (rw c.in-Ok-Run.field-0-is at c.in-Ok-Run.ensures.ok)
-    c.run_files.ensures.reads_no_further
+returns-in-Ok-Run-clause-reads_no_further g c = asked_far (seen_run g c) _
+    (rw c.in-Ok-Run.field-0-is at c.in-Ok-Run.ensures.ok) c.run_files.ensures.reads_no_further
 
 pub returns-in-Ok-Judge-clause-reads_no_further : goal.returns-in-Ok-Judge-clause-reads_no_further
-returns-in-Ok-Judge-clause-reads_no_further g c =
-    asked_far (seen_judge g c) _ (rw c.in-Ok-Judge.field-0-is at c.in-Ok-Judge.ensures.ok)
-    c.judge.ensures.reads_no_further
+returns-in-Ok-Judge-clause-reads_no_further g c = asked_far (seen_judge g c) _
+    (rw c.in-Ok-Judge.field-0-is at c.in-Ok-Judge.ensures.ok) c.judge.ensures.reads_no_further
 
 pub returns-in-Ok-Why-clause-reads_no_further : goal.returns-in-Ok-Why-clause-reads_no_further
 returns-in-Ok-Why-clause-reads_no_further g c =
     asked_far (seen_why g c) _ (rw c.in-Ok-Why.field-0-is at c.in-Ok-Why.ensures.ok) c.why.ensures.reads_no_further
 
 pub returns-in-Ok-Check-clause-reads_no_further : goal.returns-in-Ok-Check-clause-reads_no_further
-returns-in-Ok-Check-clause-reads_no_further g c =
-    asked_far (seen_check g c) _ (rw c.in-Ok-Check.field-0-is at c.in-Ok-Check.ensures.ok)
-    c.check_topology.ensures.reads_no_further
+returns-in-Ok-Check-clause-reads_no_further g c = asked_far (seen_check g c) _
+    (rw c.in-Ok-Check.field-0-is at c.in-Ok-Check.ensures.ok) c.check_topology.ensures.reads_no_further
 
 pub returns-in-Ok-Migrate-clause-reads_no_further : goal.returns-in-Ok-Migrate-clause-reads_no_further
-returns-in-Ok-Migrate-clause-reads_no_further g c =
-    asked_far (seen_migrate g c) _ (rw c.in-Ok-Migrate.field-0-is at c.in-Ok-Migrate.ensures.ok)
-    c.migrate_topology.ensures.reads_no_further
+returns-in-Ok-Migrate-clause-reads_no_further g c = asked_far (seen_migrate g c) _
+    (rw c.in-Ok-Migrate.field-0-is at c.in-Ok-Migrate.ensures.ok) c.migrate_topology.ensures.reads_no_further
 
 pub returns-in-Ok-Show-clause-reads_no_further : goal.returns-in-Ok-Show-clause-reads_no_further
-returns-in-Ok-Show-clause-reads_no_further g c =
-    asked_far (seen_show g c) _ (rw c.in-Ok-Show.field-0-is at c.in-Ok-Show.ensures.ok)
-    c.show_packets.ensures.reads_no_further
+returns-in-Ok-Show-clause-reads_no_further g c = asked_far (seen_show g c) _
+    (rw c.in-Ok-Show.field-0-is at c.in-Ok-Show.ensures.ok) c.show_packets.ensures.reads_no_further
 
 pub returns-in-Ok-Generate-clause-reads_no_further : goal.returns-in-Ok-Generate-clause-reads_no_further
-returns-in-Ok-Generate-clause-reads_no_further g c =
-    nothing_read (seen_generate g c) _ (rw c.in-Ok-Generate.field-0-is at c.in-Ok-Generate.ensures.ok) refl (λ
-    contents ahead. refl)
+returns-in-Ok-Generate-clause-reads_no_further g c = nothing_read (seen_generate g c) _
+    (rw c.in-Ok-Generate.field-0-is at c.in-Ok-Generate.ensures.ok) refl (λ contents ahead. refl)
 
 pub returns-in-Ok-GenerateScript-clause-reads_no_further : goal.returns-in-Ok-GenerateScript-clause-reads_no_further
 returns-in-Ok-GenerateScript-clause-reads_no_further g c =
@@ -248,19 +231,16 @@ returns-in-Ok-Show-clause-generated_text g c =
     asks_alone (seen_show g c) _ (rw c.in-Ok-Show.field-0-is at c.in-Ok-Show.ensures.ok) tt
 
 pub returns-in-Ok-Generate-clause-generated_text : goal.returns-in-Ok-Generate-clause-generated_text
-returns-in-Ok-Generate-clause-generated_text g c =
-    asks_alone (seen_generate g c) _ (rw c.in-Ok-Generate.field-0-is at c.in-Ok-Generate.ensures.ok)
-    c.generate.ensures.ran
+returns-in-Ok-Generate-clause-generated_text g c = asks_alone (seen_generate g c) _
+    (rw c.in-Ok-Generate.field-0-is at c.in-Ok-Generate.ensures.ok) c.generate.ensures.ran
 
 pub returns-in-Ok-GenerateScript-clause-generated_text : goal.returns-in-Ok-GenerateScript-clause-generated_text
-returns-in-Ok-GenerateScript-clause-generated_text g c =
-    asks_alone (seen_script g c) _ (rw c.in-Ok-GenerateScript.field-0-is at c.in-Ok-GenerateScript.ensures.ok)
-    c.generate_script.ensures.ran
+returns-in-Ok-GenerateScript-clause-generated_text g c = asks_alone (seen_script g c) _
+    (rw c.in-Ok-GenerateScript.field-0-is at c.in-Ok-GenerateScript.ensures.ok) c.generate_script.ensures.ran
 
 pub returns-in-Ok-GenerateTopology-clause-generated_text : goal.returns-in-Ok-GenerateTopology-clause-generated_text
-returns-in-Ok-GenerateTopology-clause-generated_text g c =
-    asks_alone (seen_topology g c) _ (rw c.in-Ok-GenerateTopology.field-0-is at c.in-Ok-GenerateTopology.ensures.ok)
-    c.generate_topology.ensures.ran
+returns-in-Ok-GenerateTopology-clause-generated_text g c = asks_alone (seen_topology g c) _
+    (rw c.in-Ok-GenerateTopology.field-0-is at c.in-Ok-GenerateTopology.ensures.ok) c.generate_topology.ensures.ran
 
 pub returns-in-Err-Usage-clause-differing_text : goal.returns-in-Err-Usage-clause-differing_text
 returns-in-Err-Usage-clause-differing_text g c =
@@ -268,9 +248,8 @@ returns-in-Err-Usage-clause-differing_text g c =
     (ends_as end.Differs c.finish.result end.Usage c.finish.ensures.end (λ is. cc))
 
 pub returns-in-Ok-Run-clause-differing_text : goal.returns-in-Ok-Run-clause-differing_text
-returns-in-Ok-Run-clause-differing_text g c =
-    never_ends AsksToJudge end.Differs (command_asked (map string_bytes c.args.words.now)) c.run_files.result _ _
-    c.run_files.ensures.unjudged
+returns-in-Ok-Run-clause-differing_text g c = never_ends AsksToJudge end.Differs
+    (command_asked (map string_bytes c.args.words.now)) c.run_files.result _ _ c.run_files.ensures.unjudged
 
 pub returns-in-Ok-Judge-clause-differing_text : goal.returns-in-Ok-Judge-clause-differing_text
 returns-in-Ok-Judge-clause-differing_text g c =
@@ -279,14 +258,12 @@ returns-in-Ok-Judge-clause-differing_text g c =
     (said end.Differs c.judge.result _ c.judge.ensures.differing_text)
 
 pub returns-in-Ok-Why-clause-differing_text : goal.returns-in-Ok-Why-clause-differing_text
-returns-in-Ok-Why-clause-differing_text g c =
-    never_ends AsksToJudge end.Differs (command_asked (map string_bytes c.args.words.now)) c.why.result _ _
-    c.why.ensures.unjudged
+returns-in-Ok-Why-clause-differing_text g c = never_ends AsksToJudge end.Differs
+    (command_asked (map string_bytes c.args.words.now)) c.why.result _ _ c.why.ensures.unjudged
 
 pub returns-in-Ok-Check-clause-differing_text : goal.returns-in-Ok-Check-clause-differing_text
-returns-in-Ok-Check-clause-differing_text g c =
-    never_ends AsksToJudge end.Differs (command_asked (map string_bytes c.args.words.now)) c.check_topology.result _ _
-    c.check_topology.ensures.unjudged
+returns-in-Ok-Check-clause-differing_text g c = never_ends AsksToJudge end.Differs
+    (command_asked (map string_bytes c.args.words.now)) c.check_topology.result _ _ c.check_topology.ensures.unjudged
 
 pub returns-in-Ok-Migrate-clause-differing_text : goal.returns-in-Ok-Migrate-clause-differing_text
 returns-in-Ok-Migrate-clause-differing_text g c =
@@ -294,9 +271,8 @@ returns-in-Ok-Migrate-clause-differing_text g c =
     c.migrate_topology.ensures.unjudged
 
 pub returns-in-Ok-Show-clause-differing_text : goal.returns-in-Ok-Show-clause-differing_text
-returns-in-Ok-Show-clause-differing_text g c =
-    never_ends AsksToJudge end.Differs (command_asked (map string_bytes c.args.words.now)) c.show_packets.result _ _
-    c.show_packets.ensures.unjudged
+returns-in-Ok-Show-clause-differing_text g c = never_ends AsksToJudge end.Differs
+    (command_asked (map string_bytes c.args.words.now)) c.show_packets.result _ _ c.show_packets.ensures.unjudged
 
 pub returns-in-Ok-Generate-clause-differing_text : goal.returns-in-Ok-Generate-clause-differing_text
 returns-in-Ok-Generate-clause-differing_text g c =
@@ -320,14 +296,12 @@ returns-in-Err-Usage-clause-absent_event g c =
     (ends_as end.NoEvent c.finish.result end.Usage c.finish.ensures.end (λ is. cc))
 
 pub returns-in-Ok-Run-clause-absent_event : goal.returns-in-Ok-Run-clause-absent_event
-returns-in-Ok-Run-clause-absent_event g c =
-    never_ends AsksToTell end.NoEvent (command_asked (map string_bytes c.args.words.now)) c.run_files.result _ _
-    c.run_files.ensures.present
+returns-in-Ok-Run-clause-absent_event g c = never_ends AsksToTell end.NoEvent
+    (command_asked (map string_bytes c.args.words.now)) c.run_files.result _ _ c.run_files.ensures.present
 
 pub returns-in-Ok-Judge-clause-absent_event : goal.returns-in-Ok-Judge-clause-absent_event
-returns-in-Ok-Judge-clause-absent_event g c =
-    never_ends AsksToTell end.NoEvent (command_asked (map string_bytes c.args.words.now)) c.judge.result _ _
-    c.judge.ensures.present
+returns-in-Ok-Judge-clause-absent_event g c = never_ends AsksToTell end.NoEvent
+    (command_asked (map string_bytes c.args.words.now)) c.judge.result _ _ c.judge.ensures.present
 
 pub returns-in-Ok-Why-clause-absent_event : goal.returns-in-Ok-Why-clause-absent_event
 returns-in-Ok-Why-clause-absent_event g c =
@@ -336,19 +310,16 @@ returns-in-Ok-Why-clause-absent_event g c =
     (said end.NoEvent c.why.result _ c.why.ensures.all)
 
 pub returns-in-Ok-Check-clause-absent_event : goal.returns-in-Ok-Check-clause-absent_event
-returns-in-Ok-Check-clause-absent_event g c =
-    never_ends AsksToTell end.NoEvent (command_asked (map string_bytes c.args.words.now)) c.check_topology.result _ _
-    c.check_topology.ensures.present
+returns-in-Ok-Check-clause-absent_event g c = never_ends AsksToTell end.NoEvent
+    (command_asked (map string_bytes c.args.words.now)) c.check_topology.result _ _ c.check_topology.ensures.present
 
 pub returns-in-Ok-Migrate-clause-absent_event : goal.returns-in-Ok-Migrate-clause-absent_event
-returns-in-Ok-Migrate-clause-absent_event g c =
-    never_ends AsksToTell end.NoEvent (command_asked (map string_bytes c.args.words.now)) c.migrate_topology.result _ _
-    c.migrate_topology.ensures.present
+returns-in-Ok-Migrate-clause-absent_event g c = never_ends AsksToTell end.NoEvent
+    (command_asked (map string_bytes c.args.words.now)) c.migrate_topology.result _ _ c.migrate_topology.ensures.present
 
 pub returns-in-Ok-Show-clause-absent_event : goal.returns-in-Ok-Show-clause-absent_event
-returns-in-Ok-Show-clause-absent_event g c =
-    never_ends AsksToTell end.NoEvent (command_asked (map string_bytes c.args.words.now)) c.show_packets.result _ _
-    c.show_packets.ensures.present
+returns-in-Ok-Show-clause-absent_event g c = never_ends AsksToTell end.NoEvent
+    (command_asked (map string_bytes c.args.words.now)) c.show_packets.result _ _ c.show_packets.ensures.present
 
 pub returns-in-Ok-Generate-clause-absent_event : goal.returns-in-Ok-Generate-clause-absent_event
 returns-in-Ok-Generate-clause-absent_event g c =
@@ -386,31 +357,25 @@ returns-in-Ok-GenerateTopology-clause-file_names g c =
     asks_none (Names (command_asked (map string_bytes c.args.words.now))) (g.S.Shelf.seen c.args.shelf.now).asked
 
 pub returns-in-Ok-Judge-clause-file_names : goal.returns-in-Ok-Judge-clause-file_names
-returns-in-Ok-Judge-clause-file_names g c =
-    asked_names (command_asked (map string_bytes c.args.words.now)) _ _ _
+returns-in-Ok-Judge-clause-file_names g c = asked_names (command_asked (map string_bytes c.args.words.now)) _ _ _
     (rw c.in-Ok-Judge.field-0-is at c.in-Ok-Judge.ensures.ok) c.judge.ensures.file_names
 
 pub returns-in-Ok-Run-clause-file_names : goal.returns-in-Ok-Run-clause-file_names
-returns-in-Ok-Run-clause-file_names g c =
-    asked_names (command_asked (map string_bytes c.args.words.now)) _ _ _
+returns-in-Ok-Run-clause-file_names g c = asked_names (command_asked (map string_bytes c.args.words.now)) _ _ _
     (rw c.in-Ok-Run.field-0-is at c.in-Ok-Run.ensures.ok) c.run_files.ensures.file_names
 
 pub returns-in-Ok-Why-clause-file_names : goal.returns-in-Ok-Why-clause-file_names
-returns-in-Ok-Why-clause-file_names g c =
-    asked_names (command_asked (map string_bytes c.args.words.now)) _ _ _
+returns-in-Ok-Why-clause-file_names g c = asked_names (command_asked (map string_bytes c.args.words.now)) _ _ _
     (rw c.in-Ok-Why.field-0-is at c.in-Ok-Why.ensures.ok) c.why.ensures.file_names
 
 pub returns-in-Ok-Check-clause-file_names : goal.returns-in-Ok-Check-clause-file_names
-returns-in-Ok-Check-clause-file_names g c =
-    asked_names (command_asked (map string_bytes c.args.words.now)) _ _ _
+returns-in-Ok-Check-clause-file_names g c = asked_names (command_asked (map string_bytes c.args.words.now)) _ _ _
     (rw c.in-Ok-Check.field-0-is at c.in-Ok-Check.ensures.ok) c.check_topology.ensures.file_names
 
 pub returns-in-Ok-Migrate-clause-file_names : goal.returns-in-Ok-Migrate-clause-file_names
-returns-in-Ok-Migrate-clause-file_names g c =
-    asked_names (command_asked (map string_bytes c.args.words.now)) _ _ _
+returns-in-Ok-Migrate-clause-file_names g c = asked_names (command_asked (map string_bytes c.args.words.now)) _ _ _
     (rw c.in-Ok-Migrate.field-0-is at c.in-Ok-Migrate.ensures.ok) c.migrate_topology.ensures.file_names
 
 pub returns-in-Ok-Show-clause-file_names : goal.returns-in-Ok-Show-clause-file_names
-returns-in-Ok-Show-clause-file_names g c =
-    asked_names (command_asked (map string_bytes c.args.words.now)) _ _ _
+returns-in-Ok-Show-clause-file_names g c = asked_names (command_asked (map string_bytes c.args.words.now)) _ _ _
     (rw c.in-Ok-Show.field-0-is at c.in-Ok-Show.ensures.ok) c.show_packets.ensures.file_names

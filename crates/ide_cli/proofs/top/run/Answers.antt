@@ -5,10 +5,10 @@ use Rattle.ide_cli.specs.Headline.{InEvery}
 use Rattle.ide_cli.specs.Laws.{IsDue, Laws}
 use Rattle.ide_cli.specs.Seen.{CallSeen, run_seen}
 use Rattle.ide_cli.proofs.GeneratedRuns.{runs_generated}
-use Rattle.ide_cli.proofs.Judging.{all_judged, is_judged}
-use Rattle.ide_cli.proofs.Telling.{all_told, is_explained}
+use Rattle.ide_cli.proofs.Judging.{judged_events, is_judged}
+use Rattle.ide_cli.proofs.Telling.{told_up_to_event, is_explained}
 use Rattle.ide_cli.proofs.Requests.{ended}
-use Rattle.ide_cli.proofs.Written.{all_counted, all_written, history_is_due}
+use Rattle.ide_cli.proofs.Written.{counted_events, written_events, history_is_due}
 use Rattle.ide_cli.proofs.top.run.Given.{Over}
 use Rattle.ide_cli.proofs.top.run.Goals as goal
 
@@ -48,11 +48,12 @@ pub returns-clause-whole_files : goal.returns-clause-whole_files
 returns-clause-whole_files g c = λ same. ended end.Done _ status.Done c.perform.result _ refl c.status_of.ensures
     (rw c.as_slice-words.ensures.value at c.perform.ensures.whole_files) same
 
-pub returns-clause-all_written : goal.returns-clause-all_written
-returns-clause-all_written g c = all_written c.lines_tell.ensures.told (call g c) (returns-clause-due_outcome g c)
+pub returns-clause-written_events : goal.returns-clause-written_events
+returns-clause-written_events g c = written_events c.lines_tell.ensures.told (call g c)
+    (returns-clause-due_outcome g c)
 
-pub returns-clause-all_counted : goal.returns-clause-all_counted
-returns-clause-all_counted g c = all_counted (call g c) (returns-clause-generated_text g c)
+pub returns-clause-counted_events : goal.returns-clause-counted_events
+returns-clause-counted_events g c = counted_events (call g c) (returns-clause-generated_text g c)
 
 pub returns-clause-differing_text : goal.returns-clause-differing_text
 returns-clause-differing_text g c = λ same. ended end.Differs _ status.Differs c.perform.result _ refl
@@ -66,14 +67,14 @@ returns-clause-absent_event g c = λ same. ended end.NoEvent _ status.NoEvent c.
 pub returns-clause-explained_event : goal.returns-clause-explained_event
 returns-clause-explained_event g c = is_explained (call g c) (returns-clause-due_outcome g c)
 
-pub returns-clause-all_told : goal.returns-clause-all_told
-returns-clause-all_told g c = all_told (call g c)
+pub returns-clause-told_up_to_event : goal.returns-clause-told_up_to_event
+returns-clause-told_up_to_event g c = told_up_to_event (call g c)
 
 pub returns-clause-judged_text : goal.returns-clause-judged_text
 returns-clause-judged_text g c = is_judged (call g c) (returns-clause-due_outcome g c)
 
-pub returns-clause-all_judged : goal.returns-clause-all_judged
-returns-clause-all_judged g c = all_judged (call g c)
+pub returns-clause-judged_events : goal.returns-clause-judged_events
+returns-clause-judged_events g c = judged_events (call g c)
 
 pub returns-clause-file_names : goal.returns-clause-file_names
 returns-clause-file_names g c = rw c.as_slice-words.ensures.value at c.perform.ensures.file_names

@@ -107,6 +107,5 @@ returns-in-Ok-Long-clause-file_names g c = asks_first c.args.topology.now c.args
     c.in-Ok-Long.ensures.file_names
 
 pub returns-in-Ok-Sound-clause-file_names : goal.returns-in-Ok-Sound-clause-file_names
-returns-in-Ok-Sound-clause-file_names g c =
-    asks_both c.args.topology.now c.args.script.now _ _ _ c.in-Ok-Sound.ensures.file_names
-    c.run_script.ensures.file_names
+returns-in-Ok-Sound-clause-file_names g c = asks_both c.args.topology.now c.args.script.now _ _ _
+    c.in-Ok-Sound.ensures.file_names c.run_script.ensures.file_names

@@ -41,6 +41,5 @@ returns-in-Ok-clause-output_so_far g c =
     c.in-Ok.ensures.within) c.report.ensures.ran
 
 pub returns-in-Ok-clause-reads_no_further : goal.returns-in-Ok-clause-reads_no_further
-returns-in-Ok-clause-reads_no_further g c =
-    within_file (g.S.Shelf.seen c.args.shelf.now).contents c.args.topology.now (g.S.Shelf.seen c.args.shelf.now)
-    (g.S.Shelf.seen c.load.new.shelf) c.report.result c.in-Ok.ensures.within
+returns-in-Ok-clause-reads_no_further g c = within_file (g.S.Shelf.seen c.args.shelf.now).contents c.args.topology.now
+    (g.S.Shelf.seen c.args.shelf.now) (g.S.Shelf.seen c.load.new.shelf) c.report.result c.in-Ok.ensures.within

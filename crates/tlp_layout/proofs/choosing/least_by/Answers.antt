@@ -13,8 +13,7 @@ all_seen c =
     rw done at c.loop-place.invariant
 
 pub returns-clause-id : goal.returns-clause-id
-returns-clause-id c =
-    ap (option_map (λ (s : ChosenStream). s.id)) (all_seen c)
+returns-clause-id c = ap (option_map (λ (s : ChosenStream). s.id)) (all_seen c)
     ∙ least_from-id c.args.way (test_of c.args.way c.args.side c.args.tlp.now) c.args.streams.now 0
 
 pub returns-clause-way : goal.returns-clause-way
@@ -22,6 +21,5 @@ returns-clause-way c =
     way_if c.args.way (test_of c.args.way c.args.side c.args.tlp.now) c.args.streams.now c.loop-place.least (all_seen c)
 
 pub returns-clause-place : goal.returns-clause-place
-returns-clause-place c =
-    place_if c.args.way (test_of c.args.way c.args.side c.args.tlp.now) c.args.streams.now c.loop-place.least
-    (all_seen c)
+returns-clause-place c = place_if c.args.way (test_of c.args.way c.args.side c.args.tlp.now) c.args.streams.now
+    c.loop-place.least (all_seen c)

@@ -11,8 +11,7 @@ appended : (byte : ℕ → ℕ) (read : MemReadView) (old between new : List ℕ
     → between ≡ old ++ head_bytes (completion_head read) → new ≡ between ++ read_bytes byte read.span → new
     ≡ old ++ completion_bytes byte read
 unfolding completion_bytes
-appended byte read old between new headed ended =
-    ended ∙ ap (λ (s : List ℕ). s ++ read_bytes byte read.span) headed
+appended byte read old between new headed ended = ended ∙ ap (λ (s : List ℕ). s ++ read_bytes byte read.span) headed
     ∙ append_assoc old (head_bytes (completion_head read)) (read_bytes byte read.span)
 
 is_appended : (c : goal.After-append_data) → c.append_data.new.out.items
@@ -32,6 +31,5 @@ pub returns-clause-bytes : goal.returns-clause-bytes
 returns-clause-bytes c = is_appended c
 
 pub returns-clause-last : goal.returns-clause-last
-returns-clause-last c writes left =
-    is_appended c
-    ∙ ap (λ (byte : ℕ → ℕ). c.args.out.now.items ++ completion_bytes byte c.args.read.now) (λ i a. left a i)
+returns-clause-last c writes left = is_appended c ∙ ap
+    (λ (byte : ℕ → ℕ). c.args.out.now.items ++ completion_bytes byte c.args.read.now) (λ i a. left a i)

@@ -39,8 +39,7 @@ returns-then-not-has_end-clause-absent c none =
     record { verdict_is = refl; ends_stay = refl; memory_stays = refl; accesses_stay = refl }
 
 pub returns-clause-absent : goal.returns-clause-absent
-returns-clause-absent c none =
-    let never : true ≡ false = c.if-not-has_end.ensures ∙ none in absurd cc
+returns-clause-absent c none = let never : true ≡ false = c.if-not-has_end.ensures ∙ none in absurd cc
 
 pub returns-clause-arrives : goal.returns-clause-arrives
 returns-clause-arrives c = λ e l a is at access.
@@ -57,7 +56,7 @@ returns-clause-arrives c = λ e l a is at access.
     same_Some c.at_mut-access.result.now a (sym c.at_mut-access.ensures.value ∙ access) in
     record {
       access = c.arrived-verdict.new.access;
-      new_is = c.settle_at.ensures ∙ ap (λ (v : EndsView). settled_by_side c.args.port v) t.new_is;
+      new_is = c.settle_port.ensures ∙ ap (λ (v : EndsView). settled_by_side c.args.port v) t.new_is;
       accesses_are = refl;
       came = subst (λ (b : LinkAccesses). Comes regions grants c.args.end c.args.port
           (take_step e (cut_of c.args.bytes.now)).answer c.arrived-verdict.result c.args.memory.now.contents

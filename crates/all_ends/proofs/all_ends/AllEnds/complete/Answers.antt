@@ -1,7 +1,7 @@
 use Rattle.all_ends.proofs.Terms.{ℕ, ◌<◌, arith, length, refl, subst, sym, slice_set, EndsView, LinkEnds}
 use Rattle.std.specs.Prelude.{◌^◌, true, false}
 use Rattle.ide_types.specs.Ports.{host_port}
-use Rattle.all_ends.specs.AllEnds.{SendsAt}
+use Rattle.all_ends.specs.AllEnds.{SendsAtEnd}
 use Rattle.all_ends.proofs.Lent.{send_link, link_few, host_place, host_there, taken_there}
 use Rattle.all_ends.proofs.all_ends.AllEnds.complete.Goals as goal
 
@@ -18,9 +18,8 @@ send_chosen-requires-clause-few c =
     (host_place c.args.link low) c.index_mut.ensures.value
 
 pub send_chosen-requires-clause-taken : goal.send_chosen-requires-clause-taken
-send_chosen-requires-clause-taken c =
-    taken_there c.args.link c.args.tlp.now c.args.stream c.index_mut.result.now c.self.view_is c.requires.here
-    c.requires.taken c.index_mut.ensures.value
+send_chosen-requires-clause-taken c = taken_there c.args.link c.args.tlp.now c.args.stream c.index_mut.result.now
+    c.self.view_is c.requires.here c.requires.taken c.index_mut.ensures.value
 
 pub returns : goal.returns
 returns c =
@@ -33,7 +32,7 @@ returns c =
     } in
     let x : LinkEnds = c.index_mut.result.now in
     let y : LinkEnds = record x { host = c.send_chosen.new.self } in
-    subst (λ (v : EndsView). SendsAt v (host_port c.args.link) c.args.tlp.now false true c.send_chosen.result
+    subst (λ (v : EndsView). SendsAtEnd v (host_port c.args.link) c.args.tlp.now false true c.send_chosen.result
     (record old { links = slice_set old.links c.args.link y }) c.send_chosen.new.out) c.self.view_is
     (send_link old (host_port c.args.link) c.args.tlp.now false true c.send_chosen.result c.send_chosen.new.out
     c.args.link x y (host_place c.args.link low) c.index_mut.ensures.value c.send_chosen.ensures refl)

@@ -1,5 +1,5 @@
 use Rattle.all_ends.proofs.Terms.{subst, slice_set, EndsView}
-use Rattle.all_ends.specs.AllEnds.{CallsAt}
+use Rattle.all_ends.specs.AllEnds.{CallsAtLink}
 use Rattle.interface_state.specs.Machine.{FirmwareUpdate}
 use Rattle.all_ends.proofs.Lent.{call_there}
 use Rattle.all_ends.proofs.all_ends.AllEnds.firmware.Goals as goal
@@ -12,7 +12,7 @@ returns c =
       pairs = c.self.inside.pairs.items;
       peers = c.self.inside.peers.items;
     } in
-    subst (λ (v : EndsView). CallsAt v c.args.link c.args.place FirmwareUpdate c.state.result
+    subst (λ (v : EndsView). CallsAtLink v c.args.link c.args.place FirmwareUpdate c.state.result
     (record old {
       links = slice_set old.links c.args.link
           (record c.index_mut-ends.result.now { device = c.firmware.new.self });

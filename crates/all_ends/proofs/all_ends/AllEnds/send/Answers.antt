@@ -1,5 +1,5 @@
 use Rattle.all_ends.proofs.Terms.{arith, subst, slice_set, EndsView}
-use Rattle.all_ends.specs.AllEnds.{SendsAt}
+use Rattle.all_ends.specs.AllEnds.{SendsAtEnd}
 use Rattle.std.specs.Prelude.{◌^◌}
 use Rattle.all_ends.proofs.Lent.{send_link, send_near, link_few, near_few, near_within}
 use Rattle.all_ends.proofs.all_ends.AllEnds.send.Goals as goal
@@ -19,9 +19,8 @@ index_mut-requires-in-Near c = omega (
 )
 
 pub send_near-requires : goal.send_near-requires
-send_near-requires c =
-    near_few c.args.end (2 ^ 40) c.in-Near.i c.self-in-Near.view_is c.requires.here c.index_mut-in-Near.result.now
-    c.requires.few c.in-Near.ensures c.index_mut-in-Near.ensures.value
+send_near-requires c = near_few c.args.end (2 ^ 40) c.in-Near.i c.self-in-Near.view_is c.requires.here
+    c.index_mut-in-Near.result.now c.requires.few c.in-Near.ensures c.index_mut-in-Near.ensures.value
 
 pub returns-in-Link : goal.returns-in-Link
 returns-in-Link c =
@@ -31,7 +30,7 @@ returns-in-Link c =
       pairs = c.self.inside.pairs.items;
       peers = c.self.inside.peers.items;
     } in
-    subst (λ (v : EndsView). SendsAt v c.args.end c.args.tlp.now c.args.more c.args.trusted c.send.result
+    subst (λ (v : EndsView). SendsAtEnd v c.args.end c.args.tlp.now c.args.more c.args.trusted c.send.result
     (record old { links = slice_set old.links c.in-Link.i c.send.new.self }) c.send.new.out) c.self.view_is
     (send_link old c.args.end c.args.tlp.now c.args.more c.args.trusted c.send.result c.send.new.out c.in-Link.i
     c.index_mut.result.now c.send.new.self c.in-Link.ensures c.index_mut.ensures.value c.send.ensures.sent
@@ -45,7 +44,7 @@ returns-in-Near c =
       pairs = c.self-in-Near.inside.pairs.items;
       peers = c.self-in-Near.inside.peers.items;
     } in
-    subst (λ (v : EndsView). SendsAt v c.args.end c.args.tlp.now c.args.more c.args.trusted c.send_near.result
+    subst (λ (v : EndsView). SendsAtEnd v c.args.end c.args.tlp.now c.args.more c.args.trusted c.send_near.result
     (record old { near = slice_set old.near c.in-Near.i c.send_near.new.ends }) c.send_near.new.out)
     c.self-in-Near.view_is
     (send_near old c.args.end c.args.tlp.now c.args.more c.args.trusted c.send_near.result c.send_near.new.out

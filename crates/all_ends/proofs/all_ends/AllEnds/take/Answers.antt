@@ -6,9 +6,8 @@ use Rattle.all_ends.proofs.Lent.{pair_within}
 use Rattle.all_ends.proofs.all_ends.AllEnds.take.Goals as goal
 
 pub take-requires : goal.take-requires
-take-requires c =
-    link_few c.args.end (2 ^ 40) c.in-Link.i c.self.view_is c.requires.here c.index_mut.result.now c.requires.few
-    c.in-Link.ensures c.index_mut.ensures.value
+take-requires c = link_few c.args.end (2 ^ 40) c.in-Link.i c.self.view_is c.requires.here c.index_mut.result.now
+    c.requires.few c.in-Link.ensures c.index_mut.ensures.value
 
 pub index_mut-requires-in-Near : goal.index_mut-requires-in-Near
 index_mut-requires-in-Near c = omega (
@@ -18,9 +17,8 @@ index_mut-requires-in-Near c = omega (
 )
 
 pub take-requires-in-Near : goal.take-requires-in-Near
-take-requires-in-Near c =
-    near_few c.args.end (2 ^ 40) c.in-Near.i c.self.view_is c.requires.here c.index_mut-in-Near.result.now
-    c.requires.few c.in-Near.ensures c.index_mut-in-Near.ensures.value
+take-requires-in-Near c = near_few c.args.end (2 ^ 40) c.in-Near.i c.self.view_is c.requires.here
+    c.index_mut-in-Near.result.now c.requires.few c.in-Near.ensures c.index_mut-in-Near.ensures.value
 
 pub index_mut-requires-in-Pair : goal.index_mut-requires-in-Pair
 index_mut-requires-in-Pair c = omega (
@@ -30,9 +28,8 @@ index_mut-requires-in-Pair c = omega (
 )
 
 pub take_pair-requires : goal.take_pair-requires
-take_pair-requires c =
-    pair_few c.args.end (2 ^ 40) c.in-Pair.i c.self.view_is c.requires.here c.index_mut-in-Pair.result.now
-    c.requires.few c.in-Pair.ensures c.index_mut-in-Pair.ensures.value
+take_pair-requires c = pair_few c.args.end (2 ^ 40) c.in-Pair.i c.self.view_is c.requires.here
+    c.index_mut-in-Pair.result.now c.requires.few c.in-Pair.ensures c.index_mut-in-Pair.ensures.value
 
 pub returns-in-Link : goal.returns-in-Link
 returns-in-Link c =

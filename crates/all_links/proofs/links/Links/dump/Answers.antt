@@ -22,9 +22,7 @@ returns-in_ok-bytes-in-Some-clause-ends c plan =
     (sym c.in_ok-bytes-in-Some.ensures))
 
 pub returns-in-None-clause-sides : goal.returns-in-None-clause-sides
-returns-in-None-clause-sides c =
-    keeps_all c.only.ensures.links
+returns-in-None-clause-sides c = keeps_all c.only.ensures.links
 
 pub returns-in_ok-bytes-in-Some-clause-sides : goal.returns-in_ok-bytes-in-Some-clause-sides
-returns-in_ok-bytes-in-Some-clause-sides c =
-    keeps_all c.only-in-Some.ensures.links
+returns-in_ok-bytes-in-Some-clause-sides c = keeps_all c.only-in-Some.ensures.links

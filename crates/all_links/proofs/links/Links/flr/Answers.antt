@@ -43,9 +43,8 @@ returns-in-Some-clause-sides c =
     (λ l tdi link_there tdi_there. refl) c.flr-state.ensures c.shows.ensures.links
 
 pub returns-in-None-clause-place : goal.returns-in-None-clause-place
-returns-in-None-clause-place c =
-    ap (λ (s : Links). interface_named s.keeper.interfaces s.ends.links c.args.number) c.only.ensures.links
-    ∙ sym c.requires.here
+returns-in-None-clause-place c = ap (λ (s : Links). interface_named s.keeper.interfaces s.ends.links c.args.number)
+    c.only.ensures.links ∙ sym c.requires.here
 
 pub returns-in-Some-clause-place : goal.returns-in-Some-clause-place
 returns-in-Some-clause-place c =

@@ -52,9 +52,7 @@ returns-else-peek-clause-ends c plan =
     c.requires.bounded
 
 pub returns-then-peek-clause-sides : goal.returns-then-peek-clause-sides
-returns-then-peek-clause-sides c =
-    keeps_all c.shows.ensures.links
+returns-then-peek-clause-sides c = keeps_all c.shows.ensures.links
 
 pub returns-else-peek-clause-sides : goal.returns-else-peek-clause-sides
-returns-else-peek-clause-sides c =
-    keeps_all c.only.ensures.links
+returns-else-peek-clause-sides c = keeps_all c.only.ensures.links

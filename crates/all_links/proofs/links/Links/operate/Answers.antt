@@ -1,6 +1,6 @@
-use Rattle.all_links.proofs.Terms.{ℕ, ◌+◌, ap, sym, ◌∙◌, subst, true, IfSome, IsSome, Verdict, EndsAs, EndsWith}
-use Rattle.all_links.proofs.Terms.{named_stream}
-use Rattle.all_links.proofs.Terms.{◌≡◌, Links, OperatesAt, operation_event, links_state, beside_in, port_on}
+use Rattle.all_links.proofs.Terms.{ℕ, ◌+◌, ap, sym, ◌∙◌, subst, true, IfSome, IsSome, Verdict, EndsOrHasNone}
+use Rattle.all_links.proofs.Terms.{EndsIfAnswered, named_stream, ◌≡◌, Links, OperatesAt, operation_event, links_state}
+use Rattle.all_links.proofs.Terms.{beside_in, port_on}
 use Rattle.ide_types.specs.Ports.{host_port}
 use Rattle.key_host.specs.Operations.{OpName}
 use Rattle.key_host.specs.Walk.{verdict_of}
@@ -50,11 +50,12 @@ returns-else-not-works_on-clause-ends c plan =
     let after : Links = c.carry_stream-outcome.new.self in
     let works : works_on c.args.operation c.in-Some.line ≡ true = sym c.if-not-works_on.ensures in
     let event = operation_event c.args.operation c.in-Some.line c.in-Some.stream c.args.loss in
-    subst (λ (p : ℕ × ℕ). EndsAs plan c.operated_verdict.result c.args.self.now
+    subst (λ (p : ℕ × ℕ). EndsOrHasNone plan c.operated_verdict.result c.args.self.now
     (record after { steps = after.steps + 1 })
     (operation_event c.args.operation p.0 p.1 c.args.loss)) n.same
     (ends_as plan c.operated_verdict.result c.args.self.now (record after { steps = after.steps + 1 }) event
-    (λ verdict is. subst (λ (s : Links). EndsWith plan verdict c.args.self.now (record s { steps = s.steps + 1 }) event)
+    (λ verdict is. subst (λ (s : Links). EndsIfAnswered plan verdict c.args.self.now (record s { steps = s.steps + 1 })
+    event)
     (sym c.carry_stream-outcome.ensures.links)
     (operates_on c.operations_join.ensures c.pair_operations_join.ensures plan c.args.self.now after.ends
     after.keeper c.named_op-op.result c.args.operation c.in-Some.line c.in-Some.stream c.args.loss

@@ -18,8 +18,7 @@ returns-clause-ends c plan = resets plan c.args.self.now c.args.link c.args.ends
     (ap (λ (k : HostKeeper). k.keys) c.reset-2.ensures)
 
 pub returns-then-not-has_link-clause-sides : goal.returns-then-not-has_link-clause-sides
-returns-then-not-has_link-clause-sides c =
-    nothing_resets c.args.link c.if-not-has_link.ensures c.only.ensures.links
+returns-then-not-has_link-clause-sides c = nothing_resets c.args.link c.if-not-has_link.ensures c.only.ensures.links
 
 pub returns-clause-sides : goal.returns-clause-sides
 returns-clause-sides c =

@@ -41,13 +41,10 @@ returns-in-Some-status-clause-ends c plan =
     )))
 
 pub returns-in-None-clause-sides : goal.returns-in-None-clause-sides
-returns-in-None-clause-sides c =
-    keeps_all c.only.ensures.links
+returns-in-None-clause-sides c = keeps_all c.only.ensures.links
 
 pub returns-in-None-status-clause-sides : goal.returns-in-None-status-clause-sides
-returns-in-None-status-clause-sides c =
-    keeps_all c.only-in-None-status.ensures.links
+returns-in-None-status-clause-sides c = keeps_all c.only-in-None-status.ensures.links
 
 pub returns-in-Some-status-clause-sides : goal.returns-in-Some-status-clause-sides
-returns-in-Some-status-clause-sides c =
-    keeps_all c.only-in-Some-status.ensures.links
+returns-in-Some-status-clause-sides c = keeps_all c.only-in-Some-status.ensures.links

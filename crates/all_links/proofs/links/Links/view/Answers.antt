@@ -36,9 +36,7 @@ returns-in-Some-clause-ends c plan =
     only_says plan (ie.View n) (ap Some due) c.shows.ensures.value c.shows.ensures.links c.requires.bounded
 
 pub returns-in-None-clause-sides : goal.returns-in-None-clause-sides
-returns-in-None-clause-sides c =
-    keeps_all c.only.ensures.links
+returns-in-None-clause-sides c = keeps_all c.only.ensures.links
 
 pub returns-in-Some-clause-sides : goal.returns-in-Some-clause-sides
-returns-in-Some-clause-sides c =
-    keeps_all c.shows.ensures.links
+returns-in-Some-clause-sides c = keeps_all c.shows.ensures.links

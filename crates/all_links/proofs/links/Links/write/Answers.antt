@@ -72,8 +72,7 @@ returns-else-has_register-clause-ends c plan =
     c.only-else-has_register.ensures.value c.only-else-has_register.ensures.links c.requires.bounded
 
 pub returns-in-None-clause-sides : goal.returns-in-None-clause-sides
-returns-in-None-clause-sides c =
-    nothing_called c.args.number (λ tdi. has_register tdi.plan c.args.register)
+returns-in-None-clause-sides c = nothing_called c.args.number (λ tdi. has_register tdi.plan c.args.register)
     (WriteRegister c.args.register c.args.value) c.in-None.ensures.place c.only.ensures.links
 
 pub returns-then-has_register-clause-sides : goal.returns-then-has_register-clause-sides

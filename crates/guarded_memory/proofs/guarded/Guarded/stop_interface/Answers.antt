@@ -16,6 +16,5 @@ returns-clause-bytes c =
     left)
 
 pub returns-clause-leads : goal.returns-clause-leads
-returns-clause-leads c =
-    leads_one (mmio_byte c.args.self.now) _ (Some (InterfaceStopped c.args.interface c.args.bars.now))
-    (returns-clause-bytes c)
+returns-clause-leads c = leads_one (mmio_byte c.args.self.now) _
+    (Some (InterfaceStopped c.args.interface c.args.bars.now)) (returns-clause-bytes c)

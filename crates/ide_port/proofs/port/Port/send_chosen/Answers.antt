@@ -24,7 +24,10 @@ returns-in-Ok-Some g c = λ number.
     subst (λ (o : Option ChosenStream). IsStreamTaken e c.args.tlp.now o) c.in-Ok-Some.is-1 c.requires.taken in
     let trusts : c.is_trusted-trusted.result ≡ sets (header t) s.id =
     c.is_trusted-trusted.ensures ∙ ap (λ (h : HeadView). sets h s.id) c.head.ensures in
-    subst (λ (o : Outgoing). IsSendStep e.name number c.send_on.result c.send_on.new.self c.send_on.new.out
+    subst (λ (o : Outgoing). IsSendStep e.name number c.send_on_stream.result c.send_on_stream.new.self
+    c.send_on_stream.new.out
     (send_step e o c.args.more sets number)) (sym (on_taken e c.args.tlp.now t s is taken))
-    (subst (λ (b : Bool). IsSendStep e.name number c.send_on.result c.send_on.new.self c.send_on.new.out
-    (stream_step e t c.args.more b number (found_stream e.plans e.states s.id))) trusts (c.send_on.ensures number))
+    (subst (λ (b : Bool). IsSendStep e.name number c.send_on_stream.result c.send_on_stream.new.self
+    c.send_on_stream.new.out
+    (stream_step e t c.args.more b number (found_stream e.plans e.states s.id))) trusts
+    (c.send_on_stream.ensures number))

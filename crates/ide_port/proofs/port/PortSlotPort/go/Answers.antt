@@ -1,4 +1,4 @@
-use Rattle.ide_port.proofs.Terms.{sym, ap, ◌∙◌, arith, Go, is_one, go_answer_at, place_call}
+use Rattle.ide_port.proofs.Terms.{sym, ap, ◌∙◌, arith, Go, is_one, go_answer_of_slots, place_call}
 use Rattle.ide_port.proofs.Keeping.{kept-stream_after_call}
 use Rattle.ide_port.proofs.Steps.{IsLane, lane-some, lane-inside, nowhere-step, stream_after_call-step}
 use Rattle.ide_port.proofs.port.PortSlotPort.go.Goals as goal
@@ -13,7 +13,11 @@ pub returns-in-None : goal.returns-in-None
 returns-in-None c =
     let x = nowhere-step c.self.inside c.args.self.now c.self.view_is c.self.invariant
     (place_call c.args.place (Go (is_one c.args.set))) (cc) in
-    record { answer = sym (ap (λ o. go_answer_at o (is_one c.args.set)) x.shows); moves = x.moves; slots = x.slots }
+    record {
+      answer = sym (ap (λ o. go_answer_of_slots o (is_one c.args.set)) x.shows);
+      moves = x.moves;
+      slots = x.slots;
+    }
 
 -- the place that is called
 lane : (c : goal.After-is_ok) → IsLane c.self.inside.plans c.args.place.stream c.args.place.sub c.in-Some.index
@@ -33,7 +37,8 @@ returns-in-Some c =
     (place_call c.args.place (Go (is_one c.args.set))) c.in-Some.index c.in-Some.sub c.index_mut-stream.result.now
     c.go.new.self (lane c) c.index_mut-stream.ensures.value c.go.ensures.stream in
     record {
-      answer = c.is_ok.ensures.value ∙ c.go.ensures.answer ∙ sym (ap (λ o. go_answer_at o (is_one c.args.set)) x.shows);
+      answer = c.is_ok.ensures.value ∙ c.go.ensures.answer ∙ sym
+          (ap (λ o. go_answer_of_slots o (is_one c.args.set)) x.shows);
       moves = x.moves;
       slots = x.slots;
     }

@@ -4,6 +4,5 @@ use Rattle.ide_prefix.proofs.Parts.{length-parts}
 use Rattle.ide_prefix.proofs.unit_buf.UnitBuf.count.Goals as goal
 
 pub returns-clause-count : goal.returns-clause-count
-returns-clause-count c =
-    c.len.ensures.value ∙ sym (length-parts _ _ _ _ c.self.inside.ends.items) ∙ ap (λ (u : Collected). length u.packets)
-    c.self.view_is
+returns-clause-count c = c.len.ensures.value ∙ sym (length-parts _ _ _ _ c.self.inside.ends.items)
+    ∙ ap (λ (u : Collected). length u.packets) c.self.view_is

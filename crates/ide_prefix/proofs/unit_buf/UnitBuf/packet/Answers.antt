@@ -3,13 +3,11 @@ use Rattle.ide_prefix.proofs.Views.{count_of, packet_at, lies_within}
 use Rattle.ide_prefix.proofs.unit_buf.UnitBuf.packet.Goals as goal
 
 pub start_of-start-requires : goal.start_of-start-requires
-start_of-start-requires c =
-    rw c.as_slice.ensures.value
+start_of-start-requires c = rw c.as_slice.ensures.value
     (omega (arith, c.requires, count_of _ _ _ _ c.self.inside.ends.items c.args.self.now c.self.view_is))
 
 pub end_of-ends-requires : goal.end_of-ends-requires
-end_of-ends-requires c =
-    rw c.as_slice-2.ensures.value
+end_of-ends-requires c = rw c.as_slice-2.ensures.value
     (omega (arith, c.requires, count_of _ _ _ _ c.self.inside.ends.items c.args.self.now c.self.view_is))
 
 pub packet_between-requires : goal.packet_between-requires

@@ -6,8 +6,7 @@ pub link-requires : goal.link-requires
 link-requires c = c.in-Some.ensures.there.link_there
 
 pub state-requires : goal.state-requires
-state-requires c =
-    c.in-Some.ensures.there.place_there c.link.result.now c.link.ensures
+state-requires c = c.in-Some.ensures.there.place_there c.link.result.now c.link.ensures
 
 pub returns-in-Some : goal.returns-in-Some
 returns-in-Some c =

@@ -4,6 +4,5 @@ use Rattle.ide_why.proofs.reader.Reader.push_cleared.Given as goal
 
 -- the facts so far and those that are left
 abbrev pub invariant-loop-stream : goal.invariant-loop-stream
-invariant-loop-stream l =
-    l.facts.items ++ cleared_read l.self.plan.now l.self.links.now l.end (drop l.stream-index l.streams)
-    ≡ l.fn.facts.items ++ cleared_read l.self.plan.now l.self.links.now l.end l.streams
+invariant-loop-stream l = l.facts.items ++ cleared_read l.self.plan.now l.self.links.now l.end
+    (drop l.stream-index l.streams) ≡ l.fn.facts.items ++ cleared_read l.self.plan.now l.self.links.now l.end l.streams

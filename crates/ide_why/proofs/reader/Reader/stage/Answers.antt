@@ -19,11 +19,9 @@ returns-then-line-gt31-clause-op c =
     ])
 
 pub returns-in-None-clause-op : goal.returns-in-None-clause-op
-returns-in-None-clause-op c =
-    c.in-None.ensures
-    ∙ stage_is c.args.self.now.plan.now c.args.self.now.links.now c.requires.links c.args.line c.args.stream
+returns-in-None-clause-op c = c.in-None.ensures ∙ stage_is c.args.self.now.plan.now c.args.self.now.links.now
+    c.requires.links c.args.line c.args.stream
 
 pub returns-in-Some-clause-op : goal.returns-in-Some-clause-op
-returns-in-Some-clause-op c =
-    c.in-Some.ensures
-    ∙ stage_is c.args.self.now.plan.now c.args.self.now.links.now c.requires.links c.args.line c.args.stream
+returns-in-Some-clause-op c = c.in-Some.ensures ∙ stage_is c.args.self.now.plan.now c.args.self.now.links.now
+    c.requires.links c.args.line c.args.stream

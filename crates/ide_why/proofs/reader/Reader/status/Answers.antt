@@ -12,8 +12,7 @@ use Rattle.ide_why.proofs.reader.Reader.status.Goals as goal
 status_seen : (closed : Bool) (o : Option StreamState) (f : StreamFacts) → Some f ≡ option_map (stream_facts closed) o
     → f.status ≡ status_if_planned o
 status_seen closed None f is = absurd (none-some f (sym is))
-status_seen closed (Some x) f is =
-    ap (λ (g : StreamFacts). g.status) (same_Some f (stream_facts closed x) is)
+status_seen closed (Some x) f is = ap (λ (g : StreamFacts). g.status) (same_Some f (stream_facts closed x) is)
 
 pub returns-in-Some : goal.returns-in-Some
 returns-in-Some c =

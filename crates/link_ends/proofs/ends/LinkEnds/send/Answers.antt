@@ -5,8 +5,7 @@ use Rattle.link_ends.specs.Ends.{port_in}
 use Rattle.link_ends.proofs.ends.LinkEnds.send.Goals as goal
 
 pub send-requires : goal.send-requires
-send-requires c =
-    subst (λ (s : Side). PortUnitsAtMost (2 ^ 40) (port_in s c.args.self.now)) c.in-Host.is c.requires.few
+send-requires c = subst (λ (s : Side). PortUnitsAtMost (2 ^ 40) (port_in s c.args.self.now)) c.in-Host.is c.requires.few
 
 pub send-requires-in-Device : goal.send-requires-in-Device
 send-requires-in-Device c =

@@ -5,8 +5,7 @@ use Rattle.link_ends.specs.Ends.{port_in}
 use Rattle.link_ends.proofs.ends.LinkEnds.take.Goals as goal
 
 pub take-requires : goal.take-requires
-take-requires c =
-    subst (λ (s : Side). PortUnitsAtMost (2 ^ 40) (port_in s c.args.self.now)) c.in-Host.is c.requires
+take-requires c = subst (λ (s : Side). PortUnitsAtMost (2 ^ 40) (port_in s c.args.self.now)) c.in-Host.is c.requires
 
 pub take-requires-in-Device : goal.take-requires-in-Device
 take-requires-in-Device c =

@@ -31,8 +31,7 @@ returns-in-None-clause-exchange c = λ m0 l0 place id host device e a on st aski
     ((rw (k.current_is, k.stands.hosted) at c.take.ensures.manager)
     ∙ ap (λ j. record {
       streams = slice_set c.self.inside.manager.streams place (taken_stream true a j e.keeper);
-      asking =
-          asking_after place (outcome_of true a j);
+      asking = asking_after place (outcome_of true a j);
     })
     judged)
     (subst (λ j. PortMoves c.args.ends.now.host (taken_calls true a j e.keeper.id) c.take.new.port) judged

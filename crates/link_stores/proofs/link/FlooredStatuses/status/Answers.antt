@@ -4,8 +4,7 @@ use Rattle.link_stores.proofs.Statuses.{as_many, stands_at}
 use Rattle.link_stores.proofs.link.FlooredStatuses.status.Goals as goal
 
 pub interface-requires : goal.interface-requires
-interface-requires c =
-    subst (λ (n : ℕ). c.args.place < n)
+interface-requires c = subst (λ (n : ℕ). c.args.place < n)
     (as_many c.args.self.now.floors.now 0 c.args.self.now.interfaces.now.interfaces) c.requires
 
 pub returns : goal.returns

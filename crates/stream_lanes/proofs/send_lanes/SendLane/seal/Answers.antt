@@ -58,9 +58,8 @@ sender_is c = c.seal-packet.ensures.sender ∙ ap (λ (s : Sealing). s.sender) (
 total_is : (c : goal.After-count) → c.count.new.total ≡
     (if (tlp_said (end c) c.args.more c.args.t).m then c.self.inside.total + 1 else c.self.inside.total)
 unfolding end
-total_is c =
-    c.count.ensures.total
-    ∙ ap (λ (p : MeasuredPacket). if p.m then c.self.inside.total + 1 else c.self.inside.total) (packet_is c)
+total_is c = c.count.ensures.total ∙ ap
+    (λ (p : MeasuredPacket). if p.m then c.self.inside.total + 1 else c.self.inside.total) (packet_is c)
 
 pub returns-clause-lane : goal.returns-clause-lane
 unfolding sealed content end

@@ -65,9 +65,8 @@ packet_is c = c.sync-packet.ensures.answer ∙ ap (λ (s : Sealing). s.descripti
 
 pub returns-clause-answer : goal.returns-clause-answer
 unfolding end
-returns-clause-answer c =
-    packet_is c
-    ∙ ap (λ (e : SendEnd). measured_packet (sync_said e) (packet_said e [] [] (sync_said e))) c.self.view_is
+returns-clause-answer c = packet_is c ∙ ap
+    (λ (e : SendEnd). measured_packet (sync_said e) (packet_said e [] [] (sync_said e))) c.self.view_is
 
 pub returns-clause-bytes : goal.returns-clause-bytes
 unfolding sealed with_sealed end content
@@ -83,14 +82,12 @@ sender_is c = c.sync-packet.ensures.sender ∙ ap (λ (s : Sealing). s.sender) (
 total_is : (c : goal.After-count) → c.count.new.total ≡
     (if (sync_said (end c)).m then c.self.inside.total + 1 else c.self.inside.total)
 unfolding end
-total_is c =
-    c.count.ensures.total
-    ∙ ap (λ (p : MeasuredPacket). if p.m then c.self.inside.total + 1 else c.self.inside.total) (packet_is c)
+total_is c = c.count.ensures.total ∙ ap
+    (λ (p : MeasuredPacket). if p.m then c.self.inside.total + 1 else c.self.inside.total) (packet_is c)
 
 pub returns-clause-lane : goal.returns-clause-lane
 unfolding sealed with_sealed end content
-returns-clause-lane c =
-    (λ i. view (sender_is c i) c.self.inside.closed (c.count.ensures.posted i) (total_is c i))
+returns-clause-lane c = (λ i. view (sender_is c i) c.self.inside.closed (c.count.ensures.posted i) (total_is c i))
     ∙ ap (λ (e : SendEnd). sealed_end e [] [] (sync_said e)) c.self.view_is
 
 pub invariant_of-self : goal.invariant_of-self

@@ -3,8 +3,8 @@ use Rattle.ide_types.specs.declared.sub.SubKind.TheVariants.{Npr, Cpl}
 use Rattle.ide_prefix.specs.Packet.{packet_bytes}
 use Rattle.sub_stream.specs.declared.answer.MeasuredPacket.{MeasuredPacket}
 use Rattle.stream_lanes.specs.Sends.{IsSealed}
-use Rattle.stream_lanes.specs.Lanes.{SendEnd, SendEnds, send_end_at, ready_end, tlp_said, packet_said_at, sealed_ends}
-use Rattle.stream_lanes.specs.Lanes.{measured_packet, ends_after_sync, sync_packets, sync_bytes}
+use Rattle.stream_lanes.specs.Lanes.{SendEnd, SendEnds, send_end_at, ready_end, tlp_said, packet_said_at_ends}
+use Rattle.stream_lanes.specs.Lanes.{sealed_ends, measured_packet, ends_after_sync, sync_packets, sync_bytes}
 use Rattle.stream_lanes.proofs.Sent.{end-cpl, end-kept, all_said, all_bytes, all_ends, sent-right}
 use Rattle.stream_lanes.proofs.send_lanes.SendLanes.seal_with_syncs.Goals as goal
 
@@ -48,22 +48,23 @@ returns-clause-sent c s number stream class goes trusted =
     ∙ (λ i. c.sync_cpl.ensures.sealed i ++ c.seal-packet.ensures.answer i ∷ [])
     ∙ (λ i. (c.sync_npr.ensures.sealed i ++ sync_packets d Cpl (first i))
     ++ measured_packet (tlp_said (send_end_at (second i) c.args.sub) c.args.more c.args.t)
-    (packet_said_at (second i) c.args.head.now c.args.payload.now
+    (packet_said_at_ends (second i) c.args.head.now c.args.payload.now
     (tlp_said (send_end_at (second i) c.args.sub) c.args.more c.args.t)) ∷ [])
     ∙ (λ i. (c.new-sealed.ensures i ++ sync_packets b Npr x ++ sync_packets d Cpl (ends_after_sync b Npr x))
     ++ measured_packet (tlp_said (send_end_at (ends_after_sync d Cpl (ends_after_sync b Npr x)) c.args.sub) c.args.more
     c.args.t)
-    (packet_said_at (ends_after_sync d Cpl (ends_after_sync b Npr x))
+    (packet_said_at_ends (ends_after_sync d Cpl (ends_after_sync b Npr x))
     c.args.head.now c.args.payload.now
     (tlp_said (send_end_at (ends_after_sync d Cpl (ends_after_sync b Npr x)) c.args.sub) c.args.more c.args.t)) ∷ []) in
     let bytes : c.seal-packet.new.out.items ≡ all_bytes x c.args.sub b d c.args.head.now c.args.payload.now c.args.more
     c.args.t c.args.out.now.items =
     c.seal-packet.ensures.bytes
     ∙ (λ i. c.sync_cpl.ensures.bytes i ++ packet_bytes
-    (packet_said_at (second i) c.args.head.now c.args.payload.now
+    (packet_said_at_ends (second i) c.args.head.now c.args.payload.now
     (tlp_said (send_end_at (second i) c.args.sub) c.args.more c.args.t)))
     ∙ (λ i. (c.sync_npr.ensures.bytes i ++ sync_bytes d Cpl (first i))
-    ++ packet_bytes (packet_said_at (ends_after_sync d Cpl (ends_after_sync b Npr x)) c.args.head.now c.args.payload.now
+    ++ packet_bytes (packet_said_at_ends (ends_after_sync d Cpl (ends_after_sync b Npr x)) c.args.head.now
+    c.args.payload.now
     (tlp_said (send_end_at (ends_after_sync d Cpl (ends_after_sync b Npr x)) c.args.sub) c.args.more
     c.args.t))) in
     let ends : c.seal-packet.new.self ≡ all_ends x c.args.sub b d c.args.head.now c.args.payload.now c.args.more

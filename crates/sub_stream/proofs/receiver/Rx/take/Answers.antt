@@ -35,9 +35,8 @@ early c =
     ∙ sym c.key_if_fits.ensures ∙ ap shown_keyed c.in-Err.is)
 
 pub returns-in-Err-clause-answer : goal.returns-in-Err-clause-answer
-returns-in-Err-clause-answer c =
-    early-taken c.args.self.now c.args.allowed (lent_totals c.args.total) (packet_of_view c.args.packet.now)
-    c.in-Err.taken (early c)
+returns-in-Err-clause-answer c = early-taken c.args.self.now c.args.allowed (lent_totals c.args.total)
+    (packet_of_view c.args.packet.now) c.in-Err.taken (early c)
 
 pub returns-in-Err-clause-receiver : goal.returns-in-Err-clause-receiver
 returns-in-Err-clause-receiver c =
@@ -85,10 +84,10 @@ taken_is c =
     c.self.inside.slots c.self.inside.holds c.self.inside.unit c.args.allowed (lent_totals c.args.total) (packet c)
     (held c) c.self.invariant.few (given c).0 (fits c)
 
-answered : (c : goal.After-self-in-Ok-1) → Some c.take_under-taken.result ≡ answer_taken (answer c)
+answered : (c : goal.After-self-in-Ok-1) → Some c.take_under_key-taken.result ≡ answer_taken (answer c)
 unfolding packet held answer
 answered c =
-    c.take_under-taken.ensures.answer
+    c.take_under_key-taken.ensures.answer
     ∙ (λ i. answer_taken (judged_packet
     (begun_where_empty (c.keep_held.ensures i) (lent_totals c.args.total) (c.units_in-units.ensures i + 1)).ahead
     c.args.allowed (live_key_seen (c.units_in-units.ensures i) (c.keep_held.ensures i).packets
@@ -99,14 +98,14 @@ buffer : (c : goal.After-self-in-Ok-1) → BufferAfter
     (units_of (packet c).prefix.k c.self.inside.zero c.self.inside.one + 1))
     (live_key_seen (units_of (packet c).prefix.k c.self.inside.zero c.self.inside.one)
     (unit_kept c.self.inside.holds c.self.inside.unit).packets (held c)) (packet c) (answer c)
-    c.take_under-taken.new.unit
+    c.take_under_key-taken.new.unit
 unfolding packet held answer
 buffer c =
     let Left : ℕ × Gathered → Type 0 = λ y. BufferAfter (begun_where_empty y.1 (lent_totals c.args.total) (y.0 + 1))
     (live_key_seen y.0 y.1.packets (held c)) (packet c)
     (judged_packet (begun_where_empty y.1 (lent_totals c.args.total) (y.0 + 1)).ahead
-    c.args.allowed (live_key_seen y.0 y.1.packets (held c)) (packet c)) c.take_under-taken.new.unit in
-    subst Left (λ i. (c.units_in-units.ensures i, c.keep_held.ensures i)) c.take_under-taken.ensures.buffer
+    c.args.allowed (live_key_seen y.0 y.1.packets (held c)) (packet c)) c.take_under_key-taken.new.unit in
+    subst Left (λ i. (c.units_in-units.ensures i, c.keep_held.ensures i)) c.take_under_key-taken.ensures.buffer
 
 tagless : (c : goal.After-self-in-Ok-1) → (packet c).prefix.m ≡ false → (packet c).tag ≡ []
 unfolding packet
@@ -132,11 +131,12 @@ unfolding packet
 returns-in-Ok-clause-receiver c =
     (λ i. view c.self.inside.stream c.self.inside.sub c.self.inside.aggregation (c.count_accepted.ensures.zero i)
     (c.count_accepted.ensures.one i) (c.count_accepted.ensures.slots i) (c.after-self-inside.ensures i)
-    c.take_under-taken.new.unit)
+    c.take_under_key-taken.new.unit)
     ∙ view-answered c.self.inside.stream c.self.inside.sub c.self.inside.aggregation c.self.inside.zero
     c.self.inside.one
-    c.self.inside.slots c.self.inside.holds c.self.inside.unit c.take_under-taken.new.unit (lent_totals c.args.total)
-    (packet c) (held c) c.take_under-taken.result (answer c) (given c).0
+    c.self.inside.slots c.self.inside.holds c.self.inside.unit c.take_under_key-taken.new.unit
+    (lent_totals c.args.total)
+    (packet c) (held c) c.take_under_key-taken.result (answer c) (given c).0
     (not_apart c.self.inside.holds (length c.self.inside.unit.packets) c.self.inside.aggregation (packet c).prefix.k
     (packet c).prefix.m (fits c)) (tagless c) (judged_so c) (answered c) (buffer c)
     ∙ ap (λ (rx : Receiver). after_answer rx (lent_totals c.args.total) (packet c) (answer c)) c.self.view_is
@@ -146,16 +146,17 @@ returns-in-Ok-clause-receiver c =
 pub invariant_of-self-in-Ok : goal.invariant_of-self-in-Ok
 unfolding packet
 invariant_of-self-in-Ok c =
-    let Kept : SlotPair × Holds → Type 0 = λ y. IsReceiver c.self.inside.aggregation y.0 y.1 c.take_under-taken.new.unit
+    let Kept : SlotPair × Holds → Type 0 = λ y. IsReceiver c.self.inside.aggregation y.0 y.1
+    c.take_under_key-taken.new.unit
     in
     subst Kept (λ i. (sym c.count_accepted.ensures.slots i, sym c.after-self-inside.ensures i))
     (receiver-answered c.self.inside.aggregation c.self.inside.zero c.self.inside.one
     c.self.inside.slots
-    c.self.inside.holds c.self.inside.unit c.take_under-taken.new.unit
-    (lent_totals c.args.total) (packet c) (held c) c.take_under-taken.result (answer c) c.self.invariant (given c).0
+    c.self.inside.holds c.self.inside.unit c.take_under_key-taken.new.unit
+    (lent_totals c.args.total) (packet c) (held c) c.take_under_key-taken.result (answer c) c.self.invariant (given c).0
     (fits c)
     (judged_so c) (answered c) (buffer c)
-    (c.take_under-taken.ensures.aggregation ∙ ap (λ (u : Gathered). u.aggregation) c.keep_held.ensures ∙
+    (c.take_under_key-taken.ensures.aggregation ∙ ap (λ (u : Gathered). u.aggregation) c.keep_held.ensures ∙
     aggregation_kept
     c.self.inside.holds
     c.self.inside.unit ∙ c.self.invariant.same_aggregation))

@@ -101,8 +101,7 @@ returns-clause-sender c =
       stream = c.self.inside.stream;
       sub = c.self.inside.sub;
       aggregation = c.self.inside.aggregation;
-      limit =
-          c.self.inside.limit;
+      limit = c.self.inside.limit;
       ahead = c.self.inside.unit.ahead;
       slots = x;
     })

@@ -24,8 +24,7 @@ tx c = record {
 
 ready : (c : goal.After-len) → IsReady c.self.inside.slots c.self.inside.units c.self.inside.limit
     c.self.inside.unit.packets c.args.key
-ready c =
-    ready-is c.self.inside.slots c.self.inside.units c.self.inside.limit c.self.inside.unit.packets c.args.key
+ready c = ready-is c.self.inside.slots c.self.inside.units c.self.inside.limit c.self.inside.unit.packets c.args.key
     (ap ready_of c.self.view_is ∙ c.requires.ready)
 
 key : goal.After-len → Bool × LiveKey
@@ -97,8 +96,7 @@ bytes c = c.append_packet.ensures.items
 
 pub returns-clause-bytes : goal.returns-clause-bytes
 unfolding total content
-returns-clause-bytes c =
-    bytes c ∙ ap (λ p. c.args.out.now.items ++ packet_bytes p) (packet_is c)
+returns-clause-bytes c = bytes c ∙ ap (λ p. c.args.out.now.items ++ packet_bytes p) (packet_is c)
     ∙ ap (λ (s : Sealing). c.args.out.now.items ++ packet_bytes s.packet) (sym (sealing c))
 
 pub returns-clause-answer : goal.returns-clause-answer
@@ -136,8 +134,7 @@ slots : (c : goal.After-len) → sender_slots_seen c.end_unit.new.slots c.end_un
     ≡ sealed_slots c.is_last-m.result (packet c)
     (sender_slots_seen c.self.inside.slots c.self.inside.units c.self.inside.unit.packets)
 unfolding prefix unit packet open_packets
-slots c =
-    slots-sealed c.is_last-m.result c.self.inside.slots c.self.inside.units c.self.inside.unit.packets
+slots c = slots-sealed c.is_last-m.result c.self.inside.slots c.self.inside.units c.self.inside.unit.packets
     c.append_packet.new.unit.packets _ _ (unit c) _ _ refl (more_packets c) c.end_unit.ensures.slots
 
 ahead : (c : goal.After-len) → c.end_unit.new.unit.ahead ≡

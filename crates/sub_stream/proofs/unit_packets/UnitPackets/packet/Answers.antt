@@ -26,6 +26,5 @@ offset_bounds-self-inside-i c =
     )
 
 pub returns : goal.returns
-returns c =
-    ap (λ (u : Gathered). slice_get u.packets c.args.i) (sym c.self.view_is)
+returns c = ap (λ (u : Gathered). slice_get u.packets c.args.i) (sym c.self.view_is)
     ∙ packet_at _ _ _ _ _ _ c.self.invariant.parts c.packet.ensures

@@ -12,9 +12,9 @@ clear c = ap (λ x. x ++ c.args.head.now) c.write_prefix.ensures
 
 pub invariant_of-self : goal.invariant_of-self
 invariant_of-self c =
-    rw c.posted_in.ensures.value
+    rw c.posted_in_prefix.ensures.value
     (gathered-added _ _ _ _ _ _ _ _ _ c.self.invariant (place c) c.count-i.ensures.count
-    (omega (arith, c.posted_in.ensures.value, c.posted_in.ensures.small)) (clear c) c.add.ensures.unit)
+    (omega (arith, c.posted_in_prefix.ensures.value, c.posted_in_prefix.ensures.small)) (clear c) c.add.ensures.unit)
 
 pub returns : goal.returns
 returns c = view-added _ _ _ _ _ _ _ _ _ _ c.self.invariant c.self.view_is (place c) c.count-i.ensures.count (clear c)

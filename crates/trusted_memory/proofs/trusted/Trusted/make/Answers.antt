@@ -8,6 +8,5 @@ returns-clause-new c = rw (c.in_ok-regions.ensures.items, c.new.ensures.empty, c
     (new_is_seen c.args.regions.now)
 
 pub returns-clause-stands : goal.returns-clause-stands
-returns-clause-stands c =
-    rw (c.in_ok-regions.ensures.items, c.new.ensures.empty)
+returns-clause-stands c = rw (c.in_ok-regions.ensures.items, c.new.ensures.empty)
     (λ a. byte_at-new c.args.regions.now a ∙ sym (byte_last_written-none a))

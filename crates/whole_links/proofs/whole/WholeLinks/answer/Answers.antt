@@ -2,7 +2,7 @@ use Rattle.std.proofs.Common.{refl, subst, sym, List, ℕ}
 use Rattle.ide_types.specs.declared.port.PortName.{PortName}
 use Rattle.script_events.specs.declared.event.Event.{Event}
 use Rattle.script_events.specs.declared.event.Event.TheVariants.{Send, Reset, Absent}
-use Rattle.all_links.specs.Links.{EndsWith}
+use Rattle.all_links.specs.Links.{EndsIfAnswered}
 use Rattle.all_links.specs.States.{links_state}
 use Rattle.whole_links.specs.Accesses.{AccessesAfter}
 use Rattle.whole_links.specs.Whole.{WholeEnds}
@@ -13,19 +13,17 @@ pub returns-in_ok-send-in-Send-clause-ends : goal.returns-in_ok-send-in-Send-cla
 returns-in_ok-send-in-Send-clause-ends c =
     let e = c.in-Send in
     ends_of c.args.plan.now c.args.self.now _ (Send e.port e.bytes e.more e.trusted) c.send.new.self e.is
-    (subst (λ (bs : List ℕ). EndsWith c.args.plan.now c.in_ok-send-in-Send.field-0 c.args.self.now.links
+    (subst (λ (bs : List ℕ). EndsIfAnswered c.args.plan.now c.in_ok-send-in-Send.field-0 c.args.self.now.links
     c.send.new.self (Send e.port bs e.more e.trusted)) c.as_slice-bytes.ensures c.in_ok-send-in-Send.ensures.ends)
     c.requires.bounded.whole refl refl
 
 pub returns-in_ok-dump-in-Dump-clause-ends : goal.returns-in_ok-dump-in-Dump-clause-ends
-returns-in_ok-dump-in-Dump-clause-ends c =
-    ends_of c.args.plan.now c.args.self.now _ _ c.dump.new.self c.in-Dump.is
+returns-in_ok-dump-in-Dump-clause-ends c = ends_of c.args.plan.now c.args.self.now _ _ c.dump.new.self c.in-Dump.is
     (c.in_ok-dump-in-Dump.ensures.ends c.args.plan.now) c.requires.bounded.whole refl refl
 
 pub returns-in-Status-clause-ends : goal.returns-in-Status-clause-ends
-returns-in-Status-clause-ends c =
-    ends_of c.args.plan.now c.args.self.now _ _ c.status.new.self c.in-Status.is (c.status.ensures.ends c.args.plan.now)
-    c.requires.bounded.whole refl refl
+returns-in-Status-clause-ends c = ends_of c.args.plan.now c.args.self.now _ _ c.status.new.self c.in-Status.is
+    (c.status.ensures.ends c.args.plan.now) c.requires.bounded.whole refl refl
 
 pub returns-in_err-dump-in-Dump-clause-ends : goal.returns-in_err-dump-in-Dump-clause-ends
 returns-in_err-dump-in-Dump-clause-ends c =

@@ -17,9 +17,8 @@ use Rattle.whole_links.proofs.whole.WholeLinks.answer_read.Goals.{then-takes_rea
 use Rattle.whole_links.proofs.whole.WholeLinks.answer_read.Goals as goal
 
 pub returns-then-not-has_link-clause-ends : goal.returns-then-not-has_link-clause-ends
-returns-then-not-has_link-clause-ends c =
-    answer_nowhere c.args.plan.now c.args.link c.if-not-has_link.ensures c.only.ensures.value c.only.ensures.links refl
-    c.requires.bounded
+returns-then-not-has_link-clause-ends c = answer_nowhere c.args.plan.now c.args.link c.if-not-has_link.ensures
+    c.only.ensures.value c.only.ensures.links refl c.requires.bounded
 
 pub returns-then-not-has_link-clause-sides : goal.returns-then-not-has_link-clause-sides
 returns-then-not-has_link-clause-sides c = keeps_all c.only.ensures.links

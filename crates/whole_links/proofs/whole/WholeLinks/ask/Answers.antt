@@ -94,9 +94,8 @@ returns-in_ok-memory-in-Memory-clause-ends c = λ plan.
     (c.in_ok-memory-in-Memory.ensures.ends plan) c.requires.bounded.whole refl
 
 pub returns-in_ok-memory-in-Memory-clause-accesses : goal.returns-in_ok-memory-in-Memory-clause-accesses
-returns-in_ok-memory-in-Memory-clause-accesses c =
-    quiet_or (Ok (Some c.in_ok-memory-in-Memory.field-0)) c.args.event.now _ c.args.self.now _ c.in-Memory.is
-    (λ verdict. refl)
+returns-in_ok-memory-in-Memory-clause-accesses c = quiet_or (Ok (Some c.in_ok-memory-in-Memory.field-0))
+    c.args.event.now _ c.args.self.now _ c.in-Memory.is (λ verdict. refl)
 
 pub returns-in_err-memory-in-Memory-clause-ends : goal.returns-in_err-memory-in-Memory-clause-ends
 returns-in_err-memory-in-Memory-clause-ends c = λ plan.

@@ -17,9 +17,8 @@ use Rattle.whole_links.proofs.whole.WholeLinks.forward.Goals.{then-is_sealed, el
 use Rattle.whole_links.proofs.whole.WholeLinks.forward.Goals as goal
 
 pub returns-then-not-has_hop-clause-ends : goal.returns-then-not-has_hop-clause-ends
-returns-then-not-has_hop-clause-ends c =
-    forward_nowhere c.args.plan.now c.args.link c.args.direction (sym c.has_hop.ensures ∙ c.if-not-has_hop.true)
-    c.only.ensures.value c.only.ensures.links refl c.requires.bounded
+returns-then-not-has_hop-clause-ends c = forward_nowhere c.args.plan.now c.args.link c.args.direction
+    (sym c.has_hop.ensures ∙ c.if-not-has_hop.true) c.only.ensures.value c.only.ensures.links refl c.requires.bounded
 
 pub returns-then-not-has_link-clause-ends : goal.returns-then-not-has_link-clause-ends
 returns-then-not-has_link-clause-ends c =

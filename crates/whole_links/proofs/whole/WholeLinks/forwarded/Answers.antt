@@ -7,7 +7,7 @@ use Rattle.ide_types.specs.declared.port.PortName.{PortName}
 use Rattle.hop_queues.specs.declared.queue.HopTlp.{HopTlp}
 use Rattle.hop_queues.specs.{queue_of}
 use Rattle.link_stores.specs.declared.link.LinkAccesses.{LinkAccesses}
-use Rattle.all_links.specs.Links.{EndsSendingOr}
+use Rattle.all_links.specs.Links.{EndsSendingOrStays}
 use Rattle.whole_links.proofs.Forwards.{forward_empty, forward_sent_or}
 use Rattle.whole_links.proofs.whole.WholeLinks.forwarded.Goals as goal
 
@@ -32,12 +32,13 @@ returns-in-Some-clause-ends c =
     let x = c.in-Some.tlp.now in
     let seen = ap (λ (o : Option LinkAccesses). option_map_or (λ (a : LinkAccesses). (queue_of a.carried d).tlps) o [])
     (sym c.at.ensures) in
-    forward_sent_or c.args.plan.now c.send_at.result old
-    (record { links = c.send_at.new.self; accesses = old.accesses }) c.args.link d x c.requires.hop
+    forward_sent_or c.args.plan.now c.send_at_end.result old
+    (record { links = c.send_at_end.new.self; accesses = old.accesses }) c.args.link d x c.requires.hop
     (subst (λ (xs : List HopTlp). 0 < length xs) seen (c.in-Some.ensures.waits.0 refl))
     (subst (λ (xs : List HopTlp). x ≡ slice_index_or xs 0 x) seen c.in-Some.ensures.first)
-    (subst (λ (e : PortName). EndsSendingOr c.args.plan.now c.send_at.result old.links c.send_at.new.self e x.bytes
+    (subst (λ (e : PortName). EndsSendingOrStays c.args.plan.now c.send_at_end.result old.links c.send_at_end.new.self e
+    x.bytes
     false x.t) c.leaving_end-end.ensures
-    (subst (λ (bs : List ℕ). EndsSendingOr c.args.plan.now c.send_at.result old.links c.send_at.new.self
-    c.leaving_end-end.result bs false x.t) (c.of-sent.ensures ∙ c.as_slice.ensures) c.send_at.ensures.ends))
+    (subst (λ (bs : List ℕ). EndsSendingOrStays c.args.plan.now c.send_at_end.result old.links c.send_at_end.new.self
+    c.leaving_end-end.result bs false x.t) (c.of-sent.ensures ∙ c.as_slice.ensures) c.send_at_end.ensures.ends))
     refl c.requires.bounded

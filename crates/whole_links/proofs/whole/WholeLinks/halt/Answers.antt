@@ -3,7 +3,7 @@ use Rattle.std.specs.Prelude.{Option}
 use Rattle.script_events.specs.declared.event.Event.TheVariants.{Interface}
 use Rattle.script_events.specs.declared.event.InterfaceEvent.TheVariants.{Halt}
 use Rattle.event_verdicts.specs.declared.verdict.Verdict.{Verdict}
-use Rattle.whole_links.specs.Whole.{WholeEndsAs}
+use Rattle.whole_links.specs.Whole.{WholeEndsOrHasNone}
 use Rattle.whole_links.proofs.Ends.{any_plan, bounded_with, ends_noted}
 use Rattle.whole_links.proofs.whole.WholeLinks.halt.Goals as goal
 
@@ -24,7 +24,7 @@ note_halt-requires c =
 
 pub returns-in_err-verdict-clause-ends : goal.returns-in_err-verdict-clause-ends
 returns-in_err-verdict-clause-ends c = λ plan.
-    subst (λ (o : Option Verdict). WholeEndsAs plan o c.args.self.now
+    subst (λ (o : Option Verdict). WholeEndsOrHasNone plan o c.args.self.now
     (record { links = c.operate_interface.new.self; accesses = c.args.self.now.accesses })
     (Interface (Halt c.args.interface c.args.loss))) (sym c.from_residual.ensures)
     (c.in_err-verdict.ensures.ends plan (Halt c.args.interface c.args.loss) refl)

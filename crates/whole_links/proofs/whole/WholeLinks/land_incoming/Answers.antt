@@ -4,7 +4,7 @@ use Rattle.script_events.specs.declared.event.Event.{Event}
 use Rattle.machine_ports.specs.Machine.{LinkPacket}
 use Rattle.all_links.specs.BesideAfter.{BesideBytes}
 use Rattle.all_links.specs.States.{links_state}
-use Rattle.whole_links.specs.Accesses.{AccessesArriveAt}
+use Rattle.whole_links.specs.Accesses.{AccessesArriveInState}
 use Rattle.whole_links.specs.Packets.{incoming_bytes, incoming_event}
 use Rattle.whole_links.specs.Whole.{WholeEnds}
 use Rattle.whole_links.specs.declared.whole.WholeLinks.{WholeLinks}
@@ -15,9 +15,8 @@ use Rattle.whole_links.proofs.whole.WholeLinks.land_incoming.Goals.{in-Borrowed-
 use Rattle.whole_links.proofs.whole.WholeLinks.land_incoming.Goals as goal
 
 pub land-requires-clause-few : goal.land-requires-clause-few
-land-requires-clause-few c =
-    few_units c.args.self.now.links.ends c.args.self.now.links.packets.packets c.args.self.now.links.steps
-    c.requires.steps c.requires.bounded.bounded
+land-requires-clause-few c = few_units c.args.self.now.links.ends c.args.self.now.links.packets.packets
+    c.args.self.now.links.steps c.requires.steps c.requires.bounded.bounded
 
 pub returns-in-None-clause-ends : goal.returns-in-None-clause-ends
 returns-in-None-clause-ends c =
@@ -74,7 +73,7 @@ returns-in_ok-verdict-in-Some-clause-accesses c =
     c.land.new.ends c.land.new.trusted c.land.new.accesses
     (is_brought c.args.plan.now c.args.self.now.links c.args.incoming x is)
     c.in_ok-verdict-in-Some.ensures.lands in
-    let IsSo = λ (s : WholeLinks). AccessesArriveAt c.args.plan.now event c.in_ok-verdict-in-Some.verdict
+    let IsSo = λ (s : WholeLinks). AccessesArriveInState c.args.plan.now event c.in_ok-verdict-in-Some.verdict
     c.args.self.now s
     in
     elim c.match-bytes-2.branch [

@@ -9,8 +9,7 @@ use Rattle.all_links.specs.Accesses.{sizes_at, mmio_at}
 use Rattle.whole_links.proofs.whole.WholeLinks.peek.Goals as goal
 
 pub at-requires : goal.at-requires
-at-requires c =
-    subst (λ (n : ℕ). c.in-Some.link < n) (sym c.requires.bounded.whole) c.in-Some.ensures.there.link_there
+at-requires c = subst (λ (n : ℕ). c.in-Some.link < n) (sym c.requires.bounded.whole) c.in-Some.ensures.there.link_there
 
 pub returns-in-None-clause-answer : goal.returns-in-None-clause-answer
 returns-in-None-clause-answer c =

@@ -1,7 +1,7 @@
 use Rattle.std.proofs.Common.{ℕ, List, sym, refl, subst}
 use Rattle.std.specs.Prelude.{true, false}
 use Rattle.ide_types.specs.Ports.{host_port}
-use Rattle.all_links.specs.Links.{EndsSendingOr}
+use Rattle.all_links.specs.Links.{EndsSendingOrStays}
 use Rattle.all_links.proofs.{there}
 use Rattle.all_links.proofs.BesideAfter.{keeps_all}
 use Rattle.whole_links.proofs.Answers.{answer_older, answer_sent_or}
@@ -22,7 +22,7 @@ returns-in-None-clause-ends c =
     (record { links = c.complete.new.self; accesses = c.args.self.now.accesses }) c.args.link
     (record { bound = c.args.reply.now.binding; bytes = c.args.bytes.now }) l.0
     c.requires.due l.1 (sym (c.in-None.ensures l.0 l.1))
-    (subst (λ (bytes : List ℕ). EndsSendingOr c.args.plan.now c.complete.result c.args.self.now.links
+    (subst (λ (bytes : List ℕ). EndsSendingOrStays c.args.plan.now c.complete.result c.args.self.now.links
     c.complete.new.self (host_port c.args.link) bytes false true) c.written-tlp.ensures c.complete.ensures.ends)
     refl c.requires.bounded
 

@@ -34,11 +34,9 @@ returns-clause-step c =
     c.in_ok-verdict.ensures.sides c.in_ok-verdict.ensures.accesses)
 
 pub invariant_of-self : goal.invariant_of-self
-invariant_of-self c =
-    invariant_stays c.self.inside.plan c.self.inside.links c.answer.new.self c.self.invariant
+invariant_of-self c = invariant_stays c.self.inside.plan c.self.inside.links c.answer.new.self c.self.invariant
     c.in_err-verdict.ensures.ends
 
 pub returns-in_err-verdict-clause-memory : goal.returns-in_err-verdict-clause-memory
-returns-in_err-verdict-clause-memory c =
-    as_before c.self.inside.plan c.self.inside.links c.answer.new.self c.self.invariant c.in_err-verdict.ensures.ends
-    c.args.self.now c.self.view_is c.from_residual.result
+returns-in_err-verdict-clause-memory c = as_before c.self.inside.plan c.self.inside.links c.answer.new.self
+    c.self.invariant c.in_err-verdict.ensures.ends c.args.self.now c.self.view_is c.from_residual.result

@@ -2,7 +2,7 @@ use Rattle.std.proofs.Common.{ap, ◌∙◌, arith}
 use Rattle.std.specs.Int.{w128, from_be_bytes}
 use Rattle.gcm_seal.specs.Inside.{block_product}
 use Rattle.gcm_seal.proofs.Moves.{from-to}
-use Rattle.gcm_seal.proofs.ghash.product_of.Goals as goal
+use Rattle.gcm_seal.proofs.ghash.product_of_number.Goals as goal
 
 pub returns : goal.returns
 returns c = λ h lt are.

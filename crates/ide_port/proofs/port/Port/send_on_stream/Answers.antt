@@ -8,8 +8,8 @@ use Rattle.ide_port.proofs.Lengths.{buffer-length}
 use Rattle.tlp_layout.specs.Choice.{plan_place}
 use Rattle.ide_port.proofs.Steps.{sent_as, sent-step, reads}
 use Rattle.ide_port.proofs.Units.{found-has}
-use Rattle.ide_port.proofs.port.Port.send_on.Goals as goal
-use Rattle.ide_port.proofs.port.Port.send_on.Goals.{in-Ok, in-Err}
+use Rattle.ide_port.proofs.port.Port.send_on_stream.Goals as goal
+use Rattle.ide_port.proofs.port.Port.send_on_stream.Goals.{in-Ok, in-Err}
 
 pub index_mut-stream-requires : goal.index_mut-stream-requires
 index_mut-stream-requires c =

@@ -10,7 +10,7 @@ use Rattle.sub_stream.specs.Seen.{live_key_seen}
 use Rattle.sub_stream.specs.Senders.{begun_where_empty}
 use Rattle.sub_stream.proofs.Judging.{tagged-in, posted-in, opened_packets-in, length-opened_packets, judged-tag}
 use Rattle.sub_stream.proofs.Judging.{judged-order, judged-accepted, le-false, le-true}
-use Rattle.sub_stream.proofs.receiver.take_under.Goals as goal
+use Rattle.sub_stream.proofs.receiver.take_under_key.Goals as goal
 
 pub returns-then-not-is_tagged-clause-answer : goal.returns-then-not-is_tagged-clause-answer
 returns-then-not-is_tagged-clause-answer c =

@@ -1,7 +1,7 @@
 use Rattle.all_ends.proofs.Terms.{ℕ, ap, sym, subst, option_map, pair_port}
 use Rattle.ide_port.specs.{IsSentAtPort, Trusting}
 use Rattle.all_ends.specs.Ends.{bound_trust}
-use Rattle.all_ends.proofs.sending.send_between.Goals as goal
+use Rattle.all_ends.proofs.sending.send_peer.Goals as goal
 
 pub returns-in-None-clause-sent : goal.returns-in-None-clause-sent
 returns-in-None-clause-sent c =

@@ -4,9 +4,9 @@ use Rattle.spec_interfaces.specs.Peers.{live_by_id}
 use Rattle.link_ends.specs.Hosts.{operated_on}
 use Rattle.interface_ends.specs.Keepers.{Ended}
 use Rattle.all_ends.specs.Ends.{live_of}
-use Rattle.all_ends.specs.AllEnds.{AsksAt}
+use Rattle.all_ends.specs.AllEnds.{AsksAtLink}
 use Rattle.all_ends.proofs.Lent.{asks_there}
-use Rattle.all_ends.proofs.all_ends.AllEnds.operate_on.Goals as goal
+use Rattle.all_ends.proofs.all_ends.AllEnds.operate_interface.Goals as goal
 
 pub returns : goal.returns
 returns c =
@@ -17,10 +17,10 @@ returns c =
       peers = c.self.inside.peers.items;
     } in
     let x : LinkEnds = c.index_mut-ends.result.now in
-    let y : LinkEnds = c.operate_on.new.ends in
+    let y : LinkEnds = c.operate_interface.new.ends in
     let e : Ended = record {
-      outcome = c.operate_on.result;
-      manager = c.operate_on.new.self.interfaces;
+      outcome = c.operate_interface.result;
+      manager = c.operate_interface.new.self.interfaces;
       device = y.device.interfaces;
     } in
     let operated = subst (λ (live : ℕ → Option ℕ). IfSome
@@ -28,9 +28,10 @@ returns c =
     (λ i. e ≡ operated_on c.args.interface c.args.op c.args.loss c.args.keeper.now.keys live
     c.args.keeper.now.interfaces x i))
     (λ j. (λ stream. live_by_id (live_of (c.deref.ensures.value j)) (c.deref-2.ensures.value j) c.args.link stream))
-    c.operate_on.ensures.operated in
-    subst (λ (v : EndsView). AsksAt v c.args.link c.args.keeper.now c.args.interface c.args.op c.args.loss
-    c.operate_on.result (record old { links = slice_set old.links c.args.link y }) c.operate_on.new.self) c.self.view_is
-    (asks_there old c.args.link c.args.keeper.now c.operate_on.new.self c.args.interface c.args.op c.args.loss
-    c.operate_on.result x y c.index_mut-ends.ensures.value operated c.operate_on.ensures.keys
-    c.operate_on.ensures.peer_draws c.operate_on.ensures.ends)
+    c.operate_interface.ensures.operated in
+    subst (λ (v : EndsView). AsksAtLink v c.args.link c.args.keeper.now c.args.interface c.args.op c.args.loss
+    c.operate_interface.result (record old { links = slice_set old.links c.args.link y })
+    c.operate_interface.new.self) c.self.view_is
+    (asks_there old c.args.link c.args.keeper.now c.operate_interface.new.self c.args.interface c.args.op c.args.loss
+    c.operate_interface.result x y c.index_mut-ends.ensures.value operated c.operate_interface.ensures.keys
+    c.operate_interface.ensures.peer_draws c.operate_interface.ensures.ends)

@@ -4,11 +4,10 @@ use Rattle.std.proofs.lemmas.List.{take_all, length-drop}
 use Rattle.gcm_seal.specs.Gcm.{combined_bytes, counter}
 use Rattle.aes_block.proofs.Blocks.{length-aes}
 use Rattle.gcm_seal.proofs.Strings.{masked_bytes-within, masked_bytes-none}
-use Rattle.gcm_seal.proofs.Gcm.mask_within.Goals as goal
+use Rattle.gcm_seal.proofs.Gcm.mask_in_block.Goals as goal
 
 pub returns-then-is_empty : goal.returns-then-is_empty
-returns-then-is_empty c =
-    masked_bytes-none c.args.self.now c.args.iv.now _ c.args.buf.now
+returns-then-is_empty c = masked_bytes-none c.args.self.now c.args.iv.now _ c.args.buf.now
     (eqb-true (length c.args.buf.now) 0 (sym c.is_empty.ensures ∙ c.if-is_empty.true))
 
 pub returns : goal.returns

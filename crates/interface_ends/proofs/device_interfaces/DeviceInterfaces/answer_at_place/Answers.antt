@@ -2,7 +2,7 @@ use Rattle.std.proofs.Common.{◌≡◌, ◌+◌, ◌<◌, Some, true, false, le
 use Rattle.std.specs.Prelude.{slice_get}
 use Rattle.ide_types.proofs.Places.{get_at}
 use Rattle.interface_ends.proofs.Answers.{taken_some, reply_now, device_now}
-use Rattle.interface_ends.proofs.device_interfaces.DeviceInterfaces.answer_at.Goals as goal
+use Rattle.interface_ends.proofs.device_interfaces.DeviceInterfaces.answer_at_place.Goals as goal
 
 pub overflow_add-self : goal.overflow_add-self
 overflow_add-self c =
