@@ -3,6 +3,7 @@ before the event (docs/COMMAND.md, Facts). `told` runs an event and gives its ve
 
 from typing import List, Optional, Tuple
 
+import messages
 from interfaces import LOCKED, RUN
 from links import CPL, FAR, HOST, NEAR, NPR, PR, SUB_NAMES
 from links import End, Line, Malformed, Operation, cut, kind_of, link_of, number
@@ -10,6 +11,19 @@ from links import read_tlp
 from world import BINDINGS, CHANGES, OPERATIONS, World
 
 ARRIVALS = ["pass", "alter", "cut", "arrive"]
+# the rules that can answer an event or the effect of a packet, in the order of docs/RULES.md
+RULES = """
+    lines.none packets.shown sending.malformed sending.plain sending.insecure sending.key sending.unfinished
+    sending.sync sending.worn sending.sealed arriving.plain arriving.malformed arriving.stream arriving.insecure
+    arriving.keyed arriving.key arriving.unit arriving.held arriving.tag arriving.order arriving.accepted
+    arriving.effects slots.status operations.begin operations.lost operations.busy operations.establish
+    operations.refresh operations.device reset interfaces.write interfaces.flr interfaces.firmware views.lock
+    views.report views.start views.halt views.bind views.unbind views.state views.lost views.device views.shown
+    memory.trusted memory.running memory.stream memory.floor memory.region memory.page memory.bytes memory.shown
+    reads.queued reads.granted reads.placed reads.full answers.link answers.empty answers.running answers.stream
+    answers.floor answers.refresh answers.refused answers.sealed mmio.page mmio.trusted mmio.running mmio.stream
+    mmio.floor mmio.bytes mmio.shown peers.operations hops.operations hops.through hops.waiting hops.forward
+""".split()
 MEMORY_CAUSES = {
     "nottrusted": "trusted", "notrunning": "running", "wrongstream": "stream", "stale": "floor", "outside": "region",
     "crosses": "page",
@@ -424,6 +438,9 @@ class Facts:
 def told(world: World, line: str) -> Tuple[str, List[str]]:
     """The verdict of an event, and the lines that tell what it came from."""
     facts = Facts(world).of(line)
+    first, laid_out = messages.exchanges(world, line)
     verdict = world.verdict(line)
     sub = next((fact.split()[3] for fact in facts[:2] if fact.startswith("sends ")), None)
-    return verdict, [f"rule {rule(line.split()[0], verdict, sub)}"] + effect_rules(verdict) + facts
+    return verdict, [f"rule {rule(line.split()[0], verdict, sub)}"] + effect_rules(verdict) + facts + messages.told(
+        first, laid_out, verdict
+    )

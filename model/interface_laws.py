@@ -1,12 +1,13 @@
 """Laws of interfaces, of their locks and views, of memory and of what is read of it. Each is a function as those of
 stream_laws.py are."""
 
-from typing import Dict, List, Optional
+from typing import Dict, List, Optional, Tuple
 
 from interfaces import ERROR, KEEP_CACHE_LINE, LOCK_MSIX, LOCKED, NO_FIRMWARE, RUN, UNLOCKED, report_bytes
 from links import CPL, Packet, masked, nonce, number, read_tlp
 from notes import KINDS, Arrived, Pair, Past, QueuedRead, Standing, Written, asks, given, is_admitted, is_bound_from
 from notes import is_open, stored_bytes, stored_writes, takes, zeroed
+from plan import InterfacePlan
 from stream_laws import Instances
 
 LISTED = ["tph", "lnr", "pasid", "ats", "bar0", "bar1", "bar2", "bar3", "bar4", "bar5"]
@@ -27,11 +28,11 @@ def run_law(past: Past, pair: Pair) -> Instances:
         if now.is_locked and (now.registers != was.registers or not was.is_locked):
             flags = past.world.handles[place].plan.flags
             kind = "registers that were written" if was.is_locked else "registers at a lock"
-            yield kind, listed(flags, now.registers) == listed(flags, now.locked)
+            yield kind, bool(now.locked) and listed(flags, now.registers) == listed(flags, now.locked)
     event, name = pair.words[0], pair.verdict[0]
     if name == "reported":
         plan, was = past.world.handles[pair.first].plan, pair.before[pair.first]
-        yield "a report", pair.verdict[2] == report_bytes(plan, was.locked, plan.flags, plan.offset).hex()
+        yield "a report", pair.verdict[2] == report_of(plan, was)
     if name in ("written", "flr", "firmware") and pair.before[pair.first].is_locked:
         flags, was = past.world.handles[pair.first].plan.flags, pair.before[pair.first].registers
         changes = event == "flr" or event == "firmware" and flags & NO_FIRMWARE
@@ -40,6 +41,11 @@ def run_law(past: Past, pair: Pair) -> Instances:
             changes = listed(flags, then) != listed(flags, was)
         if changes:
             yield f"a {event} that a lock forbids", pair.verdict[2] == str(ERROR)
+
+
+def report_of(plan: InterfacePlan, standing: Standing) -> Optional[str]:
+    """The report of the registers as they stood at the last lock; None if it was never locked."""
+    return report_bytes(plan, standing.locked, plan.flags, plan.offset).hex() if standing.locked else None
 
 
 def listed(flags: int, registers: Dict[str, int]) -> List[Optional[int]]:
@@ -56,7 +62,7 @@ def reports_are_shown(past: Past, pair: Pair) -> Instances:
     for place, (was, now) in each(pair):
         if now.state == RUN and was is not now:
             plan = past.world.handles[place].plan
-            report = report_bytes(plan, now.locked, plan.flags, plan.offset).hex()
+            report = report_of(plan, now)
             kind = "a RUN" if len(now.runs) < 2 else "a later RUN"
             yield kind, (place, now.locks, report) in past.reported
 
@@ -84,8 +90,8 @@ def bind_law(past: Past, pair: Pair) -> Instances:
 
 
 def unlocked_is_scrubbed(past: Past, pair: Pair) -> Instances:
-    """Whatever takes an interface to CONFIG_UNLOCKED leaves each byte of its closed BARs 0, of those that the stored
-    writes left."""
+    """Whatever takes an interface to CONFIG_UNLOCKED leaves each byte 0, of those that the stored writes left, of its
+    BARs that are not open."""
     for place, (was, now) in each(pair):
         if was.state != UNLOCKED and now.state == UNLOCKED:
             bars = [bar for bar in range(len(past.world.handles[place].plan.bars)) if not is_open(past, place, bar)]
@@ -147,7 +153,7 @@ def memory_law(past: Past, pair: Pair) -> Instances:
     0."""
     if pair.unit:
         due = [is_admitted(past, pair, one) for one in pair.unit.packets]
-        is_as_due = due == [one.effect == "applied" for one in pair.unit.packets] and len(pair.writes) == sum(due)
+        is_as_due = due == [one.effect == "applied" for one in pair.unit.packets] and pair.writes == sum(due)
         yield f"{'writes' if sum(due) > 1 else 'a write' if any(due) else 'no write'} of a unit", is_as_due
     if pair.verdict[0] == "memory":
         at, length = number(pair.words[1]), number(pair.words[2])
@@ -179,12 +185,17 @@ def effect_law(past: Past, pair: Pair) -> Instances:
 
 
 def origin_law(past: Past, pair: Pair) -> Instances:
-    """If no tag was forged: a packet whose write is admitted is the one at the same place of what was sealed in its
-    sub-stream under its draw, before which the interface of its requester ID was in RUN, under as many locks as now."""
-    if pair.unit and not past.is_forged:
+    """If no tag of its sub-stream and draw was forged: a packet whose write is admitted is the one at the same place of
+    what was sealed there, before which the interface of its requester ID was in RUN, under as many locks as now."""
+    if is_unforged(past, pair):
         for one in pair.unit.packets:
             if is_admitted(past, pair, one):
                 yield "a write", is_from(past, pair, one)
+
+
+def is_unforged(past: Past, pair: Pair) -> bool:
+    """A unit is accepted, and no tag of its sub-stream and draw was forged."""
+    return pair.unit is not None and not past.is_forged_under(pair.unit.lane, pair.unit.draw)
 
 
 def is_from(past: Past, pair: Pair, one: Arrived) -> bool:
@@ -198,16 +209,21 @@ def is_from(past: Past, pair: Pair, one: Arrived) -> bool:
 
 
 def byte_origin(past: Past, pair: Pair) -> Instances:
-    """If no tag was forged: each byte of trusted memory that is shown and is not 0 is that of an admitted write, which
-    was given to a send at the device's port of the link, by the interface of its requester ID, while that was in the
-    RUN in which it was admitted."""
-    if pair.verdict[0] != "memory" or past.is_forged:
-        return
-    for place, byte in enumerate(bytes.fromhex(pair.verdict[1])):
-        address = number(pair.words[1]) + place
+    """Each byte of trusted memory that is shown and is not 0 is that of the last admitted write; if no tag of the
+    sub-stream and draw had been forged under which that came, it was given to a send at the device's port of the link,
+    by the interface of its requester ID, while that was in the RUN in which it was admitted."""
+    for address, byte in shown_bytes(pair):
         written = past.memory.get(address)
-        if byte:
+        if byte and not (written and written.is_forged):
             yield "a byte", written is not None and was_given(past, written, address, byte)
+
+
+def shown_bytes(pair: Pair) -> List[Tuple[int, int]]:
+    """The addresses of trusted memory that a verdict shows, with their bytes."""
+    if pair.verdict[0] != "memory":
+        return []
+    first = number(pair.words[1])
+    return [(first + place, byte) for place, byte in enumerate(bytes.fromhex(pair.verdict[1]))]
 
 
 def was_given(past: Past, written: Written, address: int, byte: int) -> bool:
@@ -291,9 +307,9 @@ def answers_law(past: Past, pair: Pair) -> Instances:
 
 
 def read_origin_law(past: Past, pair: Pair) -> Instances:
-    """If no tag was forged: a queued packet is the one at the same place of what was sealed in its sub-stream under its
-    draw, before which the interface of its requester ID was in RUN, under as many locks as now."""
-    if pair.unit and not past.is_forged:
+    """If no tag of its sub-stream and draw was forged: a queued packet is the one at the same place of what was sealed
+    there, before which the interface of its requester ID was in RUN, under as many locks as now."""
+    if is_unforged(past, pair):
         for one in pair.unit.packets:
             if one.effect == "queued":
                 yield "a read", is_from(past, pair, one)
@@ -304,9 +320,9 @@ def read_origin_law(past: Past, pair: Pair) -> Instances:
 
 def mmio_law(past: Past, pair: Pair) -> Instances:
     """Each byte that is shown of a BAR is that of the last stored write that enables it, since the BAR was last set to
-    0. Locked or in RUN before the event and after it, a byte of a closed BAR changes only by a stored write with T, in
-    RUN, on a stream that the interface is bound to, under a draw from its floor there on. In RUN its floor is the
-    greatest draw that was On at the device's PR receiver when it came into RUN under the lock that stands."""
+    0. Locked or in RUN before the event and after it, a byte of a BAR that is not open changes only by a stored write
+    with T, in RUN, on a stream that the interface is bound to, under a draw from its floor there on. In RUN its floor
+    is the greatest draw that was On at the device's PR receiver when it came into RUN under the lock that stands."""
     if pair.verdict[0] == "mmio":
         bar, offset, length = map(number, pair.words[2:])
         contents = past.stored[pair.first, bar]
@@ -320,7 +336,7 @@ def mmio_law(past: Past, pair: Pair) -> Instances:
 
 
 def guarded_bytes(past: Past, pair: Pair) -> Instances:
-    """Each byte of a closed BAR that changes, of an interface that is locked before and after it."""
+    """Each byte that changes of a BAR that is not open, of an interface that is locked before and after it."""
     for (place, bar), offset, byte, one in stored_bytes(past, pair) if pair.unit else []:
         if is_locked_still(pair, place) and not is_open(past, place, bar):
             if past.stored[place, bar].get(offset, 0) != byte:
@@ -336,14 +352,12 @@ def is_locked_still(pair: Pair, place: int) -> bool:
 
 
 def mmio_origin_law(past: Past, pair: Pair) -> Instances:
-    """If no tag was forged: a packet with T whose write is stored came to an interface in RUN, on the stream of its
-    lock or on one between devices that it is bound to, and is the one at the same place of what was sealed there. On
-    the former a trusted send at the host's port of the link sealed it, on the latter a send at the other device, while
-    the owner of its TLP was in RUN and bound to that stream. From before that send on the interface was in no RUN but
-    under the lock that stands."""
-    if past.is_forged:
-        return
-    for (place, _), one in stored_writes(past, pair):
+    """If no tag of its sub-stream and draw was forged: a packet with T whose write is stored came to an interface in
+    RUN, on the stream of its lock or on one between devices that it is bound to, and is the one at the same place of
+    what was sealed there. On the former a trusted send at the host's port of the link sealed it, on the latter a send
+    at the other device, while the owner of its TLP was in RUN and bound to that stream. From before that send on the
+    interface was in no RUN but under the lock that stands."""
+    for (place, _), one in stored_writes(past, pair) if is_unforged(past, pair) else []:
         if one.packet.t:
             kind = f"a write of {'another device' if pair.unit.end.line.letter == 'p' else 'the host'}"
             if one.sealed and one.sealed.before[place].locks != pair.before[place].locks:
@@ -376,12 +390,3 @@ def was_bound(past: Past, one: Arrived) -> bool:
         return False
     before = one.sealed.before[owner]
     return before.state == RUN and one.sealed.end.plan.id in before.bindings
-
-
-def bind_origin_law(past: Past, pair: Pair) -> Instances:
-    """If no tag was forged: each packet with T of a unit that an end of a stream between devices accepted is the one at
-    the same place of what was sealed there, by a send while the owner of its TLP was in RUN and bound to the stream."""
-    if pair.unit and pair.unit.end.line.letter == "p" and not past.is_forged:
-        for one in pair.unit.packets:
-            if one.packet.t:
-                yield "a packet with T", one.is_as_sealed and was_bound(past, one)

@@ -7,18 +7,17 @@ What was sealed, accepted, queued, stored and forwarded, locks, floors and failu
 import bisect
 import collections
 from dataclasses import dataclass, field
-from typing import Dict, Iterator, List, Optional, Tuple
+from typing import Dict, Iterator, List, Optional, Set, Tuple
 
 from guarded import OPEN_TO_ALL
 from interfaces import LOCKED, MEMORY_SPACE, RUN, UNLOCKED
+from key_account import Account, Keyed
 from links import CPL, NPR, PR, End, Line, Operation, Packet, kind_of, masked, nonce, number, tag_of
-from memory import PAGE, WaitingRead, enabled
+from memory import PAGE, WaitingRead
 from world import World
 
 # a line, the direction in which it is sealed there, and which of the three it is
 SubStream = Tuple[Line, int, int]
-# what a key set holds: the state of its slot, and the draw
-Keyed = Tuple[str, int]
 # a TLP at a switch: its sub-stream, its bytes, and T
 HopTlp = Tuple[int, bytes, bool]
 KINDS = {"": "a link", "h": "a hop", "p": "a stream between devices"}
@@ -92,10 +91,14 @@ class Arrived:
     is_as_sealed = property(lambda self: self.sealed is not None and self.sealed.packet == self.packet)
 
     def written(self) -> Iterator[Tuple[int, int]]:
-        """Of a write each address that it enables, with its byte."""
-        for place, byte in enumerate(self.payload):
-            if enabled(place, len(self.payload), self.header[7] & 15, self.header[7] >> 4):
-                yield self.address + place, byte
+        """Of a write each address that it names, with the byte of its payload as far behind the first one. The first
+        byte enable speaks of the first double word, the last one of the last, if there are more; all between are
+        named."""
+        first, last, end = self.header[7] % 16, self.header[7] // 16, self.address + self.length
+        for at in range(self.address, end):
+            bits = first if at < self.address + 4 else last if end - 4 <= at else 15
+            if bits // 2 ** ((at - self.address) % 4) % 2:
+                yield at, self.payload[at - self.address]
 
 
 @dataclass
@@ -112,9 +115,18 @@ class Unit:
 
 
 @dataclass
+class Kept:
+    """All that the model keeps between two events: of each line its operation and its ends, and the rest."""
+
+    lines: Dict[Line, Tuple[tuple, List[tuple]]]
+    rest: tuple
+
+
+@dataclass
 class Arrival:
     """Bytes that came to a port: the packet that they are, the end that has its stream, and the keys there."""
 
+    port: str
     data: bytes
     packet: Optional[Packet]
     end: Optional[End]
@@ -150,12 +162,14 @@ class Work:
 
 @dataclass
 class Touch:
-    """What touched a place of keys, whether a GO found its draw there, and what the sets held after it."""
+    """What touched a place of keys, whether a GO found its draw there, what the sets held after it, and of an operation
+    the status of the stream at that end then."""
 
     what: str
     place: Tuple[Line, int, int, int]
     found: bool
     keys: List[Keyed]
+    status: str = ""
 
 
 @dataclass
@@ -173,10 +187,13 @@ class Pair:
     touches: List[Touch]
     # the oldest read that waits on the link of an answer, as the model keeps it
     oldest: Optional[WaitingRead]
-    # the writes that the model led to trusted memory: their addresses with their bytes
-    writes: List[List[Tuple[int, int]]]
-    # of bytes that came to a switch, whether all else stayed as it was
-    is_unchanged: Optional[bool]
+    # how many writes the model led to trusted memory
+    writes: int
+    # by port and stream the keys of the three sub-streams that an end sealed before an event that may seal
+    keys: Dict[Tuple[str, int], List[List[Keyed]]]
+    # what is kept before it and after it
+    was: Kept
+    now: Kept
     # a tag verified on a unit that its partner had not sealed
     is_forged: bool = False
 
@@ -225,6 +242,15 @@ class Sub:
 
 
 @dataclass
+class Honest:
+    """A direction of a stream that is honest since an establish: its draw, what was sealed, and how many came."""
+
+    base: int
+    sealed: List[Sealed] = field(default_factory=list)
+    came: int = 0
+
+
+@dataclass
 class QueuedRead:
     """A read that was queued: of which interface, under which of its locks, and under which draw it came."""
 
@@ -235,12 +261,15 @@ class QueuedRead:
 
 @dataclass
 class Written:
-    """A byte of trusted memory that a write left: of which interface, under which of its locks, as it was sealed."""
+    """A byte of trusted memory that a write left: of which interface, under which of its locks, as it was sealed,
+    whether a tag of its sub-stream and draw had been forged, and on which line it came."""
 
     byte: int
     owner: Optional[int]
     locks: int
     sealed: Optional[Sealed]
+    is_forged: bool
+    line: Line
 
 
 @dataclass
@@ -273,11 +302,19 @@ class Past:
 
     def __init__(self, world: World):
         self.world, self.plan = world, world.plan
-        self.is_forged = False
+        # of which sub-streams and draws a tag verified on a unit that the partner had not sealed
+        self.forged: Set[Tuple[SubStream, int]] = set()
+        # the keys of all places, by verdicts; and of each finished unit what it is to the cipher
+        self.account = Account()
+        self.cipher: set = set()
+        # by bytes of a key the sub-stream and the draw that were sealed under it
+        self.owners: Dict[bytes, Tuple[SubStream, int]] = {}
         self.sealed: List[Sealed] = []
         self.subs: Dict[SubStream, Sub] = collections.defaultdict(Sub)
         # the draw of the last establish of a line that began
         self.bases: Dict[Line, int] = collections.defaultdict(int)
+        # by line and direction, if all that came there since an establish was the next that was sealed
+        self.honest: Dict[Tuple[Line, int], Honest] = {}
         # the ends at which a check failed, and that have had a Live key since then
         self.failed: set = set()
         # by key and IV the last packet, and where its range of key stream ends
@@ -290,16 +327,37 @@ class Past:
         # the bytes behind the BARs of each interface, as the stored writes left them
         self.stored: Dict[Tuple[int, int], Dict[int, int]] = collections.defaultdict(dict)
         # by line of a hop and side: the TLPs that were accepted there and that were sealed there, since the link's last
-        # reset; and how many draws the line was given since then
+        # reset; and which draws the line was given since then
         self.taken: Dict[Tuple[Line, int], List[HopTlp]] = collections.defaultdict(list)
         self.given: Dict[Tuple[Line, int], List[HopTlp]] = collections.defaultdict(list)
-        self.hop_draws: Dict[Line, int] = collections.defaultdict(int)
+        self.hop_draws: Dict[Line, List[int]] = collections.defaultdict(list)
         # by interface and lock what was reported
         self.reported: set = set()
+        # by interface and lock whether a report was shown
+        self.reports_shown: set = set()
+        # the pairs before, up to the last six
+        self.recent: List[Pair] = []
         # by interface and draw the lock under which a packet was admitted
         self.admitted: Dict[Tuple[int, int], int] = {}
         # by interface and draw of the packets with T that it sealed: whether in RUN, and under which lock
         self.trusted: Dict[int, Dict[int, set]] = collections.defaultdict(lambda: collections.defaultdict(set))
+        # the same of those on streams between devices too
+        self.trusted_anywhere: Dict[int, Dict[int, set]] = collections.defaultdict(lambda: collections.defaultdict(set))
+        # by interface and stream between devices the last bind that came to it and no unbind since: under which lock,
+        # and whether the stream was Secure there
+        self.binds: Dict[Tuple[int, int], Tuple[int, bool]] = {}
+        # by interface and stream between devices the lock under which a verdict said `bound`, if no unbind came since
+        self.said_bound: Dict[Tuple[int, int], int] = {}
+        # by interface and stream: under which locks it was bound to it, each with how many packets were sealed by then
+        self.bound_locks: Dict[Tuple[int, int], List[Tuple[int, int]]] = collections.defaultdict(list)
+        # by interface and draw the lock under which a write with T was stored in its memory
+        self.stored_under: Dict[Tuple[int, int], int] = {}
+        # by interface: those of its streams that are Secure at its device, the nonce of its last lock, and the streams
+        # between devices whose BIND was asked since; by link how many nonces were taken
+        self.secure: Dict[int, set] = {}
+        self.locked_nonce: Dict[int, Optional[bytes]] = {}
+        self.asked: Dict[int, List[Line]] = collections.defaultdict(list)
+        self.used: Dict[int, int] = collections.defaultdict(int)
 
     def sub(self, lane: SubStream) -> Sub:
         return self.subs[lane]
@@ -326,6 +384,12 @@ class Past:
 
     def device_end(self, interface: int, stream: int) -> Optional[End]:
         return self.world.end_at(f"d{self.world.handles[interface].link}", stream)
+
+    def honest_next(self, pair: Pair) -> Optional[Honest]:
+        """If the next packet comes in an honest direction."""
+        honest = self.honest.get(pair.arrival.lane[:2]) if pair.arrival and pair.arrival.end else None
+        is_next = honest and honest.came < len(honest.sealed) and honest.sealed[honest.came].data == pair.arrival.data
+        return honest if is_next else None
 
     # -- a unit whose tag is looked at
 
@@ -363,12 +427,36 @@ class Past:
             return False
         return self.is_verified(arrival.lane, *ending)
 
+    @property
+    def is_forged(self) -> bool:
+        return bool(self.forged)
+
+    def is_forged_under(self, lane: SubStream, draw: int) -> bool:
+        """Whether a tag of a sub-stream was forged under this draw."""
+        return (lane, draw) in self.forged
+
+    def is_forged_from(self, lane: SubStream, first: int) -> bool:
+        """Whether a tag of a sub-stream was forged under a draw from this one on."""
+        return any(one == lane and draw >= first for one, draw in self.forged)
+
+    def is_forged_on(self, line: Line) -> bool:
+        """Whether a tag of the stream on this line was forged, at either end."""
+        return any(one[0] is line for one, _ in self.forged)
+
+    def is_forged_since_reset(self, line: Line, direction: int, subs: Tuple[int, ...]) -> bool:
+        """Whether a tag of these sub-streams of a segment was forged under a draw that it was given since the last
+        reset of its link."""
+        return any(self.is_forged_under((line, direction, sub), draw) for sub in subs for draw in self.hop_draws[line])
+
     # -- a pair, before it is judged
 
     def meet(self, pair: Pair):
         """What laws that speak of the history after the pair ask of it."""
+        self.account.note(self.world.lines(), pair)
         pair.is_forged = self.forges(pair.arrival)
-        self.is_forged = self.is_forged or pair.is_forged
+        if pair.is_forged:
+            draw, _ = self.ends_unit(pair.arrival)
+            self.forged.add((pair.arrival.lane, draw))
         for one in pair.sealed:
             end = one.end
             if one.t and pair.words[0] == "send" and end.is_at_device and not end.line.letter:
@@ -377,9 +465,39 @@ class Past:
                     was = one.before[owner]
                     self.trusted[owner][one.draw].add((was.state == RUN, was.locks))
 
+            owner = self.sealed_for(pair, one)
+            if owner is not None:
+                self.trusted_anywhere[owner][one.draw].add((one.before[owner].state == RUN, one.before[owner].locks))
+        self.meet_bindings(pair)
+
+    def sealed_for(self, pair: Pair, one: Sealed) -> Optional[int]:
+        """The interface that owns the TLP of a packet with T which its device sealed, on any stream."""
+        is_sent = pair.words[0] in ("send", "psend") and one.end.is_at_device
+        if not one.t or not is_sent or one.end.line.letter == "h":
+            return None
+        return self.owner(one.end, one.packet.header[4] << 8 | one.packet.header[5])
+
+    def meet_bindings(self, pair: Pair):
+        if pair.words[0] in ("bind", "unbind") and reaches(pair.verdict):
+            stream = self.world.peers[int(pair.words[2])].plan.id
+            self.binds.pop((pair.first, stream), None)
+            if pair.words[0] == "unbind":
+                self.said_bound.pop((pair.first, stream), None)
+            if pair.verdict[0] == "bound":
+                self.said_bound[pair.first, stream] = pair.after[pair.first].locks
+            if pair.words[0] == "bind":
+                end = self.device_end(pair.first, stream)
+                self.binds[pair.first, stream] = (pair.before[pair.first].locks, end.status() == "secure")
+        for place, now in enumerate(pair.after):
+            for stream in now.bindings:
+                locks = self.bound_locks[place, stream]
+                if not locks or locks[-1][1] != now.locks:
+                    locks.append((len(self.sealed), now.locks))
+
     # -- a pair, once it is judged
 
     def note(self, pair: Pair):
+        self.note_honest(pair)
         self.note_establish(pair)
         for one in pair.sealed:
             self.note_sealed(one)
@@ -396,7 +514,9 @@ class Past:
             self.stored[place] = {}
         if pair.verdict[0] == "reported":
             self.reported.add((pair.first, pair.after[pair.first].locks, pair.verdict[2]))
+            self.reports_shown.add((pair.first, pair.after[pair.first].locks))
         self.note_failures(pair)
+        self.recent = (self.recent + [pair])[-6:]
 
     def note_establish(self, pair: Pair):
         work = pair.work
@@ -406,13 +526,41 @@ class Past:
                 sub = self.sub(lane)
                 sub.units_sent = sub.units_got = sub.got = sub.posted = 0
             if work.line.letter == "h":
-                self.hop_draws[work.line] += 1
+                self.hop_draws[work.line].append(work.draws)
+
+    def note_honest(self, pair: Pair):
+        if pair.arrival and pair.arrival.end:
+            honest, way = self.honest_next(pair), pair.arrival.lane[:2]
+            if honest:
+                honest.came += 1
+            else:
+                self.honest.pop(way, None)
+        if pair.verdict[0] == "reset":
+            self.honest = {way: one for way, one in self.honest.items() if not self.is_reset(way[0], pair.first)}
+        if pair.work:
+            for way in [(pair.work.line, direction) for direction in (0, 1)]:
+                self.note_work(pair, way)
+        for one in pair.sealed:
+            if one.lane[:2] in self.honest:
+                self.honest[one.lane[:2]].sealed.append(one)
+
+    def note_work(self, pair: Pair, way: Tuple[Line, int]):
+        work, honest = pair.work, None if is_refused(pair.verdict) else self.honest.pop(way, None)
+        if work.operation.name == "idle" and pair.verdict[0].endswith("established"):
+            self.honest[way] = Honest(work.draws)
+        elif honest and work.operation.name == "up" and pair.verdict[0] == "refreshed":
+            if all(one.draw == work.operation.draw for one in honest.sealed[honest.came:]):
+                self.honest[way] = honest
+
+    def is_reset(self, line: Line, link: int) -> bool:
+        return any(end.link == link for end in line.ends)
 
     def note_sealed(self, one: Sealed):
         sub, under = self.sub(one.lane), self.sub(one.lane).unders[one.draw]
         offset = sum(len(other.packet.body) for other in under.opened)
         key_and_iv = (self.key(one.lane, one.draw), nonce(one.sub, one.unit))
         self.ranges[key_and_iv] = (one, offset + len(one.packet.body))
+        self.owners[key_and_iv[0]] = (one.lane, one.draw)
         under.totals[one.unit] = sub.units_sent
         under.sent.append(one)
         under.places.append(one.place)
@@ -424,6 +572,7 @@ class Past:
                 self.given[one.end.line, one.end.side].append((one.sub, one.tlp, one.t))
         if one.packet.m:
             under.units.append(under.opened)
+            self.cipher.add(given_to_cipher(self, one, under))
             under.opened = []
             sub.units_sent += one.draw >= self.base(one.end.line)
 
@@ -444,13 +593,14 @@ class Past:
         self.note_effects(pair)
 
     def note_effects(self, pair: Pair):
-        unit, applied = pair.unit, iter(pair.writes)
+        unit = pair.unit
+        is_forged = self.is_forged_under(unit.lane, unit.draw)
         for one in unit.packets:
             owner = self.owner(unit.end, one.requester) if unit.end.is_at_host and one.kind != "sync" else None
             locks = pair.before[owner].locks if owner is not None else 0
             if one.effect == "applied":
-                for address, byte in next(applied, []):
-                    self.memory[address] = Written(byte, owner, locks, one.sealed)
+                for address, byte in one.written():
+                    self.memory[address] = Written(byte, owner, locks, one.sealed, is_forged, unit.end.line)
             if one.effect == "queued":
                 read = WaitingRead(one.header, unit.draw)
                 self.reads[unit.end.link].append(QueuedRead(read, owner, locks))
@@ -458,13 +608,16 @@ class Past:
                 self.admitted.setdefault((owner, unit.draw), locks)
         for place, offset, byte, _ in stored_bytes(self, pair):
             self.stored[place][offset] = byte
+        for (interface, _), one in stored_writes(self, pair):
+            if one.packet.t:
+                self.stored_under.setdefault((interface, unit.draw), pair.before[interface].locks)
 
     def note_reset(self, link: int):
         self.reads[link] = []
         for segment in (0, 1):
             line = self.world.segments.get((link, segment))
             if line:
-                self.hop_draws[line] = 0
+                self.hop_draws[line] = []
                 for side in (0, 1):
                     self.taken[line, side], self.given[line, side] = [], []
 
@@ -493,6 +646,13 @@ class Past:
 def seen(packets: List[Packet]) -> Tuple[bytes, bytes]:
     """What a tag is over: prefixes and headers, and the bodies."""
     return b"".join(one.prefix + one.header for one in packets), b"".join(one.body for one in packets)
+
+
+def given_to_cipher(past: Past, one: Sealed, under: Under) -> Tuple[bytes, bytes, bytes, bytes]:
+    """What a unit that was finished is to the cipher: key, IV, authenticated bytes and ciphertext."""
+    front = under.totals[one.unit].to_bytes(8, "big") if one.end.plan.closed and one.unit == 1 else b""
+    authenticated, encrypted = seen([other.packet for other in under.units[-1]])
+    return past.key(one.lane, one.draw), nonce(one.sub, one.unit), front + authenticated, encrypted
 
 
 def is_refused(verdict: List[str]) -> bool:

@@ -3,14 +3,14 @@
 It is given what was noted of the events before (`Past`) and an event with its verdict (`Pair`), and yields each
 instance of what the law supposes, by name, and whether the law holds of it: so an instance that never comes shows as
 well as one that refutes it. Laws that suppose that no tag verified on a unit that its partner had not sealed are silent
-from the first such tag on.
+from the first such tag on, of the sub-streams and draws of which there was one.
 """
 
-from typing import Iterator, List, Optional, Tuple
+from typing import Callable, Iterator, List, Optional, Tuple
 
 from cryptography.hazmat.primitives.ciphers import Cipher, algorithms, modes
 
-from links import LANES, PR, SUB_NAMES, End, Line, exclusive_or, nonce, number, read_tlp
+from links import CPL, LANES, NPR, PR, SUB_NAMES, End, Line, exclusive_or, nonce, number, read_tlp
 from memory import PAGE
 from notes import KINDS, Keyed, Pair, Past, Sealed, Touch, Under, keys_of, kept, on, posted_before, tlps_of
 from plan import Plan
@@ -36,10 +36,9 @@ def kind_of_line(pair: Pair) -> str:
     return KINDS[pair.unit.end.line.letter]
 
 
-def in_order(past: Past, pair: Pair) -> Optional[Tuple[int, Under]]:
+def in_order(past: Past, pair: Pair, may_end: Callable) -> Optional[Tuple[int, Under]]:
     """If the packet that is next of what was sealed under a draw arrives unchanged, after all before it: the draw. Its
-    key is Live, nothing of another draw is held, the stream has not failed, the posted counts are met, and on a closed
-    stream nothing older is missing."""
+    key is Live, nothing of another draw is held, the stream has not failed, and if it ends its unit, this holds too."""
     arrival = pair.arrival
     if arrival is None or arrival.end is None or past.has_failed(arrival.end):
         return None
@@ -57,31 +56,120 @@ def in_order(past: Past, pair: Pair) -> Optional[Tuple[int, Under]]:
     return None
 
 
-def may_end(past: Past, pair: Pair, under: Under, draw: int) -> bool:
+def meets_counts(past: Past, pair: Pair, under: Under, draw: int) -> bool:
     """The posted counts of a unit are met, and on a closed stream unit 1 has all older ones before it."""
     lane = pair.arrival.lane
     sub, posted = past.sub(lane), past.sub((lane[0], lane[1], PR))
     count = sub.posted + sum(packet.posted for packet in under.held) + pair.arrival.packet.posted
     is_met = lane[2] == PR or count <= posted.got
-    return is_met and (under.units_got > 0 or not lane[0].plan.closed or sub.is_whole(past.base(lane[0]), draw))
+    return is_met and is_behind_older(past, pair, under, draw)
+
+
+def is_behind_posted(past: Past, pair: Pair, under: Under, draw: int) -> bool:
+    """Each posted packet of the direction that was sealed before a request or a completion has been accepted, of the
+    draws since the stream was last established; what was accepted under smaller ones was sealed; and on a closed stream
+    unit 1 has all older ones before it."""
+    lane, base = pair.arrival.lane, past.base(pair.arrival.lane[0])
+    sub, posted = past.sub(lane), past.sub((lane[0], lane[1], PR))
+    ahead = posted_before(past, lane, under.sent[under.got + len(under.held)].place)
+    have_come = all(count <= posted.unders[older].got for older, count in ahead)
+    are_sealed = all(one.is_front for older, one in sub.unders.items() if base <= older < draw)
+    return (lane[2] == PR or have_come and are_sealed) and is_behind_older(past, pair, under, draw)
+
+
+def is_behind_older(past: Past, pair: Pair, under: Under, draw: int) -> bool:
+    line = pair.arrival.lane[0]
+    return under.units_got > 0 or not line.plan.closed or past.sub(pair.arrival.lane).is_whole(past.base(line), draw)
+
+
+def is_taken(pair: Pair, draw: int, under: Under) -> bool:
+    """The packet is held, or ends its unit and is accepted, as the next unit of its sub-stream under the draw."""
+    end, packet = pair.arrival.end, pair.arrival.packet
+    due = "accepted" if packet.m else "held"
+    name = [due, end.port, str(end.plan.id), SUB_NAMES[packet.sub], "draw", str(draw), "unit", str(under.units_got + 1)]
+    return pair.verdict[:8] == name and len(pair.verdict) == 8 + (len(under.held) + 1 if packet.m else 0)
+
+
+def kind_taken(pair: Pair) -> str:
+    end, due = pair.arrival.end, "accepted" if pair.arrival.packet.m else "held"
+    return f"{due} on {KINDS[end.line.letter]}{' that is closed' if end.plan.closed else ''}"
 
 
 def whole_law(past: Past, pair: Pair) -> Instances:
     """What arrives unchanged and in order is held, or ends its unit and is accepted."""
-    found = in_order(past, pair)
+    found = in_order(past, pair, meets_counts)
     if found:
-        (draw, under), end, packet = found, pair.arrival.end, pair.arrival.packet
-        due = "accepted" if packet.m else "held"
-        name = [due, end.port, str(end.plan.id), SUB_NAMES[packet.sub], "draw", str(draw), "unit"]
-        name.append(str(under.units_got + 1))
-        effects = len(under.held) + 1 if packet.m else 0
-        kind = f"{due} on {KINDS[end.line.letter]}{' that is closed' if end.plan.closed else ''}"
-        yield kind, pair.verdict[:8] == name and len(pair.verdict) == 8 + effects
+        yield kind_taken(pair), is_taken(pair, *found)
+
+
+def whole_law_by_order(past: Past, pair: Pair) -> Instances:
+    """What arrives unchanged and in order, and after the posted packets that were sealed before it, is held, or ends
+    its unit and is accepted, whatever its posted count is; and it is no forgery."""
+    found = in_order(past, pair, is_behind_posted)
+    if found:
+        yield kind_taken(pair), is_taken(pair, *found) and not pair.is_forged
+
+
+def honest_law(past: Past, pair: Pair) -> Instances:
+    """If a stream was established by an operation that began and ended at one event, since then each operation on it
+    was refused as it began, or was a refresh that began and ended at one event, when all that had not come yet was of
+    the current draw, no reset touched it, and each packet of it that came to an end was the next that the other end had
+    sealed, over the three sub-streams, then the next one is held, or ends its unit and is accepted, and is no
+    forgery."""
+    honest = past.honest_next(pair)
+    if honest:
+        draw = honest.sealed[honest.came].draw
+        under = past.sub(pair.arrival.lane).unders[draw]
+        behind = " behind a refresh" if draw != honest.base else ""
+        yield kind_taken(pair) + behind, is_taken(pair, draw, under) and not pair.is_forged
+
+
+def honest_delivery(past: Past, pair: Pair) -> Instances:
+    """And once all came that was sealed, what was accepted of each sub-stream under each draw, with what is held, is
+    what was sealed."""
+    honest = past.honest_next(pair)
+    if honest and honest.came + 1 == len(honest.sealed):
+        last = honest.sealed[honest.came]
+        for sub in (PR, NPR, CPL):
+            for draw, under in past.sub((*last.lane[:2], sub)).unders.items():
+                if draw >= honest.base:
+                    is_here = sub == last.sub and draw == last.draw
+                    count = under.got + len(under.held) + is_here
+                    is_open = bool(under.opened)
+                    was_held = not pair.arrival.packet.m if is_here else bool(under.held)
+                    name = f"{'an open unit' if is_open else 'whole units'} on {kind_of_arrival(pair)}"
+                    yield name, under.is_front and count == len(under.sent) and is_open == was_held
+
+
+def kind_of_arrival(pair: Pair) -> str:
+    return KINDS[pair.arrival.end.line.letter]
+
+
+def fresh_law(past: Past, pair: Pair) -> Instances:
+    """An establish of an idle stream that ends at the event at which it begins leaves the stream just established: it
+    is up under the new draw, nothing was sealed, held or accepted under a draw from that on, and it has failed at
+    neither end."""
+    work = pair.work
+    if work and (work.name, work.operation.name) == ("establish", "idle") and pair.verdict[0].endswith("established"):
+        line = work.line
+        unders = [past.sub((line, *lane)).unders for lane in LANES]
+        newer = [under for ones in unders for draw, under in ones.items() if draw >= work.draw]
+        is_new = not any(one.sent or one.got or one.held for one in newer)
+        is_up = (line.operation.name, line.operation.draw, line.draw) == ("up", work.draw, work.draw)
+        yield KINDS[line.letter], is_up and is_new and not any(past.has_failed(end) for end in line.ends)
+
+
+def pass_law(past: Past, pair: Pair) -> Instances:
+    """A pass brings the packet that it names, unaltered, to the other end of the line on which it was sealed."""
+    if pair.words[0] == "pass" and 1 <= pair.first <= len(past.sealed):
+        one, came = past.sealed[pair.first - 1], pair.arrival
+        is_there = came is not None and came.end is one.end.line.ends[1 - one.end.side]
+        yield f"a packet of {KINDS[one.end.line.letter]}", is_there and came.data == one.data
 
 
 def order_is_no_forgery(past: Past, pair: Pair) -> Instances:
     """What arrives unchanged and in order is no forgery."""
-    if in_order(past, pair) and pair.arrival.packet.m:
+    if in_order(past, pair, meets_counts) and pair.arrival.packet.m:
         yield f"a tag on {KINDS[pair.arrival.end.line.letter]}", not pair.is_forged
 
 
@@ -97,26 +185,28 @@ def count_law(past: Past, pair: Pair) -> Instances:
 
 
 def prefix_law(past: Past, pair: Pair) -> Instances:
-    """If no tag was forged: key by key, each sub-stream got a prefix of what was sealed; the draws of its accepted
-    units never fall; and on a closed stream a unit is accepted after all that was sealed under each smaller draw since
-    the stream was last established."""
+    """Key by key, each sub-stream got a prefix of what was sealed, if no tag of it was forged under the key; the draws
+    of its accepted units never fall; and on a closed stream a unit is accepted after all that was sealed under each
+    smaller draw since the stream was last established, if no tag of its sub-stream was forged under a draw since
+    then."""
     unit = pair.unit
-    if not unit or past.is_forged:
+    if not unit:
         return
     sub, kind = past.sub(unit.lane), kind_of_line(pair)
-    yield f"a unit on {kind}", sub.unders[unit.draw].is_front and all(one.is_as_sealed for one in unit.packets)
+    if not past.is_forged_under(unit.lane, unit.draw):
+        yield f"a unit on {kind}", sub.unders[unit.draw].is_front and all(one.is_as_sealed for one in unit.packets)
     if sub.draws_got:
         yield f"a draw on {kind}", sub.draws_got[-1] <= unit.draw
     base = past.base(unit.end.line)
     older = [draw for draw, under in sub.unders.items() if base <= draw < unit.draw and (under.sent or under.got)]
-    if unit.end.plan.closed and older:
+    if unit.end.plan.closed and older and not past.is_forged_from(unit.lane, base):
         yield "an older draw on a closed stream", sub.is_whole(base, unit.draw)
 
 
 def delivery_law(past: Past, pair: Pair) -> Instances:
-    """If no tag was forged: the TLPs that were delivered under a key are a prefix of those that were sent under it,
-    with header and payload."""
-    if pair.unit and not past.is_forged:
+    """If no tag of the sub-stream was forged under a key, the TLPs that were delivered under it are a prefix of those
+    that were sent under it, with header and payload."""
+    if pair.unit and not past.is_forged_under(pair.unit.lane, pair.unit.draw):
         under, came = past.sub(pair.unit.lane).unders[pair.unit.draw], [tlp for _, tlp, _ in tlps_of(pair.unit)]
         first = under.tlps_got
         kind = f"{'TLPs' if len(came) > 1 else 'a TLP' if came else 'no TLP'} on {kind_of_line(pair)}"
@@ -124,14 +214,17 @@ def delivery_law(past: Past, pair: Pair) -> Instances:
 
 
 def order_law(past: Past, pair: Pair) -> Instances:
-    """If no tag was forged: when a unit of a non-posted or completion sub-stream is accepted, each posted packet that
-    was sealed before a packet of it had been accepted, of the draws since the stream was last established; on an open
-    stream, if nothing of an overtaken key is missing."""
+    """When a unit of a non-posted or completion sub-stream is accepted, each posted packet that was sealed before a
+    packet of it had been accepted, of the draws since the stream was last established, if under these no tag of both
+    sub-streams was forged; on an open stream, if nothing of an overtaken key is missing."""
     unit = pair.unit
-    if not unit or unit.sub == PR or past.is_forged:
+    if not unit or unit.sub == PR:
         return
     line, direction, _ = unit.lane
-    sub, posted, base = past.sub(unit.lane), past.sub((line, direction, PR)), past.base(line)
+    base = past.base(line)
+    if any(past.is_forged_from(lane, base) for lane in (unit.lane, (line, direction, PR))):
+        return
+    sub, posted = past.sub(unit.lane), past.sub((line, direction, PR))
     is_missing = not sub.is_whole(base, unit.draw) or not posted.is_whole(base, max(posted.draws_got, default=0))
     sent = sub.unders[unit.draw].sent[: sub.unders[unit.draw].got + len(unit.packets)]
     if sent and (line.plan.closed or not is_missing):
@@ -167,11 +260,13 @@ def is_on_in(keys: List[Keyed], key_set: int, draw: int) -> bool:
 
 
 def stream_stays_secure(past: Past, pair: Pair) -> Instances:
-    """A stream that is Secure at a port before an event of a refresh is Secure there after it."""
+    """A stream that is Secure at a port before an event of a refresh is Secure there after each exchange of the event,
+    and after the event."""
     if pair.work and pair.work.name == "refresh":
         for end, status in zip(pair.work.line.ends, pair.work.status):
             if status == "secure":
-                yield f"a refresh that is {pair.verdict[0]}", end.status() == "secure"
+                within = [touch.status for touch in pair.touches if touch.place[1] == end.side]
+                yield f"a refresh that is {pair.verdict[0]}", set(within + [end.status()]) == {"secure"}
 
 
 def keys_follow_operations(past: Past, pair: Pair) -> Instances:
@@ -310,8 +405,9 @@ def key_stream(key: bytes, one: Sealed, offset: int, payload: bytes) -> bytes:
 
 def hop_law(past: Past, pair: Pair) -> Instances:
     """Since the last reset of its link, what a switch sealed at one side are the first TLPs that it had accepted at the
-    other, in one order, with the same bytes and T. If no tag was forged, and each segment had one draw at most since
-    then: in each sub-stream what was accepted behind the switch is a prefix of what was sealed before it."""
+    other, in one order, with the same bytes and T. If each segment had one draw at most since then: in each sub-stream
+    of which no tag was forged under these, what was accepted behind the switch is a prefix of what was sealed before
+    it."""
     for one in pair.sealed:
         if one.end.is_at_switch and not one.sync:
             link, side = one.end.link, one.end.side
@@ -320,22 +416,16 @@ def hop_law(past: Past, pair: Pair) -> Instances:
             came = past.taken[entering, 1 - side][sent: sent + 1]
             yield f"a TLP that is forwarded{' with T' if one.t else ''}", came == [(one.sub, one.tlp, one.t)]
     unit = pair.unit
-    if not unit or unit.end.line.letter != "h" or unit.end.is_at_switch or past.is_forged:
+    if not unit or unit.end.line.letter != "h" or unit.end.is_at_switch:
         return
     segments = [past.world.segments[unit.end.link, segment] for segment in (0, 1)]
-    if all(past.hop_draws[line] <= 1 for line in segments):
+    is_forged = any(past.is_forged_since_reset(line, unit.lane[1], (unit.sub,)) for line in segments)
+    if not is_forged and all(len(past.hop_draws[line]) <= 1 for line in segments):
         first = segments[0] if unit.end.line is segments[1] else segments[1]
         side = 1 - unit.end.side
         was = [tlp for tlp in past.given[first, side] if tlp[0] == unit.sub]
         got = [tlp for tlp in past.taken[unit.end.line, unit.end.side] if tlp[0] == unit.sub] + tlps_of(unit)
         yield "a TLP behind a switch", was[: len(got)] == got
-
-
-def through_law(past: Past, pair: Pair) -> Instances:
-    """An arrival that is answered `through` leaves all as it was: what was sealed, got and held, operations, keys,
-    failures, what waits, memory, views and interfaces."""
-    if pair.verdict[0] == "through":
-        yield "bytes that go through a switch", bool(pair.is_unchanged)
 
 
 # ---- single verdicts
@@ -352,15 +442,6 @@ def failed_law(past: Past, pair: Pair) -> Instances:
             yield f"{what} on {KINDS[end.line.letter]}", pair.verdict[0] == "insecure"
     if pair.verdict[:2] == ["refused", "insecure"]:
         yield f"{'an' if pair.words[0] == 'answer' else 'a'} {pair.words[0]}", True
-
-
-def trust_law(past: Past, pair: Pair) -> Instances:
-    """A packet that is sealed with T at a host's port, of a link or of the segment of its hop towards the host, is
-    sealed by a trusted send or by an answer."""
-    for one in pair.sealed:
-        if one.end.is_at_host and one.t:
-            is_asked = pair.words[0] == "answer" or pair.words[0] == "send" and "trusted" in pair.words[3:]
-            yield "an answer" if pair.words[0] == "answer" else f"T on {KINDS[one.end.line.letter]}", is_asked
 
 
 def named_law(past: Past, pair: Pair) -> Instances:

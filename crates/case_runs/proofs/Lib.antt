@@ -7,6 +7,7 @@ mod Counted
 mod Unit
 mod Refreshes
 mod Unforged
+mod Forged
 pub mod Literals
 pub mod InterfaceComputed
 mod MemoryKeys

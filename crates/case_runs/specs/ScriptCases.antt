@@ -10,7 +10,7 @@ use Rattle.ide_types.specs.declared.plan.Plan.{Plan}
 use Rattle.ide_types.specs.declared.stream.Selector.TheVariants.{Selective}
 use Rattle.script_events.specs.declared.event.Lost.TheVariants.{Reply}
 use Rattle.script_events.specs.declared.event.Event.{Event}
-use Rattle.script_events.specs.declared.event.Event.TheVariants.{Establish, Refresh, Stop, Send, Pass, Alter}
+use Rattle.script_events.specs.declared.event.Event.TheVariants.{Establish, Refresh, Stop, Send, Pass, Alter, Arrive}
 use Rattle.ide_types.specs.declared.line.LineKind.TheVariants as kind
 use Rattle.event_verdicts.specs.declared.verdict.Operation.TheVariants as op
 use Rattle.event_verdicts.specs.declared.verdict.Verdict.{Verdict}
@@ -158,6 +158,16 @@ count_reached = (
   v.Sealed (sync_packet 256 Npr 255 ∷ sync_packet 257 Cpl 255 ∷ packet 258 Pr 0 256 true 0 ∷ []),
 )
 
+-- the write that would be sealed first, made by someone who has the keys
+abbrev pub forged_write : List ℕ
+forged_write =
+    0x92 ∷ 0x80 ∷ 0x05 ∷ 0x00 ∷ 0x40 ∷ 0x00 ∷ 0x00 ∷ 0x01 ∷ 0x01 ∷ 0x00 ∷ 0x00 ∷ 0x0f ∷ 0x10 ∷ 0x00 ∷ 0x00 ∷ 0x00
+    ∷ 0x20 ∷ 0x12 ∷ 0x7a ∷ 0x47 ∷ 0xf2 ∷ 0x34 ∷ 0x6b ∷ 0x47 ∷ 0x5b ∷ 0x1c ∷ 0x35 ∷ 0x8c ∷ 0xb9 ∷ 0x87 ∷ 0x81 ∷ 0x34
+    ∷ []
+
+abbrev pub forged_unit : Event × Verdict
+forged_unit = (Arrive (host_port 0) forged_write, (accepted_unit 1 0 1).1)
+
 -- ---- cases
 
 abbrev pub accepted_once : List (Event × Verdict)
@@ -195,6 +205,9 @@ reply_lost = establish_step ∷ reply_9_lost ∷ busy ∷ refresh_step ∷ []
 -- a unit under the older key is missing when the first one under the newer key arrives
 abbrev pub tail_missing : Event × Verdict → List (Event × Verdict)
 tail_missing arrival = establish_step ∷ seal_step 1 0 1 ∷ refresh_step ∷ seal_step 2 1 1 ∷ arrival ∷ []
+
+abbrev pub forged_once : List (Event × Verdict)
+forged_once = establish_step ∷ forged_unit ∷ []
 
 -- after each pair, whether draw 0 has gone from the sender, and whether from the receiver
 abbrev pub older_goes : List ((Event × Verdict) × Bool × Bool)

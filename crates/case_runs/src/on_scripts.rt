@@ -3,13 +3,17 @@
 
 ghost use Rattle.std.specs.Prelude.{[], ◌∷◌, map, true, false};
 ghost use Rattle.script_events.specs.declared.event.Event.TheVariants.{Pass};
+ghost use Rattle.ide_types.specs.Ports.{host_port};
+ghost use Rattle.ide_types.specs.declared.sub.SubKind.TheVariants.{Npr};
 ghost use Rattle.spec_links.specs.Laws.{NoForgery};
+ghost use Rattle.spec_links.specs.Plan.{lane_in};
+ghost use Rattle.law_delivery.specs.NoForgeryUnder.{NoForgeryUnder};
 ghost use Rattle.case_runs.specs.Due.{AreDue};
 ghost use Rattle.case_runs.specs.Gone.{AreGone};
 ghost use Rattle.case_runs.specs.ScriptCases.{plan, history_of_writes, establish_step, seal_step, accepted_unit, fails};
 ghost use Rattle.case_runs.specs.ScriptCases.{accepted_once, trusted_on_the_way, other_set_on_the_way, one_missing};
 ghost use Rattle.case_runs.specs.ScriptCases.{read_ahead, two_in_a_unit, late_packet, reply_lost, tail_missing};
-ghost use Rattle.case_runs.specs.ScriptCases.{count_full, older_goes, receiver, sender};
+ghost use Rattle.case_runs.specs.ScriptCases.{count_full, forged_once, forged_unit, older_goes, receiver, sender};
 
 /// A posted write is sealed and accepted. If it arrives again it fails by its tag, which is that of the unit before;
 /// then the stream is insecure.
@@ -74,4 +78,12 @@ pub fn older_draw_stays_gone()
 /// sealed.
 pub fn good_history_forges_nothing()
     ensures { NoForgery (plan 1 false) (accepted_unit 1 0 1 ∷ seal_step 1 0 1 ∷ establish_step ∷ []) }
+{}
+
+/// A stream is established, and a write that the device did not seal arrives under its key: it is accepted. So a tag
+/// was forged, but none of what comes non-posted under that key.
+pub fn forged_write_is_of_one_sub_stream()
+    ensures verdicts { AreDue (plan 1 false) [] forged_once }
+    ensures forged { NoForgery (plan 1 false) (forged_unit ∷ establish_step ∷ []) → ⊥ }
+    ensures others { NoForgeryUnder (plan 1 false) (forged_unit ∷ establish_step ∷ []) (lane_in (host_port 0) 5 Npr) 0 }
 {}

@@ -265,7 +265,7 @@ lock_unlocked : (t : DeviceTdi) (flags offset : ℕ) (secure : Bool) (drawn : Op
     → is_ok (lock_answer t flags offset secure drawn) ≡ true → is_locked t.state ≡ false
 lock_unlocked t flags offset secure drawn is = grind (arith, is)
 
-accepts_unlocked : (a : Around) (x : Site) (e : Event) (w : Verdict) (t : DeviceTdi) → accepts_lock a x e w t ≡ true
+pub accepts_unlocked : (a : Around) (x : Site) (e : Event) (w : Verdict) (t : DeviceTdi) → accepts_lock a x e w t ≡ true
     → is_locked t.state ≡ false
 accepts_unlocked a x (event.Interface (ie.Lock i loss)) w t is =
     let given = is_ok (lock_answer t x.plan.flags x.plan.offset a.secure a.drawn) in

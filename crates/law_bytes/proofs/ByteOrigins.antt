@@ -5,7 +5,7 @@ use Rattle.law_sealing.proofs.Terms.{◌≡◌, ℕ, ◌+◌, ◌≤◌, ◌<◌
 use Rattle.law_sealing.proofs.Terms.{length-append, take, slice_get, Some, Ok, refl, ap, sym, ◌∙◌, arith, if◌then◌else◌}
 use Rattle.law_sealing.proofs.Terms.{Plan, SubStream, History, Event, Send, Sealed, Accepted, UnitName, Effect}
 use Rattle.law_sealing.proofs.Terms.{SealedPacket, Packet, PortName, received_in, sent_packets, accepted_packets}
-use Rattle.law_sealing.proofs.Terms.{CauseLaw, NoForgery, DrawFacts, StreamsFit, Tlp, header, body, read_of}
+use Rattle.law_sealing.proofs.Terms.{CauseLaw, DrawFacts, StreamsFit, Tlp, header, body, read_of}
 use Rattle.law_sealing.proofs.Terms.{sub_stream_of, sealed_same, SealedList, sealed_packets, accepted_by, numbered}
 use Rattle.law_sealing.proofs.Terms.{encrypted_bytes, masked_bytes, iv_of, units, open_unit, sub_stream_packets}
 use Rattle.law_sealing.proofs.Terms.{open_unit-unfinished, arrived_packet, packets_in_hold, sent_bytes, sending_port}
@@ -33,6 +33,7 @@ use Rattle.spec_links.specs.Memory.{unit_ended}
 use Rattle.law_key_facts.proofs.Given.{key_cause}
 use Rattle.law_sealing.proofs.Sums.{in_parts}
 use Rattle.law_sealing.proofs.Places.{place_among, placed, unit_is}
+use Rattle.law_delivery.specs.NoForgeryUnder.{UnitIsUnforged}
 use Rattle.law_delivery.proofs.Prefixes.{got_begins}
 use Rattle.law_delivery.proofs.GotUnits.{got_units, units-front_append}
 use Rattle.law_delivery.proofs.Received.{held_front}
@@ -63,13 +64,13 @@ pub record IsWithin (plan : Plan) (h : History) (e : Event) (port : PortName) (u
 
 pub is_within : (plan : Plan) → StreamsFit plan → DrawFacts plan → (h : History) (e : Event) (port : PortName)
     (unit : UnitName) (effects : List Effect)
-    → CauseLaw plan ((e, Accepted port unit effects) ∷ h) → NoForgery plan ((e, Accepted port unit effects) ∷ h)
+    → CauseLaw plan ((e, Accepted port unit effects) ∷ h) → UnitIsUnforged plan h e (Accepted port unit effects)
     → (n : ℕ) → n < length (unit_ended plan h e port unit) → IsWithin plan h e port unit n
 is_within plan fits facts h e port unit effects cause forged n less =
     let s = received_in port unit in
     let ps = unit_ended plan h e port unit in
     let g = accepted_packets plan h s unit.draw in
-    let begins = got_begins plan fits facts ((e, Accepted port unit effects) ∷ h) cause forged s unit.draw in
+    let begins = got_begins plan fits facts ((e, Accepted port unit effects) ∷ h) cause s unit.draw forged in
     let all : sent_packets plan h s unit.draw ≡ (g ++ ps) ++ begins.0 =
     ap (λ (xs : SealedList). sub_stream_packets xs s unit.draw)
     (sym (sealed_same plan h e (Accepted port unit effects) refl))
@@ -122,11 +123,17 @@ sealed_port plan h e ds d among is =
     (all_live plan h (sending_port plan e) (sent_bytes plan h e) ds sealing) among.listed
     ∙ sealing.at_port
 
+-- the interface that a packet is admitted for
+pub admitted_for : (plan : Plan) (h : History) (port : PortName) (unit : UnitName) (p : Packet)
+    (adm : Admitted plan h port unit p) → For plan h port.line unit.stream unit.draw adm.head
+admitted_for plan h port unit p adm = owner_means plan h port.line unit.stream unit.draw adm.head (owner_id adm.head)
+    refl adm.bound
+
 -- all that is known of packet n
 module _ (plan : Plan) (whole : FitsPlan plan) (fits : StreamsFit plan) (facts : DrawFacts plan) (h : History)
     (e : Event) (port : PortName)
     (unit : UnitName) (effects : List Effect) (cause : CauseLaw plan ((e, Accepted port unit effects) ∷ h))
-    (forged : NoForgery plan ((e, Accepted port unit effects) ∷ h)) (n : ℕ) (p : Packet)
+    (forged : UnitIsUnforged plan h e (Accepted port unit effects)) (n : ℕ) (p : Packet)
     (adm : Admitted plan h port unit p) (stands : slice_get (unit_ended plan h e port unit) n ≡ Some p) where
   abbrev s : SubStream
   s = received_in port unit
@@ -134,8 +141,8 @@ module _ (plan : Plan) (whole : FitsPlan plan) (fits : StreamsFit plan) (facts :
   abbrev m : ℕ
   m = length (accepted_packets plan h s unit.draw) + n
 
-  pub for : For plan h port.line unit.stream unit.draw adm.head
-  for = owner_means plan h port.line unit.stream unit.draw adm.head (owner_id adm.head) refl adm.bound
+  abbrev for : For plan h port.line unit.stream unit.draw adm.head
+  for = admitted_for plan h port unit p adm
 
   -- its body masks the payload of a TLP that its interface sent in RUN
   pub record IsOwn : Type 0 where

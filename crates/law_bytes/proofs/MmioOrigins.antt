@@ -6,7 +6,7 @@ use Rattle.law_sealing.proofs.Terms.{false, List, [], ◌∷◌, ◌++◌, lengt
 use Rattle.law_sealing.proofs.Terms.{None, Result, Ok, refl, ap, sym, subst, ◌∙◌, arith, nat_tests, if◌then◌else◌}
 use Rattle.law_sealing.proofs.Terms.{cases_Bool, eqb-true, is_some, Plan, SubStream, History, Event, Send, Verdict}
 use Rattle.law_sealing.proofs.Terms.{Sealed, Accepted, UnitName, Effect, SealedPacket, Packet, Prefix, PortName}
-use Rattle.law_sealing.proofs.Terms.{SubKind, Pr, Cpl, received_in, sent_packets, accepted_packets, CauseLaw, NoForgery}
+use Rattle.law_sealing.proofs.Terms.{SubKind, Pr, Cpl, received_in, sent_packets, accepted_packets, CauseLaw}
 use Rattle.law_sealing.proofs.Terms.{DrawFacts, SealedList, sealed_packets, KeyName, sent_bytes, sending_port}
 use Rattle.law_sealing.proofs.Terms.{sealing_is, sealed_by_sealing, class_of, FitsPacket, read_of}
 unfoldable use Rattle.law_sealing.proofs.Terms.{due}
@@ -61,10 +61,13 @@ use Rattle.law_sealing.proofs.OfPlans.{streams_fit}
 use Rattle.law_sealing.proofs.Sums.{in_parts}
 use Rattle.law_sealing.proofs.Places.{place_among, placed}
 use Rattle.law_sealing.proofs.Sealings.{AllOf, IsSyncOf, live_at, from_at, all_of_sealing}
-use Rattle.law_verdicts.proofs.{accepted_known, all_get, bind_origin_law, bound_secure, cause_at, draws, get_less}
-use Rattle.law_verdicts.proofs.{interface_cause, keeps_floors, read_law, sent_at}
+use Rattle.law_verdicts.proofs.{accepted_known, all_get, bound_secure, cause_at, draws, get_less, interface_cause}
+use Rattle.law_verdicts.proofs.{keeps_floors, bind_origin_law, read_law, sent_at}
 use Rattle.law_verdicts.specs.{CameFrom, Carries}
-use Rattle.law_bytes.specs.MmioOrigin.{WasAsked, CameOnBinding, StoresAsked, MmioOriginLaw}
+use Rattle.law_delivery.specs.NoForgeryUnder.{UnitIsUnforged}
+use Rattle.law_delivery.proofs.EachForgery.{of_pairs}
+use Rattle.law_bytes.specs.LocalLaws.{LocalMmioOriginLaw}
+use Rattle.law_bytes.specs.MmioOrigin.{WasAsked, CameOnBinding, StoresAsked}
 use Rattle.law_key_facts.proofs.SealedKeys.{all_owned}
 use Rattle.law_bytes.proofs.SealedBy.{IsAmong, sealed_by, sealed_before}
 use Rattle.law_bytes.proofs.ByteOrigins.{sealed_port, host_device, less_is}
@@ -150,7 +153,7 @@ host_t : (plan : Plan) (h : History) (l : ℕ) (owner : Option Site) (stream : �
     → t_at plan h (host_port l) owner stream asked ≡ asked
 host_t plan h l owner stream asked low = rw (no_peer l (length plan.links) low) refl
 
-unsynced : (sync t : Bool) → (if sync then false else t) ≡ true → t ≡ true
+pub unsynced : (sync t : Bool) → (if sync then false else t) ≡ true → t ≡ true
 unsynced sync t is = grind (arith, is)
 
 -- there T is as it was asked
@@ -265,7 +268,7 @@ record OnLock (plan : Plan) (h : History) (x : Site) (stream draw : ℕ) : Type 
   stream_is : stream ≡ x.plan.stream
   least : device_floor plan h x ≤ draw
 
-floor_some : (stream floor : ℕ) (bs : List Binding) → floor_on stream bs ≡ Some floor → binds stream bs ≡ true
+pub floor_some : (stream floor : ℕ) (bs : List Binding) → floor_on stream bs ≡ Some floor → binds stream bs ≡ true
 floor_some stream floor [] is = absurd cc
 floor_some stream floor (b ∷ bs) is = by (b.stream == stream) (floor_some stream floor bs) is
   where
@@ -323,7 +326,7 @@ own_there plan fits h cause x known runs =
 -- on the stream of the lock it was asked for
 was_asked : (plan : Plan) → FitsPlan plan → (h : History) (e : Event) (end : PortName) (unit : UnitName)
     (effects : List Effect) (x : Site) (n : ℕ) (p : Packet) → CauseLaw plan ((e, Accepted end unit effects) ∷ h)
-    → NoForgery plan ((e, Accepted end unit effects) ∷ h) → site_at plan x.number ≡ Some x
+    → UnitIsUnforged plan h e (Accepted end unit effects) → site_at plan x.number ≡ Some x
     → slice_get (unit_ended plan h e end unit) n ≡ Some p → p.prefix.t ≡ true → IsTaken plan h x end unit p → end
     ≡ device_port x.link → device_floor plan h x ≤ unit.draw → WasAsked plan h x (received_in end unit) unit.draw
     (length (accepted_packets plan h (received_in end unit) unit.draw) + n) p
@@ -371,7 +374,7 @@ was_asked plan whole h e end unit effects x n p cause forged known stands truste
 -- ---- on a stream between devices
 
 -- the draw of a packet that was sealed by a pair was made before it
-bound_made : (plan : Plan) (h g : History) (port : PortName) (bytes : List ℕ) (more trusted : Bool)
+pub bound_made : (plan : Plan) (h g : History) (port : PortName) (bytes : List ℕ) (more trusted : Bool)
     (ds : List SealedPacket) (k : ℕ) (y : SealedPacket × Packet) → CauseLaw plan h
     → CameFrom ((Send port bytes more trusted, Sealed ds) ∷ g) h → slice_get (sealed_packets plan h) k ≡ Some y
     → k < length (sealed_packets plan ((Send port bytes more trusted, Sealed ds) ∷ g))
@@ -385,7 +388,7 @@ bound_made plan h g port bytes more trusted ds k y cause came at less =
 
 on_binding : (plan : Plan) → FitsPlan plan → (h : History) (e : Event) (end : PortName) (unit : UnitName)
     (effects : List Effect) (x : Site) (n : ℕ) (p : Packet) (floor : ℕ)
-    → CauseLaw plan ((e, Accepted end unit effects) ∷ h) → NoForgery plan ((e, Accepted end unit effects) ∷ h)
+    → CauseLaw plan ((e, Accepted end unit effects) ∷ h) → UnitIsUnforged plan h e (Accepted end unit effects)
     → site_at plan x.number ≡ Some x → slice_get (unit_ended plan h e end unit) n ≡ Some p → p.prefix.t ≡ true
     → runs_at plan h x ≡ true → port_of plan end ≡ device_port x.link
     → floor_on unit.stream (interface_at plan h x).bindings ≡ Some floor → floor ≤ unit.draw
@@ -395,9 +398,8 @@ on_binding plan whole h e end unit effects x n p floor cause forged known stands
     let secure = bound_secure plan h cause.1 x unit.stream bound in
     let between = is_between plan whole x.link unit.stream secure.end end secure.at_device at
     (accepted_known plan h e end unit effects cause.0) in
-    let from = (bind_origin_law plan whole ((e, Accepted end unit effects) ∷ h) cause forged).0 between n p stands
-    trusted
-    in
+    let from = (bind_origin_law plan whole ((e, Accepted end unit effects) ∷ h) cause).0 forged between n p
+    stands trusted in
     let was = from.was in
     let names = in_parts (received_in end unit) unit.draw was.stands.sealed was.stands.under in
     let made = bound_made plan h was.older was.port was.bytes was.more was.trusted was.packets was.place
@@ -417,7 +419,7 @@ on_binding plan whole h e end unit effects x n p floor cause forged known stands
 
 asked_at : (plan : Plan) → FitsPlan plan → (h : History) (e : Event) (end : PortName) (unit : UnitName)
     (effects : List Effect) → CauseLaw plan ((e, Accepted end unit effects) ∷ h)
-    → NoForgery plan ((e, Accepted end unit effects) ∷ h) → StoresAsked plan h e (Accepted end unit effects)
+    → UnitIsUnforged plan h e (Accepted end unit effects) → StoresAsked plan h e (Accepted end unit effects)
 asked_at plan whole h e end unit effects cause forged x bar n w p known stored stands trusted =
     let taken = is_taken plan h e end unit effects x bar n w p cause.0 known stored stands trusted in
     let there = accepted_known plan h e end unit effects cause.0 in
@@ -440,13 +442,10 @@ asked_at plan whole h e end unit effects cause forged x bar n w p known stored s
     ]
 
 stores_asked : (plan : Plan) → FitsPlan plan → (h : History) (e : Event) (w : Verdict)
-    → CauseLaw plan ((e, w) ∷ h) → NoForgery plan ((e, w) ∷ h) → StoresAsked plan h e w
+    → CauseLaw plan ((e, w) ∷ h) → UnitIsUnforged plan h e w → StoresAsked plan h e w
 stores_asked plan fits h e (Accepted end unit effects) cause forged =
     asked_at plan fits h e end unit effects cause forged
 stores_asked plan fits h e w cause forged = tt
 
-pub mmio_origin : (plan : Plan) → FitsPlan plan → (h : History) → CauseLaw plan h → NoForgery plan h
-    → MmioOriginLaw plan h
-mmio_origin plan fits [] cause forged = tt
-mmio_origin plan fits ((e, w) ∷ h) cause forged =
-    (stores_asked plan fits h e w cause forged, mmio_origin plan fits h cause.1 forged.1)
+pub mmio_origin : (plan : Plan) → FitsPlan plan → (h : History) → CauseLaw plan h → LocalMmioOriginLaw plan h
+mmio_origin plan fits h cause = of_pairs UnitIsUnforged StoresAsked plan (stores_asked plan fits) h cause

@@ -110,7 +110,8 @@ needs_most plan fits h e w x floor set at cause is greatest on =
 
 -- ---- locks are only ever added
 
-locks_grow : (plan : Plan) (since g : History) (x : Site) → locks_accepted plan g x ≤ locks_accepted plan (since ++ g) x
+pub locks_grow : (plan : Plan) (since g : History) (x : Site)
+    → locks_accepted plan g x ≤ locks_accepted plan (since ++ g) x
 unfolding devices
 locks_grow plan [] g x = omega arith
 locks_grow plan ((e, w) ∷ since) g x =
@@ -136,7 +137,7 @@ made_since [] g j b is = is
 made_since ((e, w) ∷ since) g j b is = after_longer (manager (since ++ g)) e w j b (made_since since g j b is)
 
 -- in RUN, the manager has it started
-stands_there : (plan : Plan) (k : History) (x : Site) → site_at plan x.number ≡ Some x → CauseLaw plan k
+pub stands_there : (plan : Plan) (k : History) (x : Site) → site_at plan x.number ≡ Some x → CauseLaw plan k
     → runs_at plan k x ≡ true → IsStillStarted (managed_view k x)
 stands_there plan k x at cause runs =
     let views = views_hold plan (key_plan plan) k (key_cause plan k cause) (interface_cause plan k cause) x at in
@@ -203,7 +204,8 @@ no_other_run plan fits h cause x at runs g j b made least =
 
 -- ---- the draw that a packet was sealed under was made by then
 
-live_of : (plan : Plan) (g : History) (port : PortName) (stream : ℕ) (ds : List SealedPacket) (i : ℕ) (d : SealedPacket)
+pub live_of : (plan : Plan) (g : History) (port : PortName) (stream : ℕ) (ds : List SealedPacket) (i : ℕ)
+    (d : SealedPacket)
     → AllLive plan g port stream ds → slice_get ds i ≡ Some d → IsLive plan g port stream d
 live_of plan g port stream [] i d all is = absurd cc
 live_of plan g port stream (y ∷ ds) zero d all is =

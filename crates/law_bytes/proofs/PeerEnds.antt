@@ -17,13 +17,13 @@ unfoldable use Rattle.spec_interfaces.specs.Peers.{peer_end}
 
 -- ---- the end of the stream that has an ID
 
-record IsPeerEnd (ps : List PeerPlan) (n link id : ℕ) (e : PortName) : Type 0 where
-  place : ℕ
-  peer : PeerPlan
-  stands : slice_get ps place ≡ Some peer
-  line : e.line ≡ peer_line (n + place)
-  has : (peer.id == id) ≡ true
-  meets : peer_link e.side peer ≡ link
+pub record IsPeerEnd (ps : List PeerPlan) (n link id : ℕ) (e : PortName) : Type 0 where
+  pub place : ℕ
+  pub peer : PeerPlan
+  pub stands : slice_get ps place ≡ Some peer
+  pub line : e.line ≡ peer_line (n + place)
+  pub has : (peer.id == id) ≡ true
+  pub meets : peer_link e.side peer ≡ link
 
 later_end : (p : PeerPlan) (ps : List PeerPlan) (n link id : ℕ) (e : PortName) → IsPeerEnd ps (n + 1) link id e
     → IsPeerEnd (p ∷ ps) n link id e
@@ -36,7 +36,7 @@ later_end p ps n link id e at = record {
   meets = at.meets;
 }
 
-found_there : (ps : List PeerPlan) (n link id : ℕ) (e : PortName) → peer_end ps n link id ≡ Some e
+pub found_there : (ps : List PeerPlan) (n link id : ℕ) (e : PortName) → peer_end ps n link id ≡ Some e
     → IsPeerEnd ps n link id e
 unfolding peer_end
 found_there [] n link id e is = absurd cc

@@ -319,7 +319,7 @@ and_true : (b : Bool) → (b && true) ≡ b
 and_true true = refl
 and_true false = refl
 
-and_none : (b : Bool) → (b && false) ≡ false
+pub and_none : (b : Bool) → (b && false) ≡ false
 and_none true = refl
 and_none false = refl
 
@@ -337,7 +337,8 @@ own_op : (m : StreamOperations) (o : Operation) (r : Reach) (p : KeyPlace)
     ≡ op_after_reach (is_hosted p.line) (work_of o (m.ops p.line p.stream) (length m.begun)) r
 own_op m o r p = rw (on_itself p) refl
 
-not_begun : (a b c d : ℕ) (begins : Bool) → ((a == b) && (c == d)) ≡ false → ((b == a) && (d == c) && begins) ≡ false
+pub not_begun : (a b c d : ℕ) (begins : Bool) → ((a == b) && (c == d)) ≡ false → ((b == a) && (d == c) && begins)
+    ≡ false
 not_begun a b c d begins other = grind (arith, nat_tests, other)
 
 if_not : {A : Type 0} (b : Bool) (x y : A) → b ≡ false → (if b then x else y) ≡ y

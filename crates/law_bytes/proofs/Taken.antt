@@ -27,10 +27,10 @@ use Rattle.spec_interfaces.specs.Sites.{Site, site_at}
 use Rattle.spec_interfaces.specs.Devices.{runs_at, interface_at}
 use Rattle.spec_interfaces.specs.Floors.{place_of, history_statuses, device_status, device_floor}
 use Rattle.spec_interfaces.proofs.Floors.{standing_placed}
-use Rattle.spec_interfaces.proofs.OnLinks.{number_on_link}
 use Rattle.spec_links.specs.Ports.{at_switch, port_of}
 use Rattle.spec_links.specs.Admission.{switch_effect, effects_under_policy}
 use Rattle.spec_links.specs.Memory.{Policy, policy_at, device_effect, effect_by, unit_ended, plain_of}
+use Rattle.law_mmio.proofs.OnLinks.{no_switch}
 use Rattle.law_verdicts.specs.{claimed_write, if_claims, if_stored, unit_stored_writes, stores, write_read}
 use Rattle.law_verdicts.proofs.{effect_at, effects_there, of_effect, run_state, some_is}
 use Rattle.event_verdicts.specs.declared.verdict.BlockCause.{BlockCause}
@@ -164,9 +164,6 @@ at_device plan policy k link unit p off is = by (is_sync_packet p) (at_switch pl
     by true c off is = absurd cc
     by false true off is = absurd cc
     by false false off is = is
-
-no_switch : (plan : Plan) (x : Site) → site_at plan x.number ≡ Some x → at_switch plan (device_port x.link) ≡ false
-no_switch plan x known = rw (number_on_link plan x known) refl
 
 pub record IsTaken (plan : Plan) (h : History) (x : Site) (end : PortName) (unit : UnitName) (p : Packet) : Type 0
   where

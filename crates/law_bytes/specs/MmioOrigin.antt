@@ -1,5 +1,5 @@
 -- Where trusted writes to the memory of interfaces come from.
-use Rattle.std.specs.Prelude.{◌≡◌, ◌⊎◌, ◌+◌, ◌∷◌, ◌<◌, ◌≤◌, ℕ, Bool, true, List, [], Some, length, nat_le, slice_get}
+use Rattle.std.specs.Prelude.{◌≡◌, ◌⊎◌, ◌+◌, ◌∷◌, ◌<◌, ◌≤◌, ℕ, Bool, true, List, Some, length, nat_le, slice_get}
 use Rattle.ide_types.specs.Ports.{host_port, device_port}
 use Rattle.spec_links.specs.Terms.{PortName, Plan, Event, Send, UnitName, Verdict, Accepted, Sealed, SealedPacket}
 use Rattle.spec_links.specs.Terms.{Packet, History, Write}
@@ -57,7 +57,3 @@ StoresAsked plan h e (Accepted end unit effects) =
     → CameOnLock plan h x end unit (length (accepted_packets plan h (received_in end unit) unit.draw) + n) p
     ⊎ CameOnBinding plan h x end unit (length (accepted_packets plan h (received_in end unit) unit.draw) + n) p
 StoresAsked plan h e w = Unit {0}
-
-abbrev pub MmioOriginLaw : Plan → History → Type 0
-MmioOriginLaw plan [] = Unit {0}
-MmioOriginLaw plan ((e, w) ∷ h) = StoresAsked plan h e w × MmioOriginLaw plan h

@@ -8,6 +8,6 @@ mod laws;
 
 pub use law_verdicts::{
     answer_law, answers_law, effect_law, failed_law, lock_law, named_law, one_lock_per_key,
-    reports_are_shown, trust_law, unlocked_is_scrubbed, views_are_true,
+    reports_are_shown, unlocked_is_scrubbed, views_are_true,
 };
 pub use laws::{byte_origin, keystream_fresh, mmio_origin_law};

@@ -10,7 +10,7 @@ use Rattle.law_sealing.proofs.Terms.{SubKind, PortName, Plan, SubStream, is_same
 use Rattle.law_sealing.proofs.Terms.{open_unit, History, base, is_sealed_under, ahead_of_packet, SealedList, KeyName}
 use Rattle.law_sealing.proofs.Terms.{with_sealed, sealed_packets, sent_packets, sub_stream_packets, sub_stream_of}
 use Rattle.law_sealing.proofs.Terms.{packet_of, arrived_packet, received_in, is_received_under, packets_in_hold}
-use Rattle.law_sealing.proofs.Terms.{accepted_packets, units_got, CauseLaw, NoForgery, IsPrefixOf, units-append}
+use Rattle.law_sealing.proofs.Terms.{accepted_packets, units_got, CauseLaw, IsPrefixOf, units-append}
 use Rattle.law_sealing.proofs.Terms.{units-end, units-more, open_unit-end, open_unit-more, accepted_by}
 use Rattle.law_sealing.proofs.Terms.{packet_that_came, numbered, DrawFacts, same_stream, sub_stream_packets-snoc}
 use Rattle.law_sealing.proofs.Terms.{sealing_is, StreamsFit, Sealed, Accepted, SealedPacket, Tlp, header, body, read_of}
@@ -18,7 +18,8 @@ use Rattle.law_sealing.proofs.Terms.{read_spells_tlp, Packet, is_sync_packet, be
 use Rattle.law_sealing.proofs.Terms.{masked_bytes, open_of, length-masked_bytes, length-open_of}
 use Rattle.law_sealing.proofs.Terms.{masked_bytes-masked_bytes, masked_bytes-append, SpellsHead, head_bytes, class_of}
 use Rattle.law_sealing.proofs.Terms.{layout_of, not_sync, lane_is, sent_bytes, sending_port}
-use Rattle.spec_links.specs.Delivered.{is_tlp_under_draw, tlps_sent, tlps_got, opened_tlps, with_payloads, DeliveryLaw}
+use Rattle.spec_links.specs.Delivered.{is_tlp_under_draw, tlps_sent, tlps_got, opened_tlps, with_payloads}
+use Rattle.law_delivery.specs.LocalLaws.{LocalDeliveryLaw}
 use Rattle.law_delivery.proofs.Received.{held_front}
 use Rattle.tlp_layout.specs.declared.head.HeadView.{HeadView}
 use Rattle.tlp_layout.proofs.Heads.{IsRight, kept}
@@ -265,13 +266,25 @@ delivered plan s j ps qs none begins =
           (sym (ap (opened_units plan s j 1) all ∙ opened_units-append plan s j 1 us vs)),
     )
 
-pub delivery_law : (plan : Plan) → StreamsFit plan → DrawFacts plan → (h : History) → CauseLaw plan h → NoForgery plan h
-    → DeliveryLaw plan h
-delivery_law plan fits facts h cause forged s j =
+pub delivery_law : (plan : Plan) → StreamsFit plan → DrawFacts plan → (h : History) → CauseLaw plan h
+    → LocalDeliveryLaw plan h
+delivery_law plan fits facts h cause s j forged =
     let begins = delivered plan s j (accepted_packets plan h s j) (sent_packets plan h s j)
     (got_units plan h cause s j).none
-    (got_begins plan fits facts h cause forged s j) in
+    (got_begins plan fits facts h cause s j forged) in
     subst (λ all. IsPrefixOf (tlps_got plan h s j) all) (all_opened plan facts h cause s j)
     (subst (λ unfinished. IsPrefixOf unfinished (opened_all plan s j (sent_packets plan h s j)))
     (sym (got_opened plan h cause s j))
     begins)
+
+-- if all was got, and no unit is open, all was delivered
+pub whole_delivered : (plan : Plan) → DrawFacts plan → (h : History) → CauseLaw plan h → (s : SubStream) (j : ℕ)
+    → accepted_packets plan h s j ≡ sent_packets plan h s j → open_unit (sent_packets plan h s j) ≡ []
+    → tlps_got plan h s j ≡ tlps_sent plan h s j
+whole_delivered plan facts h cause s j whole none =
+    let us = units (sent_packets plan h s j) in
+    let last : opened_all plan s j (sent_packets plan h s j) ≡ opened_units plan s j 1 us =
+    ap (λ (ps : List Packet). opened_units plan s j 1 us ++ opened_tlps plan s j (length us + 1) ps) none
+    ∙ append-nil (opened_units plan s j 1 us) in
+    got_opened plan h cause s j ∙ (ap (λ (ps : List Packet). opened_units plan s j 1 (units ps)) whole
+    ∙ (sym last ∙ all_opened plan facts h cause s j))

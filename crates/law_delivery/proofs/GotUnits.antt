@@ -4,7 +4,7 @@ use Rattle.law_sealing.proofs.Terms.{append_assoc, inl, inr, cases_Bool, append-
 use Rattle.law_sealing.proofs.Terms.{History, arrived_packet, is_received_under, packets_in_hold, accepted_packets}
 use Rattle.law_sealing.proofs.Terms.{pending_packets, units_got, CauseLaw, IsFront, units-end, units-more}
 use Rattle.law_sealing.proofs.Terms.{open_unit-end, open_unit-unfinished, accepted_by, packet_that_came, Accepted}
-use Rattle.law_sealing.proofs.Terms.{Packet}
+use Rattle.law_sealing.proofs.Terms.{Packet, Some, slice_get, zero, suc, ◌⊎◌}
 use Rattle.law_delivery.proofs.Received.{held_front}
 
 -- ---- what was got are finished units, and what is pending finishes none
@@ -72,3 +72,13 @@ stands_after plan h cause s j =
           (λ ps. ps ++ pending_packets plan h s j)
           are.none;
     }
+
+-- ---- the last of a list
+
+pub last_at : {A : Type 0} (xs : List A) (x y : A) (i : ℕ) → slice_get (xs ++ x ∷ []) i ≡ Some y
+    → (slice_get xs i ≡ Some y) ⊎ ((y ≡ x) × (i ≡ length xs))
+last_at [] x y zero is = inr (cc, refl)
+last_at [] x y (suc i) is = absurd cc
+last_at (z ∷ xs) x y zero is = inl is
+last_at (z ∷ xs) x y (suc i) is = elim (last_at xs x y i is)
+    [ inl p ↦ inl p | inr p ↦ inr (p.0, ap (λ (n : ℕ). suc n) p.1) ]

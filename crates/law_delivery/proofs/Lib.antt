@@ -2,6 +2,7 @@ pub mod Received
 pub mod GotUnits
 pub mod Orders
 pub mod Prefixes
+pub mod EachForgery
 pub mod Closed
 pub mod SameFronts
 pub mod Wholes

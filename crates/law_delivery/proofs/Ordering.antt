@@ -10,12 +10,14 @@ use Rattle.law_sealing.proofs.Terms.{slice_get_cases, filter-append, sum_by-appe
 use Rattle.law_sealing.proofs.Terms.{SubStream, is_same, is_closed, History, base, posted_since_last, SealedList}
 use Rattle.law_sealing.proofs.Terms.{sealed_packets, sent_packets, sub_stream_packets, sub_stream_of, arrived_packet}
 use Rattle.law_sealing.proofs.Terms.{received_in, packets_in_hold, accepted_packets, got_since, draws_got, posted_lane}
-use Rattle.law_sealing.proofs.Terms.{meets_counts, unit_packets_ended, CauseLaw, NoForgery, IsPrefixOf, TotalsFit}
+use Rattle.law_sealing.proofs.Terms.{meets_counts, unit_packets_ended, CauseLaw, IsPrefixOf, TotalsFit}
 use Rattle.law_sealing.proofs.Terms.{DrawFacts, StreamsFit, unit_ending, accepted_by, sealed_same}
 use Rattle.law_sealing.proofs.Terms.{sub_stream_packets-snoc, same_stream, is_same-refl, posted-own, posted-more}
 use Rattle.law_sealing.proofs.Terms.{PortName, Event, Accepted, SealedPacket, UnitName, Effect, Packet, unit_that_ends}
-use Rattle.spec_links.specs.Ordered.{NoneMissing, IsPacketAtPlace, BehindPosted, OrderLaw}
-use Rattle.law_delivery.proofs.Closed.{Older, older_first, all_older, got_kept}
+use Rattle.spec_links.specs.Ordered.{NoneMissing, IsPacketAtPlace, BehindPosted}
+use Rattle.law_delivery.specs.NoForgeryUnder.{NoForgeryFrom}
+use Rattle.law_delivery.specs.LocalLaws.{LocalOrderLaw}
+use Rattle.law_delivery.proofs.Closed.{Older, OlderIf, all_map, older_first, all_older, got_kept}
 use Rattle.law_delivery.proofs.Prefixes.{got_begins}
 use Rattle.law_delivery.proofs.Orders.{below_next, from_base, none_above}
 use Rattle.law_sealing.proofs.Sums.{all_at, at_taken, next_taken, sub_stream_packets-append, in_parts, Rises}
@@ -37,22 +39,22 @@ two_begin (x ∷ xs) (y ∷ ys) (z ∷ zs) one two le =
     let rest = two_begin xs ys zs (one.0, left) (two.0, right) (omega (arith, le)) in
     (rest.0, cc (first, rest.1))
 
-sum_begins : (w : Packet → ℕ) (xs ys : List Packet) → IsPrefixOf xs ys → sum_by w xs ≤ sum_by w ys
+pub sum_begins : (w : Packet → ℕ) (xs ys : List Packet) → IsPrefixOf xs ys → sum_by w xs ≤ sum_by w ys
 sum_begins w xs ys begins = let all = ap (sum_by w) (sym begins.1) in omega (arith, all, sum_by-append w xs begins.0)
 
 length_begins : (xs ys : List Packet) → IsPrefixOf xs ys → length xs ≤ length ys
 length_begins xs ys begins = let all = ap length (sym begins.1) in omega (arith, all, length-append xs begins.0)
 
-counted_one : (ps : List Packet) → sum_by (λ (p : Packet). 1) ps ≡ length ps
+pub counted_one : (ps : List Packet) → sum_by (λ (p : Packet). 1) ps ≡ length ps
 counted_one [] = refl
 counted_one (p ∷ ps) = omega (arith, sum_by-cons (λ (p : Packet). 1) p ps, counted_one ps)
 
 -- ---- the posted counts of a sub-stream sum to the posted packets
 
-abbrev weight : ℕ → SubStream → SealedList → ℕ
+abbrev pub weight : ℕ → SubStream → SealedList → ℕ
 weight from s xs = sum_by (λ (x : SealedPacket × Packet). x.1.prefix.posted) (filter (of_since from s) xs)
 
-abbrev number : ℕ → SubStream → SealedList → ℕ
+abbrev pub number : ℕ → SubStream → SealedList → ℕ
 number from s xs = sum_by (λ (x : SealedPacket × Packet). 1) (filter (of_since from s) xs)
 
 sum-snoc : (w : SealedPacket × Packet → ℕ) (p : SealedPacket × Packet → Bool) (xs : SealedList)
@@ -85,7 +87,7 @@ sums_more from s xs x other count before =
       before,
     )
 
-sums : (from : ℕ) (s : SubStream) (xs : SealedList) → sub_bits s.sub ≢ 0 → IsCounted from s xs → (i : ℕ)
+pub sums : (from : ℕ) (s : SubStream) (xs : SealedList) → sub_bits s.sub ≢ 0 → IsCounted from s xs → (i : ℕ)
     → weight from s (take i xs) + posted_since_last (take i xs) s from ≡ number from (posted_lane s) (take i xs)
 unfolding posted_since_last
 sums from s xs other each zero = refl
@@ -116,7 +118,7 @@ taken_begins xs i s k = (
       (λ (ys : SealedList). sub_stream_packets ys s k) (take-append-drop i xs),
 )
 
-below_until : (xs : SealedList) (s : SubStream) (place d n m : ℕ) → Rises xs → IsPacketAtPlace xs s d m place
+pub below_until : (xs : SealedList) (s : SubStream) (place d n m : ℕ) → Rises xs → IsPacketAtPlace xs s d m place
     → n ≤ suc place → AllByRecursion
     (λ (x : SealedPacket × Packet). is_same (sub_stream_of x.0) s ≡ true → x.0.draw < suc d) (take n xs)
 below_until xs s place d n m rises at le =
@@ -128,7 +130,7 @@ below_until xs s place d n m rises at le =
     omega (arith, most, of.1))
 
 -- with its packet there is one more of the sub-stream and draw
-sized : (xs : SealedList) (s : SubStream) (j m place : ℕ) (at : IsPacketAtPlace xs s j m place)
+pub sized : (xs : SealedList) (s : SubStream) (j m place : ℕ) (at : IsPacketAtPlace xs s j m place)
     → length (sub_stream_packets (take (suc place) xs) s j) ≡ suc m
 sized xs s j m place at =
     let more = length-append (sub_stream_packets (take place xs) s j) (at.sealed.1 ∷ []) in
@@ -158,7 +160,7 @@ on_in plan h e port unit effects = rw (is_same-refl (received_in port unit)) ref
 
 -- if a posted packet that was sealed was not got, no more were got than were sealed before it
 posted_counts : (plan : Plan) → StreamsFit plan → DrawFacts plan → (h : History) (s : SubStream) (j n place from : ℕ)
-    → CauseLaw plan h → NoForgery plan h → IsPacketAtPlace (sealed_packets plan h) s j n place
+    → CauseLaw plan h → NoForgeryFrom plan h s from → IsPacketAtPlace (sealed_packets plan h) s j n place
     → AllByRecursion (λ (k : ℕ). k < suc j) (draws_got h s) → length (accepted_packets plan h s j) ≤ n
     → length (got_since plan h s from) ≤ number from s (take place (sealed_packets plan h))
 posted_counts plan fits facts h s j n place from cause forged at draws missing =
@@ -194,7 +196,7 @@ posted_counts plan fits facts h s j n place from cause forged at draws missing =
       | inr differ ↦
           let all = smaller_before xs s place j k at.sealed (facts.rises h cause) at.stands at.under
           (omega (arith, less, differ)) in
-          rw all (sum_begins one _ _ (got_begins plan fits facts h cause forged s k))
+          rw all (sum_begins one _ _ (got_begins plan fits facts h cause s k (forged k up)))
     ]
 
 mono : (w : SealedPacket × Packet → ℕ) (p : SealedPacket × Packet → Bool) (xs : SealedList) (i k : ℕ) → i ≤ k
@@ -245,7 +247,8 @@ module _
     (plan : Plan) (fits : StreamsFit plan) (facts : DrawFacts plan) (h : History) (e : Event) (port : PortName)
     (unit : UnitName) (effects : List Effect)
     (cause : CauseLaw plan ((e, Accepted port unit effects) ∷ h))
-    (forged : NoForgery plan ((e, Accepted port unit effects) ∷ h)) where
+    (forged : NoForgeryFrom plan ((e, Accepted port unit effects) ∷ h) (received_in port unit)
+    (base h port.line unit.stream)) where
   abbrev g : History
   g = (e, Accepted port unit effects) ∷ h
 
@@ -268,7 +271,8 @@ module _
   at_draw m place at none within k up less = elim (cases_eq k unit.draw) [
     | inl same ↦
         let begins = rw (sealed_same plan h e (Accepted port unit effects) refl) at
-        (got_begins plan fits facts g cause forged s unit.draw) in
+        (got_begins plan fits facts g cause s unit.draw
+        (forged unit.draw (from_base plan facts h e port unit effects cause))) in
         let unfinished = sub_stream_packets (take (suc place) xs) s unit.draw in
         let shorter : length unfinished ≤ length (accepted_packets plan g s unit.draw) = omega
         (arith, sized xs s unit.draw m place at, within) in
@@ -298,9 +302,9 @@ module _
       (at_draw m place at none within) in
       omega (arith, sealed, got_total posted plan g s from (suc unit.draw) draws, each)
 
-  behind_posted : TotalsFit plan ((e, Accepted port unit effects) ∷ h)
-      → BehindPosted plan h e (Accepted port unit effects)
-  behind_posted fit m place other if_open within stands j n earlier above before at = elim
+  behind_posted : NoForgeryFrom plan h (posted_lane (received_in port unit)) (base h port.line unit.stream)
+      → TotalsFit plan ((e, Accepted port unit effects) ∷ h) → BehindPosted plan h e (Accepted port unit effects)
+  behind_posted unforged fit m place other if_open within stands j n earlier above before at = elim
       (cases_lt n (length (accepted_packets plan h (posted_lane s) j))) [
         | inl less ↦ less
         | inr missing ↦
@@ -318,7 +322,7 @@ module _
             let draws = none_greater plan h (posted_lane s) from j n earlier above at missing
             (draws_got h (posted_lane s))
             none.posted in
-            let posted = posted_counts plan fits facts h (posted_lane s) j n earlier from cause.1 forged.1 at draws
+            let posted = posted_counts plan fits facts h (posted_lane s) j n earlier from cause.1 unforged at draws
             missing in
             let one = one_more_number from xs (posted_lane s) j n earlier at above in
             let more = mono (λ (x : SealedPacket × Packet). 1) (of_since from (posted_lane s)) xs (suc earlier) place
@@ -326,24 +330,25 @@ module _
             absurd (omega (arith, own, sealed_counts, met, posted, one, more))
       ]
     where
-      older : (t : SubStream) → is_closed plan t.line t.stream ≡ true → AllByRecursion (Older plan h t) (draws_got h t)
-      older t closed = all_older plan fits facts h cause.1 forged.1 fit.1 t closed
+      older : (t : SubStream) → is_closed plan t.line t.stream ≡ true
+          → AllByRecursion (OlderIf plan h t) (draws_got h t)
+      older t closed = all_older plan fits facts h cause.1 fit.1 t closed
 
       none : NoneMissing plan h s unit.draw
       none = elim (cases_Bool (is_closed plan port.line unit.stream)) [
         | inl closed ↦ record {
-          own = older_first plan fits facts h e port unit effects cause forged.0 forged.1 fit.0 closed (older s closed);
-          posted = older (posted_lane s) closed;
+          own = older_first plan fits facts h e port unit effects cause fit.0 closed (older s closed) forged;
+          posted = all_map (OlderIf plan h (posted_lane s)) (Older plan h (posted_lane s)) (draws_got h (posted_lane s))
+              (λ k if_unforged. if_unforged unforged) (older (posted_lane s) closed);
         }
         | inr not_closed ↦ if_open not_closed
       ]
 
-pub order_law : (plan : Plan) → StreamsFit plan → DrawFacts plan → (h : History) → CauseLaw plan h → NoForgery plan h
-    → TotalsFit plan h → OrderLaw plan h
-order_law plan fits facts [] cause forged fit = tt
-order_law plan fits facts ((e, Accepted port unit effects) ∷ h) cause forged fit = (
-  behind_posted plan fits facts h e port unit effects cause forged fit,
-  order_law plan fits facts h cause.1 forged.1
-      fit.1,
+pub order_law : (plan : Plan) → StreamsFit plan → DrawFacts plan → (h : History) → CauseLaw plan h
+    → TotalsFit plan h → LocalOrderLaw plan h
+order_law plan fits facts [] cause fit = tt
+order_law plan fits facts ((e, Accepted port unit effects) ∷ h) cause fit = (
+  λ forged. behind_posted plan fits facts h e port unit effects cause forged.0 (λ j least. (forged.1 j least).1) fit,
+  order_law plan fits facts h cause.1 fit.1,
 )
-order_law plan fits facts (_ ∷ h) cause forged fit = (tt, order_law plan fits facts h cause.1 forged.1 fit.1)
+order_law plan fits facts (_ ∷ h) cause fit = (λ forged. tt, order_law plan fits facts h cause.1 fit.1)

@@ -5,13 +5,15 @@ use Rattle.law_sealing.proofs.Terms.{inl, inr, if◌then◌else◌, ◌==◌, Al
 use Rattle.law_sealing.proofs.Terms.{take-append-le, nil_from_length, Plan, SubStream, is_same, units, units_finished}
 use Rattle.law_sealing.proofs.Terms.{open_unit, History, SealedList, sealed_packets, sent_packets, sub_stream_packets}
 use Rattle.law_sealing.proofs.Terms.{arrived_packet, received_in, is_received_under, packets_in_hold, pending_packets}
-use Rattle.law_sealing.proofs.Terms.{accepted_packets, units_got, due, unit_packets_ended, CauseLaw, NoForgery}
-use Rattle.law_sealing.proofs.Terms.{NotForged, WasSealed, IsPrefixOf, last_tag, same_stream, packets_of_units}
+use Rattle.law_sealing.proofs.Terms.{accepted_packets, units_got, due, unit_packets_ended, CauseLaw}
+use Rattle.law_sealing.proofs.Terms.{WasSealed, IsPrefixOf, last_tag, same_stream, packets_of_units}
 use Rattle.law_sealing.proofs.Terms.{units-append, joined_units, EndsInM, EndsInM-snoc, All-snoc, units_all, units_end}
 use Rattle.law_sealing.proofs.Terms.{unit_at, take_next, below, joined_take, joined-snoc, Came, accepted_by}
 use Rattle.law_sealing.proofs.Terms.{unit_ending, numbered, unit_that_ends, DrawFacts, StreamsFit, PortName, Event}
 use Rattle.law_sealing.proofs.Terms.{Verdict, Accepted, UnitName, Effect, Packet, FitsPacket, packet_without_tag}
+use Rattle.std.proofs.Common.{subst₂}
 use Rattle.law_sealing.proofs.Below.{same_packets}
+use Rattle.law_delivery.specs.NoForgeryUnder.{NotForgedUnder, NoForgeryUnder}
 use Rattle.law_delivery.proofs.Received.{came_fits, held_front, held_fits}
 use Rattle.law_sealing.proofs.Places.{sent_fits}
 use Rattle.law_sealing.proofs.Sums.{sub_stream_packets-append}
@@ -103,12 +105,13 @@ as_sealed plan fits facts h e port unit p cause came ends was =
     (was.same_tag ∙ sym (last_tag-snoc unfinished p))
 
 -- the units that were got of a sub-stream under a draw
-abbrev GotFirst : Plan → History → SubStream → ℕ → Type 0
+abbrev pub GotFirst : Plan → History → SubStream → ℕ → Type 0
 GotFirst plan h s j = AreFirst (accepted_packets plan h s j) (units (sent_packets plan h s j)) (units_got h s j)
 
 one_more : (plan : Plan) → StreamsFit plan → DrawFacts plan → (h : History) (e : Event) (port : PortName)
-    (unit : UnitName) (effects : List Effect) → CauseLaw plan h → NotForged plan h e
-    → Accepted port unit effects ≡ due plan h e → let s = received_in port unit in GotFirst plan h s unit.draw
+    (unit : UnitName) (effects : List Effect) → CauseLaw plan h
+    → NotForgedUnder plan h e (received_in port unit) unit.draw → Accepted port unit effects ≡ due plan h e
+    → let s = received_in port unit in GotFirst plan h s unit.draw
     → AreFirst (accepted_packets plan h s unit.draw ++
     (packets_in_hold plan h s unit.draw unit.unit ++ arrived_packet plan h e ∷ []))
     (units (sent_packets plan h s unit.draw))
@@ -119,8 +122,7 @@ one_more plan fits facts h e port unit effects cause forged is are =
     let us = units (sent_packets plan h s unit.draw) in
     let x = unit_packets_ended plan h port (unit_ending by.packet unit) in
     let was = forged (record { port = port; bytes = by.came.bytes }) (unit_ending by.packet unit) by.came.arrival
-    by.before
-    by.verified in
+    by.before refl refl by.verified in
     let number : was.place ≡ units_got h s unit.draw = omega
     (arith, was.numbered, numbered plan h port by.packet unit by.passed) in
     let stands : slice_get us (units_got h s unit.draw) ≡ Some x =
@@ -128,34 +130,37 @@ one_more plan fits facts h e port unit effects cause forged is are =
     rw (unit_that_ends plan h e port unit by.packet by.came by.passed)
     (AreFirst-next (accepted_packets plan h s unit.draw) us (units_got h s unit.draw) x are stands)
 
-pub all_first : (plan : Plan) → StreamsFit plan → DrawFacts plan → (h : History) → CauseLaw plan h → NoForgery plan h
-    → (s : SubStream) (j : ℕ) → AreFirst (accepted_packets plan h s j) (units (sent_packets plan h s j))
-    (units_got h s j)
+pub all_first : (plan : Plan) → StreamsFit plan → DrawFacts plan → (h : History) → CauseLaw plan h
+    → (s : SubStream) (j : ℕ) → NoForgeryUnder plan h s j → GotFirst plan h s j
 unfolding accepted_packets units_got
-all_first plan fits facts [] cause forged s j = record { within = omega arith; first = refl }
-all_first plan fits facts ((e, Accepted port unit effects) ∷ h) cause forged s j =
-    let here = one_more plan fits facts h e port unit effects cause.1 forged.0 cause.0
-    (all_first plan fits facts h cause.1 forged.1 (received_in port unit) unit.draw) in
-    let before = all_first plan fits facts h cause.1 forged.1 s j in
+all_first plan fits facts [] cause s j forged = record { within = omega arith; first = refl }
+all_first plan fits facts ((e, Accepted port unit effects) ∷ h) cause s j forged =
+    let before = all_first plan fits facts h cause.1 s j forged.1 in
     AreFirst-grown _ (sent_packets plan h s j) (sent_packets plan ((e, Accepted port unit effects) ∷ h) s j) _
     (elim (cases_Bool (is_received_under s j port unit)) [
       | inl is ↦
           let tests = and_parts (is_same (received_in port unit) s) (unit.draw == j) is in
-          rw is (rw (same_stream (received_in port unit) s tests.0, eqb-true unit.draw j tests.1) at here)
+          let stream = same_stream (received_in port unit) s tests.0 in
+          let draw = eqb-true unit.draw j tests.1 in
+          let unforged = subst₂ (NotForgedUnder plan h e) (sym stream) (sym draw) forged.0 in
+          let here = one_more plan fits facts h e port unit effects cause.1 unforged cause.0
+          (subst₂ (GotFirst plan h) (sym stream) (sym draw) before) in
+          rw is (rw (stream, draw) at here)
       | inr other ↦ rw other before
     ]) (sent_grows plan h e (Accepted port unit effects) s j)
-all_first plan fits facts ((e, w) ∷ h) cause forged s j =
+all_first plan fits facts ((e, w) ∷ h) cause s j forged =
     AreFirst-grown (accepted_packets plan h s j) (sent_packets plan h s j) (sent_packets plan ((e, w) ∷ h) s j)
     (units_got h s j)
-    (all_first plan fits facts h cause.1 forged.1 s j) (sent_grows plan h e w s j)
+    (all_first plan fits facts h cause.1 s j forged.1) (sent_grows plan h e w s j)
 
-pub got_begins : (plan : Plan) → StreamsFit plan → DrawFacts plan → (h : History) → CauseLaw plan h → NoForgery plan h
-    → (s : SubStream) (j : ℕ) → IsPrefixOf (accepted_packets plan h s j) (sent_packets plan h s j)
-got_begins plan fits facts h cause forged s j =
+pub got_begins : (plan : Plan) → StreamsFit plan → DrawFacts plan → (h : History) → CauseLaw plan h
+    → (s : SubStream) (j : ℕ) → NoForgeryUnder plan h s j
+    → IsPrefixOf (accepted_packets plan h s j) (sent_packets plan h s j)
+got_begins plan fits facts h cause s j forged =
     let n = units_got h s j in
     let us = units (sent_packets plan h s j) in
     let left = open_unit (sent_packets plan h s j) in
-    let are = all_first plan fits facts h cause forged s j in (
+    let are = all_first plan fits facts h cause s j forged in (
       packets_of_units (drop n us) ++ left,
       rw (are.first, ← append_assoc, joined_take) (joined_units (sent_packets plan h s j)),
     )

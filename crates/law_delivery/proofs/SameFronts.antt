@@ -108,14 +108,15 @@ fronted plan fits facts ((e, w) ∷ h) law place x at m = let before = fronted p
 
 -- ---- of what arrives in order
 
-no_front : (plan : Plan) (h : History) (s : SubStream) (j n : ℕ) → (is_closed plan s.line s.stream && (n == 1)) ≡ false
+pub no_front : (plan : Plan) (h : History) (s : SubStream) (j n : ℕ) → (is_closed plan s.line s.stream && (n == 1))
+    ≡ false
     → ahead_sent plan h s j n ≡ []
 unfolding ahead_sent ahead_of_unit
 no_front plan [] s j n off = refl
 no_front plan ((e, Sealed ds) ∷ h) s j n off = grind (arith, no_front plan h s j n off, off)
 no_front plan (_ ∷ h) s j n off = no_front plan h s j n off
 
-due_off : (plan : Plan) (h : History) (s : SubStream) (n : ℕ) → (is_closed plan s.line s.stream && (n == 1)) ≡ false
+pub due_off : (plan : Plan) (h : History) (s : SubStream) (n : ℕ) → (is_closed plan s.line s.stream && (n == 1)) ≡ false
     → ahead_due plan h s n ≡ []
 unfolding ahead_of_unit
 due_off plan h s n off = rw off refl

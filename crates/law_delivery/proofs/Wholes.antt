@@ -22,7 +22,7 @@ use Rattle.law_delivery.proofs.GotUnits.{AreGotSoFar, stands_after}
 
 -- ---- the tag
 
-tag_is : (plan : Plan) (ahead bytes : List ℕ) (d : SealedPacket) (unfinished : List Packet) → d.m ≡ true
+pub tag_is : (plan : Plan) (ahead bytes : List ℕ) (d : SealedPacket) (unfinished : List Packet) → d.m ≡ true
     → (packet_of plan ahead bytes d unfinished).tag ≡ tag_of (key_of plan d.draw (sub_stream_of d)) (iv_of d.sub d.unit)
     (ahead ++ authenticated_bytes (unfinished ++ packet_of plan ahead bytes d unfinished ∷ []))
     (encrypted_bytes (unfinished ++ packet_of plan ahead bytes d unfinished ∷ []))
@@ -31,7 +31,7 @@ tag_is plan ahead bytes d unfinished m = rw (m, flat_map-append, flat_map-append
 
 -- ---- the verdict
 
-due_arrives : (plan : Plan) (h : History) (e : Event) (a : ArrivedBytes) → arrival_of_event plan h e ≡ Some a
+pub due_arrives : (plan : Plan) (h : History) (e : Event) (a : ArrivedBytes) → arrival_of_event plan h e ≡ Some a
     → due plan h e ≡ ending_due plan h a.port (before_tag plan h a)
 unfolding due arrival_of_event
 due_arrives plan h (Pass n) a is = ap (arrival_due plan h) is

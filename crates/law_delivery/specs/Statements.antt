@@ -3,18 +3,7 @@ use Rattle.ide_types.specs.declared.plan.Plan.{Plan}
 use Rattle.ide_types.specs.Fits.{FitsPlan}
 use Rattle.spec_keys.specs.History.{History}
 use Rattle.spec_links.specs.Cause.{CauseLaw}
-use Rattle.spec_links.specs.Laws.{NoForgery, TotalsFit, PrefixLaw, DrawsNeverFall, WholeLaw, OrderIsNoForgery}
-use Rattle.spec_links.specs.Delivered.{DeliveryLaw}
-use Rattle.spec_links.specs.Ordered.{OrderLaw}
-
-abbrev pub PrefixLawHolds : Type 0
-PrefixLawHolds =
-    (plan : Plan) → FitsPlan plan → (h : History) → CauseLaw plan h → NoForgery plan h → TotalsFit plan h
-    → PrefixLaw plan h
-
-abbrev pub DeliveryLawHolds : Type 0
-DeliveryLawHolds =
-    (plan : Plan) → FitsPlan plan → (h : History) → CauseLaw plan h → NoForgery plan h → DeliveryLaw plan h
+use Rattle.spec_links.specs.Laws.{DrawsNeverFall, WholeLaw, OrderIsNoForgery}
 
 abbrev pub WholeLawHolds : Type 0
 WholeLawHolds = (plan : Plan) → FitsPlan plan → (h : History) → CauseLaw plan h → WholeLaw plan h
@@ -24,8 +13,3 @@ OrderIsNoForgeryHolds = (plan : Plan) → FitsPlan plan → (h : History) → Ca
 
 abbrev pub DrawsNeverFallHolds : Type 0
 DrawsNeverFallHolds = (plan : Plan) → (h : History) → CauseLaw plan h → DrawsNeverFall h
-
-abbrev pub OrderLawHolds : Type 0
-OrderLawHolds =
-    (plan : Plan) → FitsPlan plan → (h : History) → CauseLaw plan h → NoForgery plan h → TotalsFit plan h
-    → OrderLaw plan h

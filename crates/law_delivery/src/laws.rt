@@ -1,21 +1,38 @@
 //! Laws of what is delivered, of the order between sub-streams, and of posted counts.
 
+ghost use Rattle.law_delivery.specs.LocalLaws.{LocalDeliveryLawHolds, LocalOrderLawHolds, LocalPrefixLawHolds};
+ghost use Rattle.law_delivery.specs.LocalLaws.{NoForgeryIsOfEach};
 ghost use Rattle.law_delivery.specs.PostedCounts.{CountLawHolds};
-ghost use Rattle.law_delivery.specs.Statements.{DeliveryLawHolds, DrawsNeverFallHolds, OrderIsNoForgeryHolds};
-ghost use Rattle.law_delivery.specs.Statements.{OrderLawHolds, PrefixLawHolds, WholeLawHolds};
+ghost use Rattle.law_delivery.specs.Statements.{DrawsNeverFallHolds, OrderIsNoForgeryHolds, WholeLawHolds};
 
-/// In every history in which each verdict is the one that is due and the totals fit in 8 bytes: provided no tag
-/// verified on a unit that its partner had not sealed, each sub-stream got, key by key, a prefix of what was sealed,
-/// the draws of its accepted units never fall, and on a closed stream nothing of a newer key was accepted before all of
-/// the older ones since the stream was last established.
-pub fn prefix_law()
-    ensures { PrefixLawHolds }
+/// No tag verified on a unit that its partner had not sealed exactly if none did of any sub-stream under any draw; and
+/// a tag that is looked at is of one sub-stream and draw: if it is forged, nothing is lost of any other.
+pub fn no_forgery_is_of_each()
+    ensures { NoForgeryIsOfEach }
 {}
 
-/// In every history in which each verdict is the one that is due: provided no tag verified on a unit that its partner
-/// had not sealed, each sub-stream delivered, key by key, a prefix of the TLPs that were sent in it.
+/// In every history in which each verdict is the one that is due and the totals fit in 8 bytes: each sub-stream got
+/// under each draw a prefix of what was sealed, provided no tag of this sub-stream under this draw verified on a unit
+/// that its partner had not sealed, whatever verified of others; and on a closed stream a unit was accepted after all
+/// that was sealed under smaller draws since the stream was last established, provided no tag of its sub-stream, under
+/// a draw since then, verified on such a unit.
+pub fn prefix_law()
+    ensures { LocalPrefixLawHolds }
+{}
+
+/// In every history in which each verdict is the one that is due, each sub-stream delivered under each draw a prefix of
+/// the TLPs that were sent in it, provided no tag of this sub-stream under this draw verified on a unit that its
+/// partner had not sealed.
 pub fn delivery_law()
-    ensures { DeliveryLawHolds }
+    ensures { LocalDeliveryLawHolds }
+{}
+
+/// In every history in which each verdict is the one that is due and the totals fit in 8 bytes: a non-posted packet or
+/// a completion is accepted after the posted packets that were sealed before it since the stream was last established:
+/// on a closed stream always, on an open one if nothing of an overtaken key is missing; provided no tag of its
+/// sub-stream and of the posted one, under a draw since then, verified on a unit that its partner had not sealed.
+pub fn order_law()
+    ensures { LocalOrderLawHolds }
 {}
 
 /// In every history in which each verdict is the one that is due, each packet that arrives unchanged and in order is
@@ -35,14 +52,6 @@ pub fn order_is_no_forgery()
 /// sub-stream never fall.
 pub fn draws_never_fall()
     ensures { DrawsNeverFallHolds }
-{}
-
-/// In every history in which each verdict is the one that is due and the totals fit in 8 bytes, and in which no tag
-/// verified on a unit that its partner had not sealed: non-posted packets and completions are accepted after the posted
-/// packets that were sealed before them since the stream was last established: on a closed stream always, on an open
-/// one if nothing of an overtaken key is missing.
-pub fn order_law()
-    ensures { OrderLawHolds }
 {}
 
 /// Since the stream was last established, the sums of posted counts never pass the posted packets that were got, in

@@ -1,7 +1,7 @@
 -- What was accepted in a sub-stream under a draw is, TLP by TLP with T, a prefix of what was sealed in it: by bytes
 -- that is the law of deliveries, and T is in the packets, of which those that were got are a prefix of those that were
 -- sealed.
-use Rattle.law_sealing.proofs.Terms.{◌≡◌, ℕ, ◌+◌, ◌==◌, Bool, true, false, List, [], ◌∷◌, ◌++◌, length, Ok, refl, ap}
+use Rattle.law_sealing.proofs.Terms.{◌≡◌, ℕ, ◌==◌, Bool, true, false, List, [], ◌∷◌, ◌++◌, length, Ok, refl, ap}
 use Rattle.law_sealing.proofs.Terms.{sym, ◌∙◌, arith, inl, inr, if◌then◌else◌, cases_Bool, AllByRecursion, map, filter}
 use Rattle.law_sealing.proofs.Terms.{drop, take, append-nil, append_assoc, eqb-true, map-append, and_parts, Plan}
 use Rattle.law_sealing.proofs.Terms.{History, base, Sealed, Accepted, PortName, SealedPacket, SubKind, SubStream}
@@ -129,7 +129,7 @@ flags_got plan ((e, Accepted port unit effects) ∷ h) s j =
 flags_got plan (_ ∷ h) s j = flags_got plan h s j
 
 -- a packet that is sealed is a sync packet as its verdict says
-sync_same : (p : Packet) (payload bytes : List ℕ) (sync : Bool)
+pub sync_same : (p : Packet) (payload bytes : List ℕ) (sync : Bool)
     → tlp_with p payload ≡ (if sync then [] else bytes ∷ []) → is_sync_packet p ≡ sync
 sync_same p payload bytes sync is = by (is_sync_packet p) sync is
   where

@@ -1,6 +1,6 @@
 -- Across a segment that had one draw since its link's last reset: what was accepted since then is, in each sub-stream,
 -- a prefix of what was sealed since then. All of it came under that draw, and nothing before the reset did.
-use Rattle.law_sealing.proofs.Terms.{◌≡◌, ℕ, ◌<◌, ◌≤◌, ◌+◌, ◌==◌, ◌&&◌, Bool, true, false, List, [], ◌∷◌, ◌++◌, refl}
+use Rattle.law_sealing.proofs.Terms.{◌≡◌, ℕ, ◌<◌, ◌≤◌, ◌==◌, ◌&&◌, Bool, true, false, List, [], ◌∷◌, ◌++◌, refl}
 use Rattle.law_sealing.proofs.Terms.{ap, sym, subst, ◌∙◌, arith, nat_tests, inl, inr, if◌then◌else◌, cases_Bool}
 use Rattle.law_sealing.proofs.Terms.{AllByRecursion, map, filter, not, append-nil, eqb-true, and_parts, filter-append}
 use Rattle.law_sealing.proofs.Terms.{is_some, Plan, History, Event, Verdict, Sealed, Accepted, Held, PortName, UnitName}
@@ -86,7 +86,7 @@ with_sub u plain (p ∷ ps) all = let later = with_sub u _ ps all.1 in elim (cas
 ]
 
 -- the whole list, or nothing of it
-in_own : (u w : SubKind) (xs : List HopTlp) → InSub u xs → in_sub w xs ≡ (if is_same_sub u w then xs else [])
+pub in_own : (u w : SubKind) (xs : List HopTlp) → InSub u xs → in_sub w xs ≡ (if is_same_sub u w then xs else [])
 in_own u w [] all = grind arith
 in_own u w (x ∷ xs) all = let later = in_own u w xs all.1 in
     let here : is_same_sub x.sub w ≡ is_same_sub u w = ap (λ (z : SubKind). is_same_sub z w) all.0 in
@@ -104,20 +104,27 @@ got_below plan h e port unit effects cause =
     on_begun h port (receiving_sub_stream port by.packet) by.packet.prefix.k unit.draw
     (on_there plan h e port unit effects by)
 
-none_got : (plan : Plan) (h : History) → CauseLaw plan h → (s : SubStream) (j : ℕ) → draws h ≤ j
+-- so nothing comes under it at this unit
+pub none_more : (plan : Plan) (h : History) (e : Event) (port : PortName) (unit : UnitName) (effects : List Effect)
+    → CauseLaw plan ((e, Accepted port unit effects) ∷ h) → (s : SubStream) (j : ℕ) → draws h ≤ j
+    → hop_got plan h s j ≡ [] → hop_got plan ((e, Accepted port unit effects) ∷ h) s j ≡ []
+unfolding hop_got
+none_more plan h e port unit effects cause s j up before = elim (cases_Bool (is_received_under s j port unit)) [
+  | inl is ↦ absurd
+      (let tests = and_parts (is_same (received_in port unit) s) (unit.draw == j) is in
+      let draw = eqb-true unit.draw j tests.1 in
+      let less = got_below plan h e port unit effects cause in
+      omega (arith, draw, less, up))
+  | inr other ↦ rw other before
+]
+
+pub none_got : (plan : Plan) (h : History) → CauseLaw plan h → (s : SubStream) (j : ℕ) → draws h ≤ j
     → hop_got plan h s j ≡ []
 unfolding hop_got
 none_got plan [] cause s j up = refl
 none_got plan ((e, Accepted port unit effects) ∷ h) cause s j up =
-    let before = none_got plan h cause.1 s j (omega (arith, up, draws_grow h e (Accepted port unit effects))) in
-    elim (cases_Bool (is_received_under s j port unit)) [
-      | inl is ↦ absurd
-          (let tests = and_parts (is_same (received_in port unit) s) (unit.draw == j) is in
-          let draw = eqb-true unit.draw j tests.1 in
-          let less = got_below plan h e port unit effects cause in
-          omega (arith, draw, less, up, draws_grow h e (Accepted port unit effects)))
-      | inr other ↦ rw other before
-    ]
+    let below : draws h ≤ j = omega (arith, up, draws_grow h e (Accepted port unit effects)) in
+    none_more plan h e port unit effects cause s j below (none_got plan h cause.1 s j below)
 none_got plan ((e, w) ∷ h) cause s j up = none_got plan h cause.1 s j (omega (arith, up, draws_grow h e w))
 
 carried_none : (s : SubStream) (j : ℕ) (ds : List SealedPacket)
@@ -135,53 +142,70 @@ lives_below plan h port stream j (d ∷ ds) up all =
     let less = live_below plan h port stream d all.0 in
     (grind (arith, nat_tests, less, up), lives_below plan h port stream j ds up all.1)
 
-none_sealed : (plan : Plan) (h : History) → CauseLaw plan h → (s : SubStream) (j : ℕ) → draws h ≤ j
+pub none_sent_more : (plan : Plan) (h : History) (e : Event) (ds : List SealedPacket)
+    → CauseLaw plan ((e, Sealed ds) ∷ h) → (s : SubStream) (j : ℕ) → draws h ≤ j → hop_sent plan h s j ≡ []
+    → hop_sent plan ((e, Sealed ds) ∷ h) s j ≡ []
+unfolding hop_sent
+none_sent_more plan h e ds cause s j below before =
+    let is = sealing_is plan h e ds cause.0 in
+    let none = carried_none s j ds (lives_below plan h is.sending.port is.sending.stream j ds below
+    (all_live plan h (sending_port plan e) (sent_bytes plan h e) ds is)) in
+    (λ i. before i ++ map (sealed_tlp (sent_bytes plan h e)) (none i))
+
+pub none_sealed : (plan : Plan) (h : History) → CauseLaw plan h → (s : SubStream) (j : ℕ) → draws h ≤ j
     → hop_sent plan h s j ≡ []
 unfolding hop_sent
 none_sealed plan [] cause s j up = refl
 none_sealed plan ((e, Sealed ds) ∷ h) cause s j up =
     let below : draws h ≤ j = omega (arith, up, draws_grow h e (Sealed ds)) in
-    let before = none_sealed plan h cause.1 s j below in
-    let is = sealing_is plan h e ds cause.0 in
-    let none = carried_none s j ds (lives_below plan h is.sending.port is.sending.stream j ds below
-    (all_live plan h (sending_port plan e) (sent_bytes plan h e) ds is)) in
-    (λ i. before i ++ map (sealed_tlp (sent_bytes plan h e)) (none i))
+    none_sent_more plan h e ds cause s j below (none_sealed plan h cause.1 s j below)
 none_sealed plan ((e, w) ∷ h) cause s j up = none_sealed plan h cause.1 s j (omega (arith, up, draws_grow h e w))
 
 -- ---- what was accepted since then
 
 -- whether a unit at a port is of a sub-stream that the receiver gets
-of_lane : (port q : PortName) (unit : UnitName) (stream : ℕ) (u : SubKind) (j : ℕ)
+pub of_lane : (port q : PortName) (unit : UnitName) (stream : ℕ) (u : SubKind) (j : ℕ)
     → is_received_under (lane_in q stream u) j port unit
     ≡ (is_same_port port q && (unit.stream == stream) && is_same_sub unit.sub u && (unit.draw == j))
 of_lane port q unit stream u j = let sides = same_in port.side q.side in grind (arith, sides)
 
 -- a reset of the link's hop
-abbrev clears : Verdict → Event → ℕ → Bool
+abbrev pub clears : Verdict → Event → ℕ → Bool
 clears (v.Reset l) (Reset k ends) link = clears_hop ends link
 clears w e link = false
 
-only_older : (h : History) (e : Event) (w : Verdict) (link line j : ℕ) → clears w e link ≡ false
-    → OnlyDraw ((e, w) ∷ h) link line j → OnlyDraw h link line j
-unfolding draws_since mark
-only_older h (Establish l s loss) w link line j stays at = record {
-  only = by ((l == line) && begins_keyed (op_of h l s) (draws h) w) at.only;
-  up = at.up;
-}
+-- else what is said of each draw since then was said of each before the pair
+pub older_since : (P : ℕ → Type 0) (h : History) (e : Event) (w : Verdict) (link line : ℕ) → clears w e link ≡ false
+    → AllByRecursion P (draws_since ((e, w) ∷ h) link line) → AllByRecursion P (draws_since h link line)
+unfolding draws_since
+older_since P h (Establish l s loss) w link line stays all =
+    by ((l == line) && begins_keyed (op_of h l s) (draws h) w) all
   where
-    by : (b : Bool) → AllByRecursion (λ (i : ℕ). i ≡ j) (if b then draws h ∷ draws_since h link line
-        else draws_since h link line) → AllByRecursion (λ (i : ℕ). i ≡ j) (draws_since h link line)
+    by : (b : Bool) → AllByRecursion P (if b then draws h ∷ draws_since h link line else draws_since h link line)
+        → AllByRecursion P (draws_since h link line)
     by true all = all.1
     by false all = all
-only_older h (Reset k ends) (v.Reset l) link line j stays at =
-    record { only = rw stays at at.only; up = rw stays at at.up }
-only_older h e w link line j stays at = record { only = at.only; up = at.up }
+older_since P h (Reset k ends) (v.Reset l) link line stays all = rw stays at all
+older_since P h e w link line stays all = all
+
+pub mark_older : (h : History) (e : Event) (w : Verdict) (link : ℕ) → clears w e link ≡ false
+    → mark ((e, w) ∷ h) link ≡ mark h link
+unfolding mark
+mark_older h (Reset k ends) (v.Reset l) link stays = rw stays refl
+mark_older h e w link stays = refl
+
+pub only_older : (h : History) (e : Event) (w : Verdict) (link line j : ℕ) → clears w e link ≡ false
+    → OnlyDraw ((e, w) ∷ h) link line j → OnlyDraw h link line j
+only_older h e w link line j stays at = record {
+  only = older_since (λ (i : ℕ). i ≡ j) h e w link line stays at.only;
+  up = subst (λ (m : ℕ). m ≤ j) (mark_older h e w link stays) at.up;
+}
 
 more_if : (b : Bool) (xs ys : List HopTlp) → xs ++ (if b then ys else []) ≡ (if b then xs ++ ys else xs)
 more_if true xs ys = refl
 more_if false xs ys = append-nil xs
 
-in_sub-append : (u : SubKind) (xs ys : List HopTlp) → in_sub u (xs ++ ys) ≡ in_sub u xs ++ in_sub u ys
+pub in_sub-append : (u : SubKind) (xs ys : List HopTlp) → in_sub u (xs ++ ys) ≡ in_sub u xs ++ in_sub u ys
 in_sub-append u xs ys = filter-append (λ (x : HopTlp). is_same_sub x.sub u) xs ys
 
 -- a unit at the end is of the stream and under the draw

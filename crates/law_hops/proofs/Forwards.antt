@@ -1,7 +1,7 @@
 -- A hop seals what it accepted: by induction on the history. A forward seals the first TLP that waits, no other event
 -- seals at a switch, an accepted unit adds TLPs at the end, and a reset clears both lists.
 use Rattle.law_sealing.proofs.Terms.{◌≡◌, ℕ, suc, ◌<◌, ◌≤◌, ◌+◌, ◌==◌, ◌&&◌, Bool, true, false, List, [], ◌∷◌, ◌++◌}
-use Rattle.law_sealing.proofs.Terms.{length, drop, take, map, filter, slice_get, Option, Some, Ok, refl, ap, sym, None}
+use Rattle.law_sealing.proofs.Terms.{length, drop, take, map, filter, slice_get, Option, Some, Ok, refl, ap, sym}
 use Rattle.law_sealing.proofs.Terms.{◌∙◌, arith, nat_tests, if◌then◌else◌, append-nil, not}
 use Rattle.law_sealing.proofs.Terms.{take-append-le, take-append-drop, length-append, unwrap_or, AllByRecursion}
 use Rattle.law_sealing.proofs.Terms.{Plan, History, Event, Send, Verdict, Sealed, Accepted, PortName, SealedPacket}
@@ -212,7 +212,7 @@ hop_end_apart : (plan : Plan) (side : Side) (link : ℕ) → link < 8 → at_swi
 hop_end_apart plan Host link less = grind (arith, nat_tests)
 hop_end_apart plan Device link less = grind (arith, nat_tests)
 
-send_apart : (plan : Plan) → FitsPlan plan → (port : PortName) (bytes : List ℕ) → at_switch plan port ≡ false
+pub send_apart : (plan : Plan) → FitsPlan plan → (port : PortName) (bytes : List ℕ) → at_switch plan port ≡ false
     → at_switch plan (sealing_end plan port bytes) ≡ false
 unfolding sealing_end
 send_apart plan fits port bytes own = by (goes_to_hop plan port bytes) refl

@@ -5,5 +5,4 @@ pub mod Carried
 pub mod Crossing
 pub mod Crosses
 pub mod Sends
-pub mod Through
 pub use Rattle.law_delivery.proofs.Received.{came_fits, held_fits}

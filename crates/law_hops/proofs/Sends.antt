@@ -1,6 +1,6 @@
 -- A forward is a send of the first TLP that waits, on the hop's stream.
-use Rattle.law_sealing.proofs.Terms.{◌≡◌, ℕ, ◌<◌, ◌+◌, false, List, [], ◌∷◌, length, slice_get, Bool, Option}
-use Rattle.law_sealing.proofs.Terms.{Some, Ok, ap, ◌∙◌, arith, nat_tests, if◌then◌else◌, is_some, and_parts}
+use Rattle.law_sealing.proofs.Terms.{◌≡◌, ℕ, ◌<◌, ◌+◌, false, List, [], ◌∷◌, length, slice_get}
+use Rattle.law_sealing.proofs.Terms.{Some, Ok, ap, ◌∙◌, arith, nat_tests, is_some, and_parts}
 use Rattle.law_sealing.proofs.Terms.{Plan, Tlp, read_of, sealed_packets, lanes_at, streams_of}
 unfoldable use Rattle.law_sealing.proofs.Terms.{due}
 use Rattle.ide_types.specs.Lines.{is_link_line}
@@ -22,7 +22,7 @@ use Rattle.law_hops.specs.Sends.{ForwardSends}
 use Rattle.law_hops.proofs.TlpsRead.{taken_read, read_at}
 use Rattle.law_hops.proofs.Forwards.{own_t}
 
-lone_takes : (id : ℕ) (side : Side) (bytes : List ℕ) (t : Tlp) → read_of bytes ≡ Ok t
+pub lone_takes : (id : ℕ) (side : Side) (bytes : List ℕ) (t : Tlp) → read_of bytes ≡ Ok t
     → outgoing_of (lone_stream id 1 ∷ []) side bytes ≡ OnStream t id
 unfolding outgoing_of choice_of
 lone_takes id side bytes t reads = ap (outgoing_as_read (lone_stream id 1 ∷ []) side) reads

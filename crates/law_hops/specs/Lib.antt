@@ -1,5 +1,5 @@
-pub mod Statements
 pub mod Sends
+pub mod LocalLaws
 -- what clauses and crates above cite
-pub use Rattle.law_hops.specs.Statements.{HopLawHolds, ThroughLawHolds}
+pub use Rattle.law_hops.specs.LocalLaws.{LocalHopLawHolds}
 pub use Rattle.law_hops.specs.Sends.{ForwardSends}

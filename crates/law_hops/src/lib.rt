@@ -3,4 +3,4 @@
 
 mod laws;
 
-pub use laws::{forward_sends, hop_law, through_law};
+pub use laws::{forward_sends, hop_law};

@@ -689,3 +689,14 @@ ended plan h law q stream u k j i at x on stands under up less = by_line (is_hos
         (let most = alone_below (key_plan plan) h (key_cause plan h law) q.line stream (no_link q.line paired) j
         (owner q.line stream k) (on_is_owned h q (lane_in q stream u) k j on) refl refl in
         omega (arith, most, up, less))
+
+-- on a stream that no stop or reset has left idle, a unit is open of the Live draw alone
+pub open_is_live : (plan : Plan) (h : History) → CauseLaw plan h → (port : PortName) (stream : ℕ) (u : SubKind) (i : ℕ)
+    → base h port.line stream ≤ i → stops (op_of h port.line stream) ≡ false
+    → let s = lane_out port stream u in
+    (open_unit (sent_packets plan h s i) ≡ []) ⊎ (sender_draw (port_keys h port s) ≡ Some i)
+open_is_live plan h law port stream u i up goes_on = elim (opens_at plan h law port stream u i up) [
+  | inl none ↦ inl none
+  | inr (inl live) ↦ inr live
+  | inr (inr x) ↦ absurd (let stopping = x.stopping in cc (stopping, goes_on))
+]

@@ -44,12 +44,12 @@ stop_settles plan h line stream loss l t cause p on_link on_id set =
 
 -- ---- a refresh
 
-refreshed_op : (line : ℕ) (q : StreamStage) (next : ℕ)
+pub refreshed_op : (line : ℕ) (q : StreamStage) (next : ℕ)
     → op_after_reach (is_hosted line) (work_of op.Refresh q next) (whole line op.Refresh)
     ≡ Up (work_of op.Refresh q next).set (work_of op.Refresh q next).draw
 refreshed_op line q next = grind arith
 
-refreshed_as : (has : Bool) (plan : KeyPlan) (q : StreamStage) (next : ℕ) (ports : PortView) (host : StreamStatus)
+pub refreshed_as : (has : Bool) (plan : KeyPlan) (q : StreamStage) (next : ℕ) (ports : PortView) (host : StreamStatus)
     (line stream : ℕ) (x : Verdict) (l t j : ℕ)
     → (x ≡ finished_verdict line stream (work_of op.Refresh q next)) ⊎ (is_cut x ≡ true) → v.Refreshed l t j
     ≡ (if has then may_refresh plan line next q host (unless_open ports line stream (work_of op.Refresh q next).set) x

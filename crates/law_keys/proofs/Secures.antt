@@ -1,48 +1,76 @@
 -- No move of a refresh takes a port out of Secure.
 use Rattle.spec_keys.specs.Due.{has_refresh}
-use Rattle.law_keys.proofs.Terms.{◌≡◌, ℕ, Bool, true, false, Option, Some, None, [], ◌∷◌, refl, ap, ◌∙◌, arith, ◌&&◌}
-use Rattle.law_keys.proofs.Terms.{◌||◌, if◌then◌else◌, Host, Event, Loss, StreamStatus, Verdict, KeyPlan, KeyPlace}
-use Rattle.law_keys.proofs.Terms.{key_place_at, places_of, is_on_stream, keys, StreamStage, Reach, work_of, reach_of}
-use Rattle.law_keys.proofs.Terms.{op_after_reach, manager_after_operation, History, manager, op_of, draws, work_touches}
-use Rattle.law_keys.proofs.Terms.{on_it, touches_after, moments, place_keys, keeps_live, has_key, has_all, is_hosted}
+use Rattle.spec_keys.specs.Keys.{Program}
+use Rattle.spec_keys.specs.History.{touches_if}
+use Rattle.spec_keys.specs.Laws.{touches_by, keys_within}
+use Rattle.law_keys.proofs.Terms.{◌≡◌, ℕ, Bool, true, false, Option, Some, None, List, [], ◌∷◌, ap, ◌∙◌, arith}
+use Rattle.law_keys.proofs.Terms.{nat_tests, ◌||◌, ◌&&◌, if◌then◌else◌, Host, Event, Loss, StreamStatus, Verdict}
+use Rattle.law_keys.proofs.Terms.{KeyPlan, KeyPlace, key_place_at, places_of, is_on_stream, keys, is_open, Keys, Touch}
+use Rattle.law_keys.proofs.Terms.{Go, keys_after_touch, without_outlived, StreamStage, Idle, Establishing, Up}
+use Rattle.law_keys.proofs.Terms.{Refreshing, Stopping, Reach, work_of, reach_of, History, op_of, draws}
+use Rattle.law_keys.proofs.Terms.{work_touches, on_it, touches_after, moments, place_keys, keeps_live, has_key, has_all}
 use Rattle.law_keys.proofs.Terms.{fails_there, failed_there, keyed_status, history_status, PortView, ports_at}
 use Rattle.law_keys.proofs.Terms.{refresh_on, key_due, KeyCauseLaw, StaysSecure, StaysSecureAtEvent, finished_verdict}
 use Rattle.law_keys.proofs.Terms.{is_cut, performed_is, may_refresh, unless_open, ◌⊎◌}
+use Rattle.std.proofs.Common.{◌++◌, All}
+use Rattle.std.proofs.lemmas.List.Elements.{All-head, All-tail, All-take, All-nil}
 use Rattle.std.specs.List.{list_all}
 use Rattle.spec_keys.proofs.Terms.{Side, SubKind}
 use Rattle.script_events.specs.declared.event.Event.TheVariants as event
 use Rattle.event_verdicts.specs.declared.verdict.Operation.TheVariants as op
 use Rattle.ide_types.specs.declared.status.StreamStatus.TheVariants as status
 use Rattle.event_verdicts.specs.declared.verdict.Verdict.TheVariants as v
-use Rattle.law_keys.proofs.States.{is_up, keyed_up}
-use Rattle.law_keys.proofs.Ends.{on_same}
 
--- ---- a stream that is being refreshed has a key in each place
+-- ---- a KEY_PROG and a GO leave a place that has a Live key with one, whatever happened there before
 
-refreshed_up : (hosted : Bool) (q : StreamStage) (next : ℕ) (r : Reach)
-    → is_up (op_after_reach hosted (work_of op.Refresh q next) r) ≡ true
-refreshed_up hosted q next r = grind arith
+abbrev gives_key : Touch → Bool
+gives_key (Program set j) = true
+gives_key (Go set j) = true
+gives_key t = false
 
-place_keyed : (plan : KeyPlan) (h : History) (line stream : ℕ) (loss : Option Loss) (x : Verdict)
-    → KeyCauseLaw plan ((event.Refresh line stream loss, x) ∷ h)
-    → (p : KeyPlace) → (p.line ≡ line) × (p.stream ≡ stream) → keeps_live (place_keys h p) ≡ true
-    → keeps_live (place_keys ((event.Refresh line stream loss, x) ∷ h) p) ≡ true
-unfolding manager moments
-place_keyed plan h line stream loss x cause p same keyed = by_reach (reach_of op.Refresh x)
-    (keyed_up plan ((event.Refresh line stream loss, x) ∷ h) cause p)
-  where
-    by_reach : (r : Option Reach) →
-        (is_up ((manager_after_operation (manager h) op.Refresh line stream r).ops p.line p.stream) ≡ true
-        → keeps_live (keys p.sends (touches_after (moments h p)
-        (on_it (is_on_stream p line stream) (work_touches (work_of op.Refresh (op_of h line stream) (draws h)) r p))))
-        ≡ true)
-        → keeps_live (keys p.sends
-        (touches_after (moments h p)
-        (on_it (is_on_stream p line stream) (work_touches (work_of op.Refresh (op_of h line stream) (draws h)) r p))))
-        ≡ true
-    by_reach None up = rw (on_same p line stream same) keyed
-    by_reach (Some r) up = up
-        (rw (on_same p line stream same) (refreshed_up (is_hosted line) (op_of h line stream) (draws h) r))
+abbrev GivesKey : Touch → Type 0
+GivesKey t = gives_key t ≡ true
+
+touched_live : (sends : Bool) (ks : Keys) (t : Touch) → gives_key t ≡ true → keeps_live ks ≡ true
+    → keeps_live (keys_after_touch sends ks t) ≡ true
+touched_live sends ks t gives live = grind (arith, nat_tests)
+
+outlived_live : (sends : Bool) (open_is : ℕ → Bool) (ks : Keys) → keeps_live ks ≡ true
+    → keeps_live (without_outlived sends open_is ks) ≡ true
+outlived_live sends open_is ks live = grind (arith, nat_tests)
+
+stays_live : (sends : Bool) (ts more : List Touch) → All GivesKey more
+    → keeps_live (keys sends ts) ≡ true → keeps_live (keys sends (touches_after ts more)) ≡ true
+unfolding keys
+stays_live sends ts [] all live = live
+stays_live sends ts (t ∷ more) all live = stays_live sends (t ∷ ts) more (All-tail GivesKey t more all)
+    (outlived_live sends (is_open (t ∷ ts)) (keys_after_touch sends (keys sends ts) t)
+    (touched_live sends (keys sends ts) t (All-head GivesKey t more all) live))
+
+-- ---- a refresh touches places in no other way
+
+given_if : (a b k l : Bool) (i j : ℕ)
+    → All GivesKey (touches_if a (Program k i) ++ touches_if b (Go l j))
+given_if a b k l i j = grind arith
+
+refresh_gives : (q : StreamStage) (next : ℕ) (r : Option Reach) (p : KeyPlace)
+    → All GivesKey (work_touches (work_of op.Refresh q next) r p)
+refresh_gives q next None p = All-nil GivesKey
+refresh_gives Idle next (Some r) p = given_if _ _ _ _ _ _
+refresh_gives (Establishing j n) next (Some r) p = given_if _ _ _ _ _ _
+refresh_gives (Up set j) next (Some r) p = given_if _ _ _ _ _ _
+refresh_gives (Refreshing set j n) next (Some r) p = given_if _ _ _ _ _ _
+refresh_gives (Stopping n) next (Some r) p = given_if _ _ _ _ _ _
+
+on_it_gives : (here : Bool) (ts : List Touch) → All GivesKey ts
+    → All GivesKey (on_it here ts)
+on_it_gives true ts all = all
+on_it_gives false ts all = All-nil GivesKey
+
+place_gives : (h : History) (line stream : ℕ) (loss : Option Loss) (x : Verdict) (p : KeyPlace)
+    → All GivesKey (touches_by h (event.Refresh line stream loss) x p)
+place_gives h line stream loss x p = on_it_gives (is_on_stream p line stream) _
+    (refresh_gives (op_of h line stream) (draws h) (reach_of op.Refresh x) p)
 
 -- ---- no check fails
 
@@ -72,6 +100,9 @@ six_keyed test other side line stream leads all = grind arith
 secure_says : (f some all : Bool) → keyed_status f some all ≡ status.Secure → (f ≡ false) × (all ≡ true)
 secure_says f some all e = grind arith
 
+secure_if : (f some all : Bool) → f ≡ false → all ≡ true → keyed_status f some all ≡ status.Secure
+secure_if f some all e g = grind arith
+
 secure_is : (a b has some all : Bool) → a ≡ false → b ≡ false → all ≡ true → keyed_status ((a || b) && has) some all
     ≡ status.Secure
 secure_is a b has some all e f g = grind arith
@@ -79,18 +110,26 @@ secure_is a b has some all e f g = grind arith
 refresh_stays : (plan : KeyPlan) (h : History) (line stream : ℕ) (loss : Option Loss) (x : Verdict)
     → KeyCauseLaw plan ((event.Refresh line stream loss, x) ∷ h)
     → StaysSecureAtEvent h (event.Refresh line stream loss) x
-unfolding failed_there key_due
+unfolding failed_there key_due moments
 refresh_stays plan h line stream loss x cause side secure =
     let says = secure_says (failed_there h side line stream) (has_key (place_keys h) side line stream)
     (has_all (place_keys h) side line stream) secure in
-    let all = six_keyed (λ p. keeps_live (place_keys h p))
-    (λ p. keeps_live (place_keys ((event.Refresh line stream loss, x) ∷ h) p)) side line stream
-    (λ upward u keyed. place_keyed plan h line stream loss x cause (key_place_at side line stream upward u) (refl, refl)
-    keyed) says.1 in
+    let at = key_place_at side line stream in
+    let gives = place_gives h line stream loss x in
+    let before = λ (p : KeyPlace). keeps_live (place_keys h p) in
+    let after = λ (p : KeyPlace). keeps_live (place_keys ((event.Refresh line stream loss, x) ∷ h) p) in
     let free = refresh_free (has_refresh plan line stream) plan (op_of h line stream) (draws h) (ports_at h)
-    (history_status h Host line stream) line stream loss side in
-    secure_is (fails_there side line stream x) (failed_there h side line stream) _ _ _
-    (ap (fails_there side line stream) cause.0 ∙ free) says.0 all
+    (history_status h Host line stream) line stream loss side in (
+      λ so_far. secure_if _ _ _ says.0
+          (six_keyed before (λ p. keeps_live (keys_within h (event.Refresh line stream loss) x so_far p)) side line
+          stream (λ upward u live. stays_live (at upward u).sends (moments h (at upward u)) _
+          (All-take GivesKey (so_far (at upward u)) _ (gives (at upward u))) live) says.1),
+      secure_is (fails_there side line stream x) (failed_there h side line stream) _ _ _
+          (ap (fails_there side line stream) cause.0 ∙ free) says.0
+          (six_keyed before after side line stream
+          (λ upward u live. stays_live (at upward u).sends (moments h (at upward u)) _ (gives (at upward u)) live)
+          says.1),
+    )
 
 stays_at_pair : (plan : KeyPlan) (h : History) (e : Event) (x : Verdict) → KeyCauseLaw plan ((e, x) ∷ h)
     → StaysSecureAtEvent h e x

@@ -28,7 +28,8 @@ pub fn operations_settle()
     ensures { (plan : KeyPlan) (h : History) → KeyCauseLaw plan h → OperationsSettle h }
 {}
 
-/// No move of a refresh takes a port out of Secure.
+/// No move of a refresh takes a port out of Secure: not at any moment of its event, between two exchanges or inside one,
+/// and not at its end.
 pub fn stream_stays_secure()
     ensures { (plan : KeyPlan) (h : History) → KeyCauseLaw plan h → StaysSecure h }
 {}

@@ -19,7 +19,7 @@ use Rattle.law_locks.proofs.TrueViews.{true_views}
 use Rattle.law_locks.proofs.OneLock.{one_lock_per_key as one_lock}
 
 -- the number of an interface finds it
-own_number : (plan : Plan) (i : ℕ) (x : Site) → site_at plan i ≡ Some x → site_at plan x.number ≡ Some x
+pub own_number : (plan : Plan) (i : ℕ) (x : Site) → site_at plan i ≡ Some x → site_at plan x.number ≡ Some x
 own_number plan i x at = subst (λ (n : ℕ). site_at plan n ≡ Some x) (sym (number_at plan i x at)) at
 
 pub lock_law : LockLawHolds

@@ -1,5 +1,5 @@
 -- An interface is bound only to streams between devices that are Secure at its device.
-use Rattle.std.proofs.Common.{◌≡◌, ◌⊎◌, ⊎_elim, ℕ, ◌==◌, ◌&&◌, ◌||◌, Bool, true, false, List, [], ◌∷◌}
+use Rattle.std.proofs.Common.{◌≡◌, ⊎_elim, ℕ, ◌==◌, ◌&&◌, ◌||◌, Bool, true, false, List, [], ◌∷◌}
 use Rattle.std.proofs.Common.{refl, ap, sym, ◌∙◌, arith}
 use Rattle.std.specs.Prelude.{not, if◌then◌else◌, is_some, Option, Some, None}
 use Rattle.std.specs.Option.{option_and_then}
@@ -79,10 +79,10 @@ reset_after before after false own t held are =
 
 -- ---- what is said of a stream between devices
 
-is_if : (b : Bool) (j : ℕ) → is_some (if b then Some j else None) ≡ true → b ≡ true
+pub is_if : (b : Bool) (j : ℕ) → is_some (if b then Some j else None) ≡ true → b ≡ true
 is_if b j is = grind arith
 
-some_if : (b : Bool) (j : ℕ) → b ≡ true → is_some (if b then Some j else None) ≡ true
+pub some_if : (b : Bool) (j : ℕ) → b ≡ true → is_some (if b then Some j else None) ≡ true
 some_if b j is = rw is refl
 
 end_secure : (h : History) (end : PortName) (stream : ℕ) → is_some (live_at h end stream) ≡ true
@@ -90,7 +90,7 @@ end_secure : (h : History) (end : PortName) (stream : ℕ) → is_some (live_at 
 end_secure h end stream is = is_if (is_secure (history_status h end.side end.line stream))
     (greatest_on (place_keys h (receiver_at end stream))) is
 
-still_live : (plan : Plan) (h : History) (e : InterfaceEvent) (w : Verdict) (stream : ℕ) (o : Option PortName)
+pub still_live : (plan : Plan) (h : History) (e : InterfaceEvent) (w : Verdict) (stream : ℕ) (o : Option PortName)
     → w ≡ due plan h (event.Interface e) → is_some (option_and_then (λ end. live_at h end stream) o) ≡ true
     → is_some (option_and_then (λ end. live_at ((event.Interface e, w) ∷ h) end stream) o) ≡ true
 still_live plan h e w stream None due_is is = absurd (true≢false (sym is))

@@ -273,13 +273,13 @@ as_true m n s t one two is =
     (subst (λ (k : DeviceTdi). IsTrueOf n.view k.state) (sym two)
     is)
 
-if_is : {A : Type 0} (b : Bool) (m n : A) → b ≡ true → (if b then m else n) ≡ m
+pub if_is : {A : Type 0} (b : Bool) (m n : A) → b ≡ true → (if b then m else n) ≡ m
 if_is b m n is = rw is refl
 
 if_not : {A : Type 0} (b : Bool) (m n : A) → b ≡ false → (if b then m else n) ≡ n
 if_not b m n is = rw is refl
 
-interface_own : (plan : Plan) (h : History) (e : InterfaceEvent) (w : Verdict) (x : Site)
+pub interface_own : (plan : Plan) (h : History) (e : InterfaceEvent) (w : Verdict) (x : Site)
     → is_number (number_in e) x.number ≡ true → interface_at plan ((event.Interface e, w) ∷ h) x
     ≡ interface_asked (around_at_site plan h x) x e w (interface_at plan h x)
 unfolding devices
@@ -291,7 +291,8 @@ interface_other : (plan : Plan) (h : History) (e : InterfaceEvent) (w : Verdict)
 unfolding devices
 interface_other plan h e w x other = if_not (is_number (number_in e) x.number) _ _ other
 
-called : (b : Bool) (c : Call) (t : DeviceTdi) → interface_if_called b c t ≡ (if b then interface_after_call t c else t)
+pub called : (b : Bool) (c : Call) (t : DeviceTdi) → interface_if_called b c t
+    ≡ (if b then interface_after_call t c else t)
 called true c t = refl
 called false c t = refl
 

@@ -1,10 +1,10 @@
 -- Each accepted packet with T on a stream between devices was sealed while the owner of its TLP was in RUN and bound to
 -- the stream. It is a packet that was got, so packet m of what was got is packet m of what was sealed, with its T.
-use Rattle.law_sealing.proofs.Terms.{◌≡◌, ℕ, ◌+◌, ◌<◌, Bool, true, false, List, [], ◌∷◌, length, slice_get, Option}
+use Rattle.law_sealing.proofs.Terms.{◌≡◌, ℕ, ◌+◌, ◌<◌, Bool, true, false, List, ◌∷◌, length, slice_get, Option}
 use Rattle.law_sealing.proofs.Terms.{Some, None, refl, ap, sym, subst, ◌∙◌, arith, nat_tests, if◌then◌else◌, Plan}
 use Rattle.law_sealing.proofs.Terms.{SubStream, History, Event, Send, Verdict, Sealed, Accepted, UnitName, Effect}
 use Rattle.law_sealing.proofs.Terms.{SealedPacket, Packet, Prefix, PortName, received_in, sent_packets, CauseLaw}
-use Rattle.law_sealing.proofs.Terms.{NoForgery, DrawFacts, StreamsFit}
+use Rattle.law_sealing.proofs.Terms.{DrawFacts, StreamsFit}
 unfoldable use Rattle.law_sealing.proofs.Terms.{accepted_packets, sealed_packets}
 use Rattle.std.specs.Prelude.{◌-◌, nat_le, nat_lt}
 use Rattle.std.specs.Option.{unwrap_or}
@@ -29,7 +29,10 @@ use Rattle.spec_interfaces.proofs.Bound.{peer_seals_bound}
 use Rattle.law_sealing.proofs.Bounds.{prefix_is}
 use Rattle.law_sealing.proofs.Places.{place_among}
 use Rattle.law_sealing.proofs.Sums.{in_parts}
-use Rattle.law_memory.specs.Bindings.{AreBound, BindOriginLaw}
+use Rattle.law_delivery.specs.NoForgeryUnder.{UnitIsUnforged}
+use Rattle.law_delivery.proofs.EachForgery.{of_pairs}
+use Rattle.law_memory.specs.Bindings.{AreBound}
+use Rattle.law_memory.specs.LocalLaws.{LocalBindOriginLaw}
 use Rattle.law_memory.proofs.Causes.{interface_cause}
 use Rattle.law_memory.proofs.Found.{all_get, cause_before, get_less, sealing_by}
 use Rattle.law_memory.proofs.Origins.{accepted_known, sent_at}
@@ -118,7 +121,7 @@ peer_fit plan h bytes trusted d peer fit = fit.t_is ∙ ap (λ (t : Bool). if d.
 
 bound_at : (plan : Plan) → FitsPlan plan → StreamsFit plan → DrawFacts plan
     → (h : History) (e : Event) (port : PortName) (unit : UnitName) (effects : List Effect)
-    → CauseLaw plan ((e, Accepted port unit effects) ∷ h) → NoForgery plan ((e, Accepted port unit effects) ∷ h)
+    → CauseLaw plan ((e, Accepted port unit effects) ∷ h) → UnitIsUnforged plan h e (Accepted port unit effects)
     → AreBound plan h e (Accepted port unit effects)
 bound_at plan whole fits facts h e port unit effects cause forged late n p is has_t =
     let s = received_in port unit in
@@ -176,13 +179,12 @@ bound_at plan whole fits facts h e port unit effects cause forged late n p is ha
 -- ---- the law
 
 are_bound : (plan : Plan) → FitsPlan plan → StreamsFit plan → DrawFacts plan → (h : History) (e : Event) (w : Verdict)
-    → CauseLaw plan ((e, w) ∷ h) → NoForgery plan ((e, w) ∷ h) → AreBound plan h e w
+    → CauseLaw plan ((e, w) ∷ h) → UnitIsUnforged plan h e w → AreBound plan h e w
 are_bound plan whole fits facts h e (Accepted port unit effects) cause forged =
     bound_at plan whole fits facts h e port unit effects cause forged
 are_bound plan whole fits facts h e w cause forged = tt
 
 pub bind_origin_law : (plan : Plan) → FitsPlan plan → StreamsFit plan → DrawFacts plan → (h : History)
-    → CauseLaw plan h → NoForgery plan h → BindOriginLaw plan h
-bind_origin_law plan whole fits facts [] cause forged = tt
-bind_origin_law plan whole fits facts ((e, w) ∷ h) cause forged =
-    (are_bound plan whole fits facts h e w cause forged, bind_origin_law plan whole fits facts h cause.1 forged.1)
+    → CauseLaw plan h → LocalBindOriginLaw plan h
+bind_origin_law plan whole fits facts h cause =
+    of_pairs UnitIsUnforged AreBound plan (are_bound plan whole fits facts) h cause

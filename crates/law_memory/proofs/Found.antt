@@ -25,6 +25,7 @@ use Rattle.spec_interfaces.specs.Cause.{InterfaceCause}
 use Rattle.spec_interfaces.specs.Laws.{OfTrusted}
 use Rattle.law_memory.specs.Origin.{CameFrom}
 use Rattle.std.specs.Prelude.{find}
+use Rattle.law_delivery.proofs.GotUnits.{last_at}
 use Rattle.script_events.specs.declared.event.Event.TheVariants as event
 use Rattle.event_verdicts.specs.declared.verdict.Verdict.TheVariants as v
 
@@ -34,14 +35,6 @@ pub get_less : {A : Type 0} (xs : List A) (i : ℕ) (x : A) → slice_get xs i �
 get_less [] i x is = absurd cc
 get_less (y ∷ xs) zero x is = omega arith
 get_less (y ∷ xs) (suc i) x is = let rest = get_less xs i x is in omega (arith, rest)
-
-last_at : {A : Type 0} (xs : List A) (x y : A) (i : ℕ) → slice_get (xs ++ x ∷ []) i ≡ Some y → (slice_get xs i ≡ Some y)
-    ⊎ ((y ≡ x) × (i ≡ length xs))
-last_at [] x y zero is = inr (cc, refl)
-last_at [] x y (suc i) is = absurd cc
-last_at (z ∷ xs) x y zero is = inl is
-last_at (z ∷ xs) x y (suc i) is = elim (last_at xs x y i is)
-    [ inl p ↦ inl p | inr p ↦ inr (p.0, ap (λ (n : ℕ). suc n) p.1) ]
 
 pub all_get : {A : Type 0} (P : A → Type 0) (xs : List A) (i : ℕ) (x : A) → AllByRecursion P xs → slice_get xs i
     ≡ Some x → P x

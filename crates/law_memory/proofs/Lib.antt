@@ -5,5 +5,5 @@ pub mod Origins
 pub mod AllLaws
 pub mod OfReads
 pub mod QueuedReads
-mod OwnStreams
+pub mod OwnStreams
 mod BoundPackets

@@ -1,7 +1,7 @@
 -- Exactly the admitted writes are applied, and memory shows what they left.
 use Rattle.spec_links.specs.Ports.{at_switch, port_of}
 use Rattle.spec_links.specs.Admission.{switch_effect}
-use Rattle.law_sealing.proofs.Terms.{◌≡◌, ℕ, ◌+◌, ◌<◌, ◌==◌, ◌&&◌, zero, suc, Bool, true, false, not, List, [], ◌∷◌}
+use Rattle.law_sealing.proofs.Terms.{◌≡◌, ℕ, ◌+◌, ◌==◌, ◌&&◌, Bool, true, false, not, List, [], ◌∷◌}
 use Rattle.law_sealing.proofs.Terms.{length, map, take, drop, slice_get, is_some, Option, Some, None, Result, Ok, Err}
 use Rattle.law_sealing.proofs.Terms.{refl, ap, sym, ◌∙◌, arith, if◌then◌else◌, Plan, History, Event, Verdict, Accepted}
 use Rattle.law_sealing.proofs.Terms.{UnitName, Effect, Packet, PortName, is_sync_packet, CauseLaw, accepted_by}
@@ -40,6 +40,8 @@ use Rattle.spec_links.specs.Memory.{admitted_each, unit_ended, plain_of, Policy,
 use Rattle.spec_links.specs.Memory.{writes, shown_if, effect_by, effects_of}
 unfoldable use Rattle.spec_interfaces.specs.Due.{interface_verdict_due as interface_due}
 use Rattle.law_memory.specs.Origin.{ShowsWrites, AppliesAdmitted, MemoryLaw}
+use Rattle.law_mmio.proofs.Numbers.{last_byte}
+use Rattle.law_mmio.proofs.Shown.{bytes_at, length-bytes}
 use Rattle.script_events.specs.declared.event.Event.TheVariants as event
 use Rattle.script_events.specs.declared.event.InterfaceEvent.TheVariants as ie
 use Rattle.event_verdicts.specs.declared.verdict.Verdict.TheVariants as v
@@ -143,17 +145,6 @@ applies plan h e port unit effects is =
 
 -- ---- what is shown
 
-length-bytes : (f : ℕ → ℕ) (at n : ℕ) → length (bytes_from f at n) ≡ n
-length-bytes f at zero = refl
-length-bytes f at (suc n) = ap (λ (k : ℕ). suc k) (length-bytes f (at + 1) n)
-
-bytes_at : (f : ℕ → ℕ) (at n k : ℕ) → k < n → slice_get (bytes_from f at n) k ≡ Some (f (at + k))
-bytes_at f at zero k less = absurd (omega arith)
-bytes_at f at (suc n) zero less = let e : at ≡ at + 0 = omega arith in ap (λ (a : ℕ). Some (f a)) e
-bytes_at f at (suc n) (suc k) less =
-    let e : (at + 1) + k ≡ at + suc k = omega arith in bytes_at f (at + 1) n k (omega arith) ∙ ap
-    (λ (a : ℕ). Some (f a)) e
-
 shown_is : (b : Bool) (bytes shown : List ℕ) → v.Interface (iv.Memory bytes) ≡ shown_if b shown → bytes ≡ shown
 shown_is b bytes shown is = grind arith
 
@@ -166,7 +157,11 @@ shows plan h at len bytes is =
     is
     in (
       ap length same ∙ length-bytes (byte_last_written (writes plan h)) at len,
-      λ k less. ap (λ (bs : List ℕ). slice_get bs k) same ∙ bytes_at (byte_last_written (writes plan h)) at len k less,
+      λ k less. record {
+        byte = byte_last_written (writes plan h) (at + k);
+        is = ap (λ (bs : List ℕ). slice_get bs k) same ∙ bytes_at (byte_last_written (writes plan h)) at len k less;
+        left = last_byte (writes plan h) (at + k);
+      },
     )
 
 -- ---- the law

@@ -282,7 +282,7 @@ first_of : List ℕ → ℕ
 first_of [] = 0
 first_of (b ∷ bs) = b
 
-completion_class : (byte : ℕ → ℕ) (r : MemReadView) (t : Tlp) → read_of (completion_bytes byte r) ≡ Ok t
+pub completion_class : (byte : ℕ → ℕ) (r : MemReadView) (t : Tlp) → read_of (completion_bytes byte r) ≡ Ok t
     → class_of (header t) ≡ Cpl
 unfolding completion_bytes first_of
 completion_class byte r t is = class_by (header t).has_payload (header t).lead.wide (header t).fields

@@ -15,7 +15,7 @@ use Rattle.law_sealing.proofs.Terms.{◌++◌, length, take, drop, slice_get, Op
 use Rattle.law_sealing.proofs.Terms.{◌<◌, sym, ◌∙◌, arith, nat_tests, if◌then◌else◌, Plan, SubStream, History, Event}
 use Rattle.law_sealing.proofs.Terms.{Send, Verdict, Sealed, Accepted, UnitName, Effect, SealedPacket, Packet, Prefix}
 use Rattle.law_sealing.proofs.Terms.{PortName, is_sync_packet, is_same-refl, received_in, sent_packets, CauseLaw}
-use Rattle.law_sealing.proofs.Terms.{NoForgery, DrawFacts, StreamsFit, Tlp, header, head_bytes, read_of, sub_stream_of}
+use Rattle.law_sealing.proofs.Terms.{DrawFacts, StreamsFit, Tlp, header, head_bytes, read_of, sub_stream_of}
 use Rattle.law_sealing.proofs.Terms.{sealed_same, eqb-refl}
 unfoldable use Rattle.law_sealing.proofs.Terms.{accepted_packets, sealed_packets, packet_of}
 use Rattle.std.proofs.lemmas.List.{length-take-le}
@@ -44,7 +44,10 @@ use Rattle.law_sealing.proofs.Bounds.{prefix_is}
 use Rattle.law_sealing.proofs.Places.{place_among}
 use Rattle.law_sealing.proofs.Fronts.{at_front}
 use Rattle.law_sealing.proofs.Sums.{in_parts}
+use Rattle.law_delivery.specs.NoForgeryUnder.{UnitIsUnforged}
+use Rattle.law_delivery.proofs.EachForgery.{of_pairs}
 use Rattle.law_delivery.proofs.Prefixes.{got_begins}
+use Rattle.law_memory.specs.LocalLaws.{LocalOriginLaw}
 use Rattle.spec_interfaces.specs.Terms.{Running, View}
 use Rattle.spec_interfaces.specs.Sites.{Site, site_at, site_of_requester}
 unfoldable use Rattle.spec_interfaces.specs.Sites.{sites}
@@ -53,7 +56,7 @@ use Rattle.spec_interfaces.specs.Devices.{locks_accepted}
 use Rattle.spec_interfaces.specs.Cause.{SealFits, owner_id, owner_site, owner_read}
 use Rattle.spec_interfaces.specs.Laws.{IsTrusted, InRun}
 use Rattle.spec_interfaces.proofs.Views.{views_hold}
-use Rattle.law_memory.specs.Origin.{IsFrom, AreFrom, OriginLaw}
+use Rattle.law_memory.specs.Origin.{IsFrom, AreFrom}
 use Rattle.law_memory.proofs.Causes.{interface_cause}
 use Rattle.spec_interfaces.proofs.OnLinks.{number_on_link}
 use Rattle.law_memory.proofs.Found.{get_less, all_get, get_behind, IsNew, sealing_of, cause_before, trusted_before}
@@ -243,14 +246,14 @@ got_next plan h e port unit effects = rw (is_same-refl (received_in port unit), 
 
 pub sent_at : (plan : Plan) → StreamsFit plan → DrawFacts plan → (h : History) (e : Event) (port : PortName)
     (unit : UnitName) (effects : List Effect)
-    → CauseLaw plan ((e, Accepted port unit effects) ∷ h) → NoForgery plan ((e, Accepted port unit effects) ∷ h)
+    → CauseLaw plan ((e, Accepted port unit effects) ∷ h) → UnitIsUnforged plan h e (Accepted port unit effects)
     → (n : ℕ) (p : Packet) → slice_get (unit_ended plan h e port unit) n ≡ Some p
     → slice_get (sent_packets plan h (received_in port unit) unit.draw)
     (length (accepted_packets plan h (received_in port unit) unit.draw) + n) ≡ Some p
 sent_at plan fits facts h e port unit effects cause forged n p is =
     let s = received_in port unit in
     let m = length (accepted_packets plan h s unit.draw) + n in
-    let begins = got_begins plan fits facts ((e, Accepted port unit effects) ∷ h) cause forged s unit.draw in
+    let begins = got_begins plan fits facts ((e, Accepted port unit effects) ∷ h) cause s unit.draw forged in
     let here : slice_get (accepted_packets plan ((e, Accepted port unit effects) ∷ h) s unit.draw) m ≡ Some p =
     ap (λ (ps : List Packet). slice_get ps m) (got_next plan h e port unit effects) ∙
     (get_behind (accepted_packets plan h s unit.draw) (unit_ended plan h e port unit) n ∙ is) in
@@ -292,7 +295,7 @@ some_same p q e = cc (e)
 -- packet n of the unit, if it is admitted
 pub origin_of : (plan : Plan) → FitsPlan plan → StreamsFit plan → DrawFacts plan
     → (h : History) (e : Event) (port : PortName) (unit : UnitName) (effects : List Effect)
-    → CauseLaw plan ((e, Accepted port unit effects) ∷ h) → NoForgery plan ((e, Accepted port unit effects) ∷ h)
+    → CauseLaw plan ((e, Accepted port unit effects) ∷ h) → UnitIsUnforged plan h e (Accepted port unit effects)
     → (n : ℕ) (p : Packet) → Admitted plan h port unit p → slice_get (unit_ended plan h e port unit) n ≡ Some p
     → IsFrom plan h port unit p (length (accepted_packets plan h (received_in port unit) unit.draw) + n)
 origin_of plan whole fits facts h e port unit effects cause forged n p adm stands =
@@ -358,7 +361,7 @@ origin_of plan whole fits facts h e port unit effects cause forged n p adm stand
 
 origin_at : (plan : Plan) → FitsPlan plan → StreamsFit plan → DrawFacts plan
     → (h : History) (e : Event) (port : PortName) (unit : UnitName) (effects : List Effect)
-    → CauseLaw plan ((e, Accepted port unit effects) ∷ h) → NoForgery plan ((e, Accepted port unit effects) ∷ h)
+    → CauseLaw plan ((e, Accepted port unit effects) ∷ h) → UnitIsUnforged plan h e (Accepted port unit effects)
     → AreFrom plan h e (Accepted port unit effects)
 origin_at plan whole fits facts h e port unit effects cause forged n w p is stands =
     let q = port_of plan port in
@@ -372,14 +375,13 @@ origin_at plan whole fits facts h e port unit effects cause forged n w p is stan
 -- ---- the law
 
 are_from : (plan : Plan) → FitsPlan plan → StreamsFit plan → DrawFacts plan → (h : History) (e : Event) (w : Verdict)
-    → CauseLaw plan ((e, w) ∷ h) → NoForgery plan ((e, w) ∷ h) → AreFrom plan h e w
+    → CauseLaw plan ((e, w) ∷ h) → UnitIsUnforged plan h e w → AreFrom plan h e w
 are_from plan whole fits facts h e (Accepted port unit effects) cause forged = origin_at plan whole fits facts h e port
     unit effects
     cause forged
 are_from plan whole fits facts h e w cause forged = tt
 
-pub origin_law : (plan : Plan) → FitsPlan plan → StreamsFit plan → DrawFacts plan → (h : History) → CauseLaw plan h
-    → NoForgery plan h → OriginLaw plan h
-origin_law plan whole fits facts [] cause forged = tt
-origin_law plan whole fits facts ((e, w) ∷ h) cause forged =
-    (are_from plan whole fits facts h e w cause forged, origin_law plan whole fits facts h cause.1 forged.1)
+pub origin_law : (plan : Plan) → FitsPlan plan → StreamsFit plan → DrawFacts plan → (h : History)
+    → CauseLaw plan h → LocalOriginLaw plan h
+origin_law plan whole fits facts h cause =
+    of_pairs UnitIsUnforged AreFrom plan (are_from plan whole fits facts) h cause

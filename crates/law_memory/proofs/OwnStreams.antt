@@ -1,4 +1,5 @@
--- The stream that an interface is bound to is one of its link, so what is admitted or queued for it came on the link.
+-- What a sound topology says of each interface; so the stream that it is bound to is one of its link, and what is
+-- admitted or queued for it came on the link.
 use Rattle.law_sealing.proofs.Terms.{◌≡◌, ℕ, ◌+◌, ◌==◌, ◌&&◌, suc, Bool, true, false, List, [], ◌∷◌, ◌++◌, length}
 use Rattle.law_sealing.proofs.Terms.{Option, Some, refl, ap, subst, ◌∙◌, arith, if◌then◌else◌, All, AllByRecursion}
 use Rattle.law_sealing.proofs.Terms.{Plan}
@@ -12,19 +13,13 @@ use Rattle.ide_types.specs.Ends.{own_has_id}
 use Rattle.spec_interfaces.specs.Sites.{Site, site_of_requester, sites_of_plans, sites_of_links}
 unfoldable use Rattle.spec_interfaces.specs.Sites.{sites}
 
--- its link has the stream
-abbrev HasOwn : List LinkPlan → Site → Type 0
-HasOwn links x = own_has_id (slice_get links x.link) x.plan.stream ≡ true
+-- ---- what fits of each interface
 
-own_selective : (id : ℕ) (ss : List StreamPlan) → has_selective id ss ≡ true → has_stream_id ss id ≡ true
-own_selective id [] is = absurd cc
-own_selective id (s ∷ ss) is = by (is_selective s.selector) (s.id == id) (has_selective id ss) (own_selective id ss) is
-  where
-    by : (a b c : Bool) → (c ≡ true → has_stream_id ss id ≡ true) → ((a && b) || c) ≡ true
-        → (b || has_stream_id ss id) ≡ true
-    by a true c more is = refl
-    by true false c more is = more is
-    by false false c more is = more is
+-- its link is one of the plan, with whose streams it fits
+pub record IsPlanned (links : List LinkPlan) (x : Site) : Type 0 where
+  pub link : LinkPlan
+  pub at : slice_get links x.link ≡ Some link
+  pub fits : FitsInterface link.streams x.plan
 
 all_behind : {A : Type 0} (P : A → Type 0) (xs ys : List A) → AllByRecursion P xs → AllByRecursion P ys
     → AllByRecursion P (xs ++ ys)
@@ -32,20 +27,19 @@ all_behind P [] ys one two = two
 all_behind P (x ∷ xs) ys one two = (one.0, all_behind P xs ys one.1 two)
 
 on_one : (links : List LinkPlan) (l : LinkPlan) (number link : ℕ) (ps : List InterfacePlan) → slice_get links link
-    ≡ Some l → All (FitsInterface l.streams) ps → AllByRecursion (HasOwn links) (sites_of_plans number link ps)
+    ≡ Some l → All (FitsInterface l.streams) ps → AllByRecursion (IsPlanned links) (sites_of_plans number link ps)
 on_one links l number link [] at each = tt
 on_one links l number link (p ∷ ps) at each = (
-  ap (λ (o : Option LinkPlan). own_has_id o p.stream) at ∙ own_selective p.stream l.streams
-      (each 0 p (omega arith)).stream,
+  record { link = l; at = at; fits = each 0 p (omega arith) },
   on_one links l (number + 1) link ps at (λ k d lt. each (suc k) d (omega arith)),
 )
 
 on_all : (links : List LinkPlan) (ls : List LinkPlan) (number link : ℕ)
     → ((i : ℕ) (l : LinkPlan) → slice_get ls i ≡ Some l → slice_get links (link + i) ≡ Some l) → All FitsLink ls
-    → AllByRecursion (HasOwn links) (sites_of_links number link ls)
+    → AllByRecursion (IsPlanned links) (sites_of_links number link ls)
 on_all links [] number link at each = tt
 on_all links (l ∷ ls) number link at each =
-    all_behind (HasOwn links) (sites_of_plans number link l.interfaces) _
+    all_behind (IsPlanned links) (sites_of_plans number link l.interfaces) _
     (on_one links l number link l.interfaces (first (at 0 l refl)) (each 0 l (omega arith)).each_interface)
     (on_all links ls (number + length l.interfaces) (link + 1) (λ i k is. next i k (at (suc i) k is))
     (λ k d lt. each (suc k) d (omega arith)))
@@ -66,12 +60,31 @@ found_all P test (y ∷ ys) x all is = by (test y) is (found_all P test ys x all
     by true is more = let same : y ≡ x = cc (is) in subst P same all.0
     by false is more = more is
 
+pub found_planned : (plan : Plan) → FitsPlan plan → (test : Site → Bool) (x : Site) → find test (sites plan) ≡ Some x
+    → IsPlanned plan.links x
+unfolding sites
+found_planned plan fits test x is =
+    found_all (IsPlanned plan.links) test (sites plan) x
+    (on_all plan.links plan.links 0 0 (λ j l at. at_same j l at) fits.each_link) is
+  where
+    at_same : (j : ℕ) (l : LinkPlan) → slice_get plan.links j ≡ Some l → slice_get plan.links (0 + j) ≡ Some l
+    at_same j l at = let e : j ≡ 0 + j = omega arith in subst (λ (n : ℕ). slice_get plan.links n ≡ Some l) e at
+
+-- ---- its stream
+
+own_selective : (id : ℕ) (ss : List StreamPlan) → has_selective id ss ≡ true → has_stream_id ss id ≡ true
+own_selective id [] is = absurd cc
+own_selective id (s ∷ ss) is = by (is_selective s.selector) (s.id == id) (has_selective id ss) (own_selective id ss) is
+  where
+    by : (a b c : Bool) → (c ≡ true → has_stream_id ss id ≡ true) → ((a && b) || c) ≡ true
+        → (b || has_stream_id ss id) ≡ true
+    by a true c more is = refl
+    by true false c more is = more is
+    by false false c more is = more is
+
 pub own_stream : (plan : Plan) → FitsPlan plan → (link requester : ℕ) (x : Site)
     → site_of_requester plan link requester ≡ Some x → own_has_id (slice_get plan.links x.link) x.plan.stream ≡ true
-unfolding sites
 own_stream plan fits link requester x is =
-    found_all (HasOwn plan.links) (λ y. (y.link == link) && (y.plan.requester == requester)) (sites plan) x
-    (on_all plan.links plan.links 0 0 (λ i l at. at_same i l at) fits.each_link) is
-  where
-    at_same : (i : ℕ) (l : LinkPlan) → slice_get plan.links i ≡ Some l → slice_get plan.links (0 + i) ≡ Some l
-    at_same i l at = let e : i ≡ 0 + i = omega arith in subst (λ (n : ℕ). slice_get plan.links n ≡ Some l) e at
+    let own = found_planned plan fits (λ y. (y.link == link) && (y.plan.requester == requester)) x is in
+    ap (λ (o : Option LinkPlan). own_has_id o x.plan.stream) own.at
+    ∙ own_selective x.plan.stream own.link.streams own.fits.stream

@@ -3,7 +3,7 @@
 use Rattle.law_sealing.proofs.Terms.{◌≡◌, ℕ, ◌==◌, zero, suc, Bool, true, false, List, [], ◌∷◌, slice_get, Option}
 use Rattle.law_sealing.proofs.Terms.{Some, None, Result, Ok, Err, ap, sym, subst, ◌∙◌, refl, arith, nat_tests}
 use Rattle.law_sealing.proofs.Terms.{if◌then◌else◌, Plan, History, Event, Verdict, Accepted, UnitName, Effect, Packet}
-use Rattle.law_sealing.proofs.Terms.{PortName, CauseLaw, NoForgery, DrawFacts, accepted_by, is_sync_packet, effects_of}
+use Rattle.law_sealing.proofs.Terms.{PortName, CauseLaw, DrawFacts, accepted_by, is_sync_packet, effects_of}
 use Rattle.law_sealing.proofs.Terms.{unit_that_ends}
 use Rattle.law_sealing.proofs.Fits.{StreamsFit}
 use Rattle.std.specs.Option.{option_or}
@@ -23,7 +23,10 @@ use Rattle.spec_interfaces.specs.Views.{grant_at}
 use Rattle.spec_links.specs.Memory.{Policy, policy_at, unit_grant, host_effect, device_effect, effect_by}
 use Rattle.spec_links.specs.Memory.{effects_each, waiting_then, unit_ended}
 use Rattle.law_reads.proofs.Order.{request_waits, device_waits}
-use Rattle.law_memory.specs.ReadLaws.{QueuedFrom, ReadOriginLaw}
+use Rattle.law_delivery.specs.NoForgeryUnder.{UnitIsUnforged}
+use Rattle.law_delivery.proofs.EachForgery.{of_pairs}
+use Rattle.law_memory.specs.LocalLaws.{LocalReadOriginLaw}
+use Rattle.law_memory.specs.ReadLaws.{QueuedFrom}
 use Rattle.law_memory.proofs.Origins.{Admitted, accepted_known, at_port, origin_of}
 use Rattle.ide_types.specs.Fits.{FitsPlan}
 use Rattle.spec_links.specs.Ports.{at_switch, port_of}
@@ -83,7 +86,7 @@ queued_at plan policy w port unit (q ∷ ps) (suc n) p is at =
 
 accepted_from : (plan : Plan) → FitsPlan plan → StreamsFit plan → DrawFacts plan
     → (h : History) (e : Event) (port : PortName) (unit : UnitName) (effects : List Effect)
-    → CauseLaw plan ((e, Accepted port unit effects) ∷ h) → NoForgery plan ((e, Accepted port unit effects) ∷ h)
+    → CauseLaw plan ((e, Accepted port unit effects) ∷ h) → UnitIsUnforged plan h e (Accepted port unit effects)
     → QueuedFrom plan h e (Accepted port unit effects)
 accepted_from plan whole fits facts h e port unit effects cause forged n p is stands =
     let by = accepted_by plan h e port unit effects cause.0 in
@@ -99,14 +102,13 @@ accepted_from plan whole fits facts h e port unit effects cause forged n p is st
     stands
 
 queued_from : (plan : Plan) → FitsPlan plan → StreamsFit plan → DrawFacts plan → (h : History) (e : Event) (w : Verdict)
-    → CauseLaw plan ((e, w) ∷ h) → NoForgery plan ((e, w) ∷ h) → QueuedFrom plan h e w
+    → CauseLaw plan ((e, w) ∷ h) → UnitIsUnforged plan h e w → QueuedFrom plan h e w
 queued_from plan whole fits facts h e (Accepted port unit effects) cause forged = accepted_from plan whole fits facts h
     e port unit
     effects cause forged
 queued_from plan whole fits facts h e w cause forged = tt
 
-pub read_origins : (plan : Plan) → FitsPlan plan → StreamsFit plan → DrawFacts plan → (h : History) → CauseLaw plan h
-    → NoForgery plan h → ReadOriginLaw plan h
-read_origins plan whole fits facts [] cause forged = tt
-read_origins plan whole fits facts ((e, w) ∷ h) cause forged =
-    (queued_from plan whole fits facts h e w cause forged, read_origins plan whole fits facts h cause.1 forged.1)
+pub read_origins : (plan : Plan) → FitsPlan plan → StreamsFit plan → DrawFacts plan → (h : History)
+    → CauseLaw plan h → LocalReadOriginLaw plan h
+read_origins plan whole fits facts h cause =
+    of_pairs UnitIsUnforged QueuedFrom plan (queued_from plan whole fits facts) h cause

@@ -1,5 +1,5 @@
 -- Trusted packets on streams between devices: each was sealed while its owner was in RUN and bound to the stream.
-use Rattle.std.specs.Prelude.{ℕ, ◌+◌, ◌<◌, ◌≤◌, ◌≡◌, ◌∷◌, Bool, true, List, [], length, Some, slice_get, nat_le}
+use Rattle.std.specs.Prelude.{ℕ, ◌+◌, ◌<◌, ◌≤◌, ◌≡◌, ◌∷◌, Bool, true, List, length, Some, slice_get, nat_le}
 use Rattle.spec_links.specs.Terms.{PortName, Plan, Event, Verdict, Accepted, Sealed, SealedPacket, Packet, History}
 use Rattle.spec_links.specs.Plan.{SubStream}
 use Rattle.spec_links.specs.History.{sealed_packets, accepted_packets, received_in}
@@ -41,8 +41,3 @@ AreBound plan h e (Accepted port unit effects) =
     → p.prefix.t ≡ true → IsBoundPacket plan h (received_in port unit) unit.draw
     (length (accepted_packets plan h (received_in port unit) unit.draw) + n) p
 AreBound plan h e w = Unit {0}
-
--- each accepted packet with T on a stream between devices
-abbrev pub BindOriginLaw : Plan → History → Type 0
-BindOriginLaw plan [] = Unit {0}
-BindOriginLaw plan ((e, w) ∷ h) = AreBound plan h e w × BindOriginLaw plan h

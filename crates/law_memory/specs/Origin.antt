@@ -6,13 +6,14 @@ use Rattle.spec_links.specs.Plan.{SubStream}
 use Rattle.spec_links.specs.History.{sealed_packets, accepted_packets, received_in}
 use Rattle.spec_links.specs.Memory.{writes, unit_ended, accepted_unit_writes}
 use Rattle.spec_links.specs.Ordered.{IsPacketAtPlace}
-use Rattle.trusted_memory.specs.Writes.{Write, byte_last_written}
+use Rattle.trusted_memory.specs.Writes.{Write}
 use Rattle.trusted_memory.specs.Causes.{is_applied}
 use Rattle.spec_interfaces.specs.Sites.{Site, site_at}
 use Rattle.spec_interfaces.specs.Terms.{Running}
 use Rattle.spec_interfaces.specs.Views.{view_at, floor_at}
 use Rattle.tlp_layout.specs.declared.head.HeadView.{HeadView}
 use Rattle.spec_interfaces.specs.Devices.{runs_at, locks_accepted}
+use Rattle.law_mmio.specs.Numbers.{ShowsByte}
 use Rattle.event_verdicts.specs.declared.verdict.Verdict.TheVariants as v
 use Rattle.script_events.specs.declared.event.Event.TheVariants as event
 use Rattle.script_events.specs.declared.event.InterfaceEvent.TheVariants as ie
@@ -20,10 +21,11 @@ use Rattle.ide_types.specs.declared.verdict.InterfaceVerdict.TheVariants as iv
 
 -- ---- memory
 
--- at a memory verdict byte k is what the last admitted write left that enables it, else 0
+-- at a memory verdict byte k is that of the last admitted write that names it, at its address less the write's own; if
+-- none does it is 0
 abbrev pub ShowsWrites : Plan → History → Event → Verdict → Type 0
 ShowsWrites plan h (event.Interface (ie.Memory at len)) (v.Interface (iv.Memory bytes)) =
-    (length bytes ≡ len) × ((k : ℕ) → k < len → slice_get bytes k ≡ Some (byte_last_written (writes plan h) (at + k)))
+    (length bytes ≡ len) × ((k : ℕ) → k < len → ShowsByte (writes plan h) (at + k) (slice_get bytes k))
 ShowsWrites plan h e w = Unit {0}
 
 -- at an accepted verdict exactly the packets whose writes are admitted are applied
@@ -79,8 +81,3 @@ AreFrom plan h e (Accepted port unit effects) =
     → slice_get (unit_ended plan h e port unit) n ≡ Some p
     → IsFrom plan h port unit p (length (accepted_packets plan h (received_in port unit) unit.draw) + n)
 AreFrom plan h e w = Unit {0}
-
--- each admitted write
-abbrev pub OriginLaw : Plan → History → Type 0
-OriginLaw plan [] = Unit {0}
-OriginLaw plan ((e, w) ∷ h) = AreFrom plan h e w × OriginLaw plan h

@@ -76,8 +76,3 @@ QueuedFrom plan h e (Accepted port unit effects) =
     (n : ℕ) (p : Packet) → slice_get effects n ≡ Some Queued → slice_get (unit_ended plan h e port unit) n ≡ Some p
     → IsFrom plan h port unit p (length (accepted_packets plan h (received_in port unit) unit.draw) + n)
 QueuedFrom plan h e w = Unit {0}
-
--- each queued read
-abbrev pub ReadOriginLaw : Plan → History → Type 0
-ReadOriginLaw plan [] = Unit {0}
-ReadOriginLaw plan ((e, w) ∷ h) = QueuedFrom plan h e w × ReadOriginLaw plan h

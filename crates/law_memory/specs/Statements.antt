@@ -1,14 +1,11 @@
 -- The laws of interfaces and memory, of every history in which each verdict is the one that is due.
 use Rattle.ide_types.specs.declared.plan.Plan.{Plan}
-use Rattle.ide_types.specs.Fits.{FitsPlan}
 use Rattle.spec_keys.specs.History.{History}
 use Rattle.spec_links.specs.Cause.{CauseLaw}
-use Rattle.spec_links.specs.Laws.{NoForgery}
 use Rattle.spec_interfaces.specs.Cause.{InterfaceCause}
 use Rattle.spec_interfaces.specs.Laws.{RunLaw}
-use Rattle.law_memory.specs.Bindings.{BindOriginLaw}
-use Rattle.law_memory.specs.Origin.{MemoryLaw, OriginLaw}
-use Rattle.law_memory.specs.ReadLaws.{ReadLaw, ReadOriginLaw}
+use Rattle.law_memory.specs.Origin.{MemoryLaw}
+use Rattle.law_memory.specs.ReadLaws.{ReadLaw}
 
 abbrev pub InterfacesHaveCauses : Type 0
 InterfacesHaveCauses = (plan : Plan) (h : History) → CauseLaw plan h → InterfaceCause plan h
@@ -19,16 +16,5 @@ RunLawHolds = (plan : Plan) (h : History) → CauseLaw plan h → RunLaw plan h
 abbrev pub MemoryLawHolds : Type 0
 MemoryLawHolds = (plan : Plan) (h : History) → CauseLaw plan h → MemoryLaw plan h
 
-abbrev pub OriginLawHolds : Type 0
-OriginLawHolds = (plan : Plan) → FitsPlan plan → (h : History) → CauseLaw plan h → NoForgery plan h → OriginLaw plan h
-
 abbrev pub ReadLawHolds : Type 0
 ReadLawHolds = (plan : Plan) (h : History) → CauseLaw plan h → ReadLaw plan h
-
-abbrev pub ReadOriginLawHolds : Type 0
-ReadOriginLawHolds = (plan : Plan) → FitsPlan plan → (h : History) → CauseLaw plan h → NoForgery plan h
-    → ReadOriginLaw plan h
-
-abbrev pub BindOriginLawHolds : Type 0
-BindOriginLawHolds = (plan : Plan) → FitsPlan plan → (h : History) → CauseLaw plan h → NoForgery plan h
-    → BindOriginLaw plan h

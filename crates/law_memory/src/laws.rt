@@ -1,7 +1,7 @@
 //! Laws of interfaces and of trusted memory.
 
-ghost use Rattle.law_memory.specs.Statements.{InterfacesHaveCauses, MemoryLawHolds, OriginLawHolds, RunLawHolds};
-ghost use Rattle.law_memory.specs.Statements.{BindOriginLawHolds, ReadLawHolds, ReadOriginLawHolds};
+ghost use Rattle.law_memory.specs.LocalLaws.{LocalOriginLawHolds, LocalReadOriginLawHolds};
+ghost use Rattle.law_memory.specs.Statements.{InterfacesHaveCauses, MemoryLawHolds, ReadLawHolds, RunLawHolds};
 
 /// What is due of events on interfaces is due by the interfaces alone, and T is set as they say.
 pub fn interfaces_have_causes()
@@ -21,13 +21,6 @@ pub fn memory_law()
     ensures { MemoryLawHolds }
 {}
 
-/// In every history in which each verdict is the one that is due: provided no tag verified on a unit that its partner
-/// had not sealed, each admitted write was sealed while its interface was in the very RUN, under the very lock, that it
-/// is admitted for.
-pub fn origin_law()
-    ensures { OriginLawHolds }
-{}
-
 /// In every history in which each verdict is the one that is due, answers take the reads of a link in the order in
 /// which they were queued since its last reset, and no more than 64 wait. A completion is that of the oldest read, from
 /// memory as it is then. It has T, and is sealed on its interface's bound stream under a draw from its floor on, while
@@ -36,16 +29,15 @@ pub fn read_law()
     ensures { ReadLawHolds }
 {}
 
-/// In every history in which each verdict is the one that is due: provided no tag verified on a unit that its partner
-/// had not sealed, each queued read was sealed while its interface was in the very RUN, under the very lock, that it is
-/// queued for.
-pub fn read_origin_law()
-    ensures { ReadOriginLawHolds }
+/// In every history in which each verdict is the one that is due, each admitted write was sealed while its interface
+/// was in the very RUN, under the very lock, that it is admitted for, provided no tag of the sub-stream and draw under
+/// which its packet came verified, up to its unit, on a unit that the partner had not sealed: whatever verified of
+/// others.
+pub fn origin_law()
+    ensures { LocalOriginLawHolds }
 {}
 
-/// In every history in which each verdict is the one that is due: provided no tag verified on a unit that its partner
-/// had not sealed, each accepted packet with T on a stream between devices was sealed while the owner of its TLP was in
-/// RUN and bound to that stream.
-pub fn bind_origin_law()
-    ensures { BindOriginLawHolds }
+/// So it is of each queued read.
+pub fn read_origin_law()
+    ensures { LocalReadOriginLawHolds }
 {}

@@ -4,6 +4,5 @@
 mod laws;
 
 pub use laws::{
-    bind_origin_law, interfaces_have_causes, memory_law, origin_law, read_law, read_origin_law,
-    run_law,
+    interfaces_have_causes, memory_law, origin_law, read_law, read_origin_law, run_law,
 };

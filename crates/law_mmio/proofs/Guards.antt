@@ -132,14 +132,15 @@ changed_by (Some w ∷ os) ws offset differs = elim (cases_Bool (enables w.span 
 -- ---- the packet that it is of
 
 -- by its effect in the verdict
-record IsStored (xs : List InterfaceStatus) (place bar : ℕ) (es : List Effect) (ps : List Packet) (n : ℕ) (w : Write) :
+pub record IsStored (xs : List InterfaceStatus) (place bar : ℕ) (es : List Effect) (ps : List Packet) (n : ℕ)
+    (w : Write) :
     Type 0
   where
-    packet : Packet
-    is_packet : slice_get ps n ≡ Some packet
-    effect_is : slice_get es n ≡ Some effect.Stored
-    payload : List ℕ
-    claimed : claimed_write xs place bar (write_read payload (read_head_of packet.head)) ≡ Some w
+    pub packet : Packet
+    pub is_packet : slice_get ps n ≡ Some packet
+    pub effect_is : slice_get es n ≡ Some effect.Stored
+    pub payload : List ℕ
+    pub claimed : claimed_write xs place bar (write_read payload (read_head_of packet.head)) ≡ Some w
 
 pub of_effect : (e : Effect) (o : Option Write) (w : Write) → if_stored e o ≡ Some w → (e ≡ effect.Stored)
     × (o ≡ Some w)
@@ -148,8 +149,8 @@ of_effect e o w is = grind arith
 none_is_not : {A : Type 0} (x : A) → None ≡ Some x → ⊥
 none_is_not x is = absurd cc
 
-stored_at : (xs : List InterfaceStatus) (place bar : ℕ) (plain : List ℕ) (es : List Effect) (ps : List Packet) (n : ℕ)
-    (w : Write) → slice_get (unit_stored_writes xs place bar plain es ps) n ≡ Some (Some w)
+pub stored_at : (xs : List InterfaceStatus) (place bar : ℕ) (plain : List ℕ) (es : List Effect) (ps : List Packet)
+    (n : ℕ) (w : Write) → slice_get (unit_stored_writes xs place bar plain es ps) n ≡ Some (Some w)
     → IsStored xs place bar es ps n w
 stored_at xs place bar plain [] ps n w is = absurd (none_is_not (Some w) is)
 stored_at xs place bar plain (e ∷ es) [] n w is = absurd (none_is_not (Some w) is)
@@ -169,10 +170,10 @@ stored_at xs place bar plain (e ∷ es) (p ∷ ps) (suc n) w is =
     }
 
 -- by its own cause, which says the same at any place of the unit
-abbrev device_effect_of : List InterfaceStatus → UnitName → Packet → Effect
+abbrev pub device_effect_of : List InterfaceStatus → UnitName → Packet → Effect
 device_effect_of xs unit p = if is_sync_packet p then effect.Sync else device_effect xs unit p (read_head_of p.head)
 
-effect_at : (plan : Plan) (policy : Policy) (k link : ℕ) (unit : UnitName) (ps : List Packet) (n : ℕ) (p : Packet)
+pub effect_at : (plan : Plan) (policy : Policy) (k link : ℕ) (unit : UnitName) (ps : List Packet) (n : ℕ) (p : Packet)
     → at_switch plan (device_port link) ≡ false → slice_get ps n ≡ Some p
     → slice_get (effects_each plan policy k (device_port link) unit ps) n
     ≡ Some (device_effect_of (policy.statuses link) unit p)
@@ -184,7 +185,7 @@ effect_at plan policy k link unit (q ∷ ps) (suc n) p off is =
 
 -- ---- why it is stored
 
-not_sync : (s : Bool) (e : Effect) → (if s then effect.Sync else e) ≡ effect.Stored → e ≡ effect.Stored
+pub not_sync : (s : Bool) (e : Effect) → (if s then effect.Sync else e) ≡ effect.Stored → e ≡ effect.Stored
 not_sync true e is = absurd cc
 not_sync false e is = is
 
@@ -271,7 +272,7 @@ moved_shut base None shut = refl
 moved_shut base (Some bar) shut = shut
 
 -- a range that is not open by the topology is not at any base
-shut_at : (p : InterfacePlan) (r : Registers) (bar : ℕ) → has_open_range p.bars bar ≡ false
+pub shut_at : (p : InterfacePlan) (r : Registers) (bar : ℕ) → has_open_range p.bars bar ≡ false
     → has_open_range (bars_of p r) bar ≡ false
 shut_at p r zero shut = moved_shut (slice_index r.bars 0) (slice_get p.bars 0) shut
 shut_at p r (suc zero) shut = moved_shut (slice_index r.bars 1) (slice_get p.bars 1) shut

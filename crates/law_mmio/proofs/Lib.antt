@@ -1,3 +1,4 @@
+pub mod Numbers
 pub mod Units
 pub mod SameWrites
 pub mod Shown
@@ -6,4 +7,4 @@ pub mod Guards
 pub mod RunLocks
 pub mod Starts
 pub mod Law
-mod OnLinks
+pub mod OnLinks

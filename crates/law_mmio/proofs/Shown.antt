@@ -14,16 +14,18 @@ use Rattle.guarded_memory.specs.Happenings.{byte_shown}
 use Rattle.guarded_memory.specs.Contents.{page_counts, fits_range}
 use Rattle.law_mmio.specs.Mmio.{ShowsRange, ShowsStored}
 use Rattle.law_mmio.proofs.SameWrites.{same_writes}
+use Rattle.law_mmio.specs.Stored.{stored_byte, writes_since_zero}
+use Rattle.law_mmio.proofs.Numbers.{last_byte}
 use Rattle.script_events.specs.declared.event.Event.TheVariants as event
 use Rattle.script_events.specs.declared.event.AccessEvent.TheVariants as ae
 use Rattle.event_verdicts.specs.declared.verdict.Verdict.TheVariants as v
 use Rattle.event_verdicts.specs.declared.access.AccessVerdict.TheVariants as access
 
-length-bytes : (f : ℕ → ℕ) (at n : ℕ) → length (bytes_from f at n) ≡ n
+pub length-bytes : (f : ℕ → ℕ) (at n : ℕ) → length (bytes_from f at n) ≡ n
 length-bytes f at zero = refl
 length-bytes f at (suc n) = ap (λ (k : ℕ). suc k) (length-bytes f (at + 1) n)
 
-bytes_at : (f : ℕ → ℕ) (at n k : ℕ) → k < n → slice_get (bytes_from f at n) k ≡ Some (f (at + k))
+pub bytes_at : (f : ℕ → ℕ) (at n k : ℕ) → k < n → slice_get (bytes_from f at n) k ≡ Some (f (at + k))
 bytes_at f at zero k less = absurd (omega arith)
 bytes_at f at (suc n) zero less = let e : at ≡ at + 0 = omega arith in ap (λ (a : ℕ). Some (f a)) e
 bytes_at f at (suc n) (suc k) less =
@@ -48,8 +50,12 @@ shown_of plan h i bar offset len bytes cause (Some x) at is =
       interface = x;
       known = at;
       as_many = ap length same ∙ length-bytes shown offset len;
-      shown = λ k less. ap (λ (bs : List ℕ). slice_get bs k) same ∙ bytes_at shown offset len k less
-          ∙ ap (λ ws. Some (byte_last_written ws (offset + k))) (same_writes plan h cause x bar known);
+      shown = λ k less. record {
+        byte = stored_byte plan h x bar (offset + k);
+        is = ap (λ (bs : List ℕ). slice_get bs k) same ∙ bytes_at shown offset len k less
+            ∙ ap (λ ws. Some (byte_last_written ws (offset + k))) (same_writes plan h cause x bar known);
+        left = last_byte (writes_since_zero plan h x bar) (offset + k);
+      };
     }
 
 pub shows_stored : (plan : Plan) (h : History) (e : Event) (w : Verdict) → CauseLaw plan h → w ≡ due plan h e

@@ -21,7 +21,6 @@ use Rattle.spec_interfaces.specs.Floors.{greatest_on, posted_receiver, draw_at_d
 unfoldable use Rattle.spec_interfaces.specs.Floors.{device_floor}
 use Rattle.interface_state.specs.declared.states.TdiState.{TdiState}
 use Rattle.interface_state.specs.declared.states.TdiState.TheVariants as tdi
-use Rattle.interface_state.specs.declared.states.Lock.{Lock}
 use Rattle.law_mmio.specs.Mmio.{IsStartedUnder, KeepsFloors}
 use Rattle.law_mmio.proofs.SameWrites.{and_none}
 use Rattle.law_mmio.proofs.Secure.{Held, secure_parts, locked_secure}

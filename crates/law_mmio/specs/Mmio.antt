@@ -14,7 +14,8 @@ use Rattle.interface_state.specs.Machine.{all_bindings}
 use Rattle.interface_state.specs.Bindings.{floor_on}
 use Rattle.trusted_memory.specs.Spans.{enables}
 use Rattle.guarded_memory.specs.Statuses.{has_open_range}
-use Rattle.law_mmio.specs.Stored.{stores, stored_byte}
+use Rattle.law_mmio.specs.Stored.{stores, stored_byte, writes_since_zero}
+use Rattle.law_mmio.specs.Numbers.{ShowsByte}
 use Rattle.ide_types.specs.Ports.{device_port}
 use Rattle.script_events.specs.declared.event.Event.TheVariants as event
 use Rattle.script_events.specs.declared.event.AccessEvent.TheVariants as ae
@@ -24,12 +25,14 @@ use Rattle.event_verdicts.specs.declared.access.AccessVerdict.TheVariants as acc
 
 -- ---- what is shown
 
--- the bytes of the range of a BAR of an interface, from an offset on
+-- the bytes of the range of a BAR of an interface, from an offset on: each is that of the last stored write that names
+-- it, since the range was last set to 0, at its offset less the write's own
 pub record ShowsRange (plan : Plan) (h : History) (i bar offset len : ℕ) (bytes : List ℕ) : Type 0 where
   pub interface : Site
   pub known : site_at plan i ≡ Some interface
   pub as_many : length bytes ≡ len
-  pub shown : (k : ℕ) → k < len → slice_get bytes k ≡ Some (stored_byte plan h interface bar (offset + k))
+  pub shown : (k : ℕ) → k < len
+      → ShowsByte (writes_since_zero plan h interface bar) (offset + k) (slice_get bytes k)
 
 -- at a verdict that shows them, they are those that the stored writes left
 abbrev pub ShowsStored : Plan → History → Event → Verdict → Type 0

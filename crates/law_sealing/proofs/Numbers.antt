@@ -33,7 +33,7 @@ use Rattle.ide_prefix.proofs.Units.{sub_small}
 -- ---- keys
 
 -- if no two elements are equal, equal ones stand at one place
-one_place : (keys : List (List ℕ)) (m n : ℕ) → AllPairs (λ key other. key ≢ other) keys → m < length keys
+pub one_place : (keys : List (List ℕ)) (m n : ℕ) → AllPairs (λ key other. key ≢ other) keys → m < length keys
     → n < length keys → slice_index_or keys m [] ≡ slice_index_or keys n [] → m ≡ n
 one_place keys m n differ m_less n_less same = elim (cases_lt m n) [
   | inl less ↦ absurd (differ m n [] less n_less same)
@@ -43,7 +43,7 @@ one_place keys m n differ m_less n_less same = elim (cases_lt m n) [
   ]
 ]
 
-direction_small : (side : Side) → sent_direction side < 2
+pub direction_small : (side : Side) → sent_direction side < 2
 direction_small side = grind arith
 
 -- two packets are under keys of one draw, direction and sub-stream
@@ -73,7 +73,7 @@ same_key plan fits d e d_less e_less keys =
 
 -- ---- IVs
 
-number_again : (n : ℕ) → n < 2 ^ 64 → big_number 8 (big_bytes 8 n) ≡ n
+pub number_again : (n : ℕ) → n < 2 ^ 64 → big_number 8 (big_bytes 8 n) ≡ n
 number_again n less = big_number-reads_back 8 n [] less
 
 same_number : (d e : SealedPacket) → d.unit < 2 ^ 64 → e.unit < 2 ^ 64 → iv_used d ≡ iv_used e → d.unit ≡ e.unit
@@ -82,10 +82,10 @@ same_number d e d_less e_less ivs = sym (number_again d.unit d_less)
 
 -- ---- packets of one sub-stream and draw
 
-one_begun : (a b : Begun) → Some a ≡ Some b → a ≡ b
+pub one_begun : (a b : Begun) → Some a ≡ Some b → a ≡ b
 one_begun a b is = cc
 
-same_sealed : (x y : SealedPacket × Packet) → Some x ≡ Some y → x ≡ y
+pub same_sealed : (x y : SealedPacket × Packet) → Some x ≡ Some y → x ≡ y
 same_sealed x y is = cc
 
 -- none between two packets of one number ends a unit

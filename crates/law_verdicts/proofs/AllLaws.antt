@@ -1,11 +1,8 @@
 -- The laws of verdicts.
-use Rattle.std.specs.Prelude.{◌∷◌}
 use Rattle.law_locks.proofs.Fronts.{pairs_due}
-use Rattle.law_verdicts.specs.Statements.{FailedLawHolds, TrustLawHolds, NamedLawHolds, EffectLawHolds, AnswerLawHolds}
-use Rattle.law_verdicts.specs.Verdicts.{IsOfWhole, TrustsAsked, IsNoneExactly}
-use Rattle.law_locks.proofs.{interface_cause}
+use Rattle.law_verdicts.specs.Statements.{FailedLawHolds, NamedLawHolds, EffectLawHolds, AnswerLawHolds}
+use Rattle.law_verdicts.specs.Verdicts.{IsOfWhole, IsNoneExactly}
 use Rattle.law_verdicts.proofs.Failed.{of_whole}
-use Rattle.law_verdicts.proofs.Trusts.{trusts_asked}
 use Rattle.law_verdicts.proofs.Named.{none_exactly}
 use Rattle.law_verdicts.specs.Effects.{HasExactEffects}
 use Rattle.law_verdicts.proofs.Effects.{exact_effects}
@@ -14,10 +11,6 @@ use Rattle.law_verdicts.proofs.Answers.{answers_whole}
 
 pub failed_law : FailedLawHolds
 failed_law plan h cause = pairs_due plan IsOfWhole (λ g e w c. of_whole plan g e w c.0) h cause
-
-pub trust_law : TrustLawHolds
-trust_law plan h cause =
-    pairs_due plan TrustsAsked (λ g e w c. trusts_asked plan g e w c.0 (interface_cause plan ((e, w) ∷ g) c).0) h cause
 
 pub named_law : NamedLawHolds
 named_law plan h cause = pairs_due plan (IsNoneExactly plan) (none_exactly plan) h cause

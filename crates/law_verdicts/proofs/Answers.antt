@@ -102,12 +102,12 @@ send_ends plan h port (OnStream t stream) trusted =
 
 -- ---- its header and payload
 
-head_is : (plan : Plan) (ahead bytes : List ℕ) (d : SealedPacket) (unfinished : List Packet) (t : Tlp)
+pub head_is : (plan : Plan) (ahead bytes : List ℕ) (d : SealedPacket) (unfinished : List Packet) (t : Tlp)
     → d.sync ≡ false → read_of bytes ≡ Ok t → (packet_of plan ahead bytes d unfinished).head ≡ head_bytes (header t)
 unfolding packet_of
 head_is plan ahead bytes d unfinished t sync reads = rw (sync, reads) refl
 
-body_is : (plan : Plan) (ahead bytes : List ℕ) (d : SealedPacket) (unfinished : List Packet) (t : Tlp)
+pub body_is : (plan : Plan) (ahead bytes : List ℕ) (d : SealedPacket) (unfinished : List Packet) (t : Tlp)
     → d.sync ≡ false → read_of bytes ≡ Ok t → (packet_of plan ahead bytes d unfinished).body
     ≡ masked_bytes (key_of plan d.draw (sub_stream_of d)) (iv_of d.sub d.unit) (length (encrypted_bytes unfinished))
     (body t)

@@ -44,6 +44,7 @@ use Rattle.event_verdicts.specs.declared.verdict.BlockCause.{BlockCause}
 use Rattle.event_verdicts.specs.declared.verdict.BlockCause.TheVariants as blocks
 use Rattle.ide_types.specs.declared.interface.BarPlan.{BarPlan}
 use Rattle.law_locks.proofs.{effects_there}
+use Rattle.law_mmio.proofs.Numbers.{claims_least}
 use Rattle.event_verdicts.specs.declared.verdict.Effect.TheVariants as effect
 
 -- ---- what a cause says of reads
@@ -447,6 +448,7 @@ accepted_effects plan h e port unit effects is =
       };
       stores = ap (λ (es : List Effect). map is_stored es) are ∙ all_stored plan policy n at unit ps;
       waits = ap (λ (es : List Effect). map is_waiting_effect es) are ∙ all_waiting plan policy n at unit ps;
+      claims = claims_least (policy.statuses at.line);
     }
 
 pub exact_effects : (plan : Plan) (h : History) (e : Event) (w : Verdict) → w ≡ due plan h e

@@ -1,35 +1,22 @@
--- A failed stream is dead at its port.
-use Rattle.spec_links.proofs.Terms.{◌≡◌, ℕ, ◌∷◌, Bool, true, false, List, [], Option, Some, None, Result, Ok, Err, refl}
-use Rattle.spec_links.proofs.Terms.{ap, sym, subst, ◌∙◌, arith, if◌then◌else◌, unwrap_or, is_some, AllByRecursion, Plan}
-use Rattle.spec_links.proofs.Terms.{PortName, Event, Verdict, SealedPacket, Packet, History, Send, Access, Dump}
-use Rattle.spec_links.proofs.Terms.{Establish, Refresh, Stop, Reset, Status, Interface, Pass, Alter, Arrive, Cut}
-use Rattle.spec_links.proofs.Terms.{UnitName, has_failed, is_quiet, first_that_holds, refusals, lanes_at, send_due}
-use Rattle.spec_links.proofs.Terms.{answer_first, site_answer, completion_verdict, outgoing_completion, judged_by}
-use Rattle.spec_links.proofs.Terms.{answer_judged, binding_cause, is_before, WaitingRead, waiting_reads, Site}
-use Rattle.spec_links.proofs.Terms.{site_of_requester, granted_to, live_key, lane_out, Cpl, ArrivedBytes, arrival_due}
-use Rattle.spec_links.proofs.Terms.{before_tag_of_cut, has_link, sending_port, arrival_of_event, packet_by_number}
-use Rattle.spec_links.proofs.Terms.{sealed_packets, dump_due, stream_plan}
+-- A failed stream is dead at its port; and what a fail verdict tells, if it was due: a packet of the stream came there.
+use Rattle.spec_links.proofs.Terms.{◌≡◌, ℕ, ◌∷◌, Bool, true, false, List, [], Option, Some, None, Result, Ok, Err}
+use Rattle.spec_links.proofs.Terms.{refl, ap, ◌∙◌, arith, if◌then◌else◌, AllByRecursion, Plan, PortName, Event, Verdict}
+use Rattle.spec_links.proofs.Terms.{SealedPacket, Packet, History, UnitName, has_failed, ArrivedBytes}
+use Rattle.spec_links.proofs.Terms.{before_tag_of_cut, sending_port, arrival_of_event}
+use Rattle.std.proofs.lemmas.Bool.{true≢false}
+use Rattle.ide_types.specs.declared.sub.SubKind.{SubKind}
+use Rattle.ide_types.specs.declared.sub.FailCause.{FailCause}
 use Rattle.spec_links.specs.Terms.{CutValue, PacketFault}
-unfoldable use Rattle.spec_links.proofs.Terms.{due, key_due, before_tag}
-use Rattle.spec_links.specs.Due.{through_due, ending_due, forward_first, forward_out}
-use Rattle.spec_links.specs.Hops.{HopTlp, has_hop, leaving_end}
-use Rattle.spec_links.specs.Memory.{hop_waiting}
-use Rattle.ide_types.specs.declared.binding.Binding.{Binding}
-use Rattle.ide_types.specs.declared.direction.Direction.{Direction}
-use Rattle.event_verdicts.specs.declared.verdict.BlockCause.{BlockCause}
-use Rattle.script_events.specs.declared.event.Event.TheVariants.{Forward, Absent}
-use Rattle.spec_links.specs.Ports.{may_send, outgoing_at, sealing_end, goes_through}
-use Rattle.spec_links.proofs.Causes.{held_by, accepted_by, Passed}
+unfoldable use Rattle.spec_links.proofs.Terms.{due, before_tag}
+use Rattle.spec_links.specs.Due.{through_due, ending_due}
+use Rattle.spec_links.specs.Ports.{goes_through}
+use Rattle.spec_links.proofs.Causes.{held_by, accepted_by, Came, Passed}
 use Rattle.spec_links.proofs.SealingIs.{sealing_is, AllLive, all_live}
-use Rattle.spec_links.proofs.KeyVerdicts.{establish_due_quiet, refresh_due_quiet, stop_due_quiet, interface_due_quiet}
-use Rattle.spec_links.proofs.KeyVerdicts.{if_quiet, mmio_quiet}
 use Rattle.spec_links.specs.History.{sent_bytes}
-use Rattle.tlp_layout.specs.Outgoing.{Outgoing, NoTlp, OnNone, OnStream, stream_taken}
 use Rattle.ide_prefix.specs.Reading.{PlainTlp, IdePacket, cut_of}
-use Rattle.tlp_layout.specs.Class.{class_of}
-use Rattle.tlp_layout.specs.Tlp.{header}
+use Rattle.law_delivery.proofs.Wholes.{due_arrives}
 use Rattle.law_verdicts.specs.Verdicts.{IsOfWhole}
-use Rattle.script_events.specs.declared.event.AccessEvent.TheVariants as ae
+use Rattle.law_verdicts.proofs.Named.{is_of_arrival, others}
 use Rattle.event_verdicts.specs.declared.verdict.Verdict.TheVariants as v
 
 -- ---- what is sealed
@@ -56,117 +43,55 @@ passed_whole plan h port p unit passed = ap (λ (u : UnitName). has_failed h por
 
 -- ---- what fails
 
-abbrev Fails : History → Verdict → Type 0
-Fails h (v.Fail port stream sub cause) = has_failed h port stream ≡ false
-Fails h w = Unit {0}
+-- a packet of the stream, which had not failed, came to the port
+pub record FailedBy (plan : Plan) (h : History) (e : Event) (port : PortName) (stream : ℕ) : Type 0 where
+  pub packet : Packet
+  pub came : Came plan h e port packet
+  pub of_stream : packet.prefix.stream ≡ stream
+  pub whole : has_failed h port stream ≡ false
 
-quiet_fails : (h : History) (w : Verdict) → is_quiet w ≡ true → Fails h w
-quiet_fails h (v.Fail port stream sub cause) is = absurd cc
-quiet_fails h w is = tt
+fail_is : (plan : Plan) (h : History) (q port : PortName) (p : Packet) (stream : ℕ) (sub : SubKind) (cause : FailCause)
+    → v.Fail port stream sub cause ≡ ending_due plan h q (before_tag_of_cut plan h q (Ok (IdePacket p)))
+    → (q ≡ port) × (p.prefix.stream ≡ stream) × (has_failed h port stream ≡ false)
+fail_is plan h q port p stream sub cause is = (grind arith, grind arith, grind arith)
 
-if_fails : (h : History) (b : Bool) (x y : Verdict) → Fails h x → Fails h y → Fails h (if b then x else y)
-if_fails h true x y one two = one
-if_fails h false x y one two = two
-
-first_fails : (h : History) (xs : List (Bool × Verdict)) (last : Verdict)
-    → AllByRecursion (λ (x : Bool × Verdict). Fails h x.1) xs → Fails h last
-    → Fails h (unwrap_or (first_that_holds xs) last)
-first_fails h [] last all ends = ends
-first_fails h ((true, w) ∷ xs) last all ends = all.0
-first_fails h ((false, w) ∷ xs) last all ends = first_fails h xs last all.1 ends
-
-send_fails : (plan : Plan) (h : History) (port : PortName) (o : Outgoing) (more trusted : Bool)
-    → Fails h (send_due plan h port o more trusted)
-send_fails plan h port (NoTlp f) more trusted = tt
-send_fails plan h port OnNone more trusted = tt
-send_fails plan h port (OnStream t stream) more trusted =
-    first_fails h (refusals (lanes_at plan h port stream) (class_of (header t))) _
-    (tt, (tt, (tt, (tt, (tt, (tt, (tt, (tt, tt)))))))) tt
-
-judged_fails : (plan : Plan) (h : History) (port : PortName) (interface : ℕ) (bound : Binding) (o : Option BlockCause)
-    (out : Outgoing) → Fails h (answer_judged plan h port out (judged_by interface bound o))
-judged_fails plan h port interface bound (Some c) out = tt
-judged_fails plan h port interface bound None out =
-    if_fails h (is_before (live_key h port (lane_out port bound.stream Cpl)) bound.floor) _ _ tt
-    (send_fails plan h port out false true)
-
-answer_by_fails : (plan : Plan) (h : History) (port : PortName) (interface draw : ℕ) (o : Option Binding)
-    (out : Outgoing) → Fails h (completion_verdict plan h port interface draw o out)
-answer_by_fails plan h port interface draw None out = tt
-answer_by_fails plan h port interface draw (Some bound) out =
-    judged_fails plan h port interface bound (binding_cause bound (stream_taken out) draw) out
-
-answer_of_fails : (plan : Plan) (h : History) (port : PortName) (draw : ℕ) (o : Option Site) (out : Outgoing)
-    → Fails h (site_answer plan h port draw o out)
-answer_of_fails plan h port draw None out = tt
-answer_of_fails plan h port draw (Some x) out = answer_by_fails plan h port x.number draw (granted_to h (Some x)) out
-
-answer_first_fails : (plan : Plan) (h : History) (port : PortName) (rs : List WaitingRead) (out : Outgoing)
-    → Fails h (answer_first plan h port rs out)
-answer_first_fails plan h port [] out = tt
-answer_first_fails plan h port (r ∷ rs) out =
-    answer_of_fails plan h port r.draw (site_of_requester plan port.line r.read.requester) out
-
-packet_fails : (plan : Plan) (h : History) (port : PortName) (p : Packet)
-    → Fails h (ending_due plan h port (before_tag_of_cut plan h port (Ok (IdePacket p))))
-packet_fails plan h port p = by (ending_due plan h port (before_tag_of_cut plan h port (Ok (IdePacket p)))) refl
-  where
-    by : (w : Verdict) → w ≡ ending_due plan h port (before_tag_of_cut plan h port (Ok (IdePacket p))) → Fails h w
-    by (v.Fail q stream sub cause) is = grind arith
-    by w is = tt
-
-cut_fails : (plan : Plan) (h : History) (port : PortName) (r : Result CutValue PacketFault)
-    → Fails h (ending_due plan h port (before_tag_of_cut plan h port r))
-cut_fails plan h port (Err f) = tt
-cut_fails plan h port (Ok PlainTlp) = tt
-cut_fails plan h port (Ok (IdePacket p)) = packet_fails plan h port p
-
-arrival_fails : (plan : Plan) (h : History) (o : Option ArrivedBytes) → Fails h (arrival_due plan h o)
+fails_of : (plan : Plan) (h : History) (e : Event) (a : ArrivedBytes) (port : PortName) (stream : ℕ) (sub : SubKind)
+    (cause : FailCause) → arrival_of_event plan h e ≡ Some a
+    → v.Fail port stream sub cause ≡ ending_due plan h a.port (before_tag plan h a) → FailedBy plan h e port stream
 unfolding before_tag
-arrival_fails plan h None = tt
-arrival_fails plan h (Some a) = by (goes_through plan a.port a.bytes)
+fails_of plan h e a port stream sub cause came is = by (goes_through plan a.port a.bytes) is
   where
-    by : (b : Bool) → Fails h (ending_due plan h a.port
-        (if b then Err (through_due plan a.port) else before_tag_of_cut plan h a.port (cut_of a.bytes)))
-    by true = tt
-    by false = cut_fails plan h a.port (cut_of a.bytes)
+    cut : (r : Result CutValue PacketFault) → cut_of a.bytes ≡ r
+        → v.Fail port stream sub cause ≡ ending_due plan h a.port (before_tag_of_cut plan h a.port r)
+        → FailedBy plan h e port stream
+    cut (Err f) of is = absurd cc
+    cut (Ok PlainTlp) of is = absurd cc
+    cut (Ok (IdePacket p)) of is =
+        let told = fail_is plan h a.port port p stream sub cause is in
+        record {
+          packet = p;
+          came = record {
+            bytes = a.bytes;
+            arrival = came ∙ ap (λ (q : PortName). Some (record { port = q; bytes = a.bytes })) told.0;
+            cut = of;
+          };
+          of_stream = told.1;
+          whole = told.2;
+        }
 
-dump_quiet : (n : ℕ) (o : Option (SealedPacket × Packet)) → is_quiet (dump_due n o) ≡ true
-dump_quiet n o = grind arith
+    by : (b : Bool) → v.Fail port stream sub cause ≡ ending_due plan h a.port
+        (if b then Err (through_due plan a.port) else before_tag_of_cut plan h a.port (cut_of a.bytes))
+        → FailedBy plan h e port stream
+    by true is = absurd cc
+    by false is = cut (cut_of a.bytes) refl is
 
-forward_first_fails : (plan : Plan) (h : History) (link : ℕ) (d : Direction) (xs : List HopTlp)
-    → Fails h (forward_first plan h link d xs)
-forward_first_fails plan h link d [] = tt
-forward_first_fails plan h link d (x ∷ xs) =
-    send_fails plan h (leaving_end link d) (forward_out plan h link d) false x.t
-
-fails : (plan : Plan) (h : History) (e : Event) → Fails h (due plan h e)
-unfolding due key_due
-fails plan h (Send port bytes more trusted) =
-    if_fails h (may_send plan port) _ v.Nothing
-    (send_fails plan h (sealing_end plan port bytes) (outgoing_at plan (sealing_end plan port bytes) bytes) more
-    trusted)
-    tt
-fails plan h (Access (ae.Answer link)) =
-    if_fails h (has_link plan link) _ v.Nothing
-    (answer_first_fails plan h (sending_port plan (Access (ae.Answer link))) (waiting_reads plan h link)
-    (outgoing_completion plan h link)) tt
-fails plan h (Access (ae.Mmio i bar offset len)) = quiet_fails h _ (mmio_quiet plan h i bar offset len)
-fails plan h (Dump n) = quiet_fails h _ (dump_quiet n (packet_by_number (sealed_packets plan h) n))
-fails plan h (Establish line stream lose) = quiet_fails h _ (establish_due_quiet plan h line stream lose)
-fails plan h (Refresh line stream lose) = quiet_fails h _ (refresh_due_quiet plan h line stream lose)
-fails plan h (Stop line stream lose) = quiet_fails h _ (stop_due_quiet plan h line stream lose)
-fails plan h (Reset link ends) = quiet_fails h _ (if_quiet (has_link plan link) (v.Reset link) v.Nothing refl refl)
-fails plan h (Status line stream) =
-    quiet_fails h _ (if_quiet (is_some (stream_plan plan line stream)) _ v.Nothing refl refl)
-fails plan h (Interface e) = quiet_fails h _ (interface_due_quiet plan h e)
-fails plan h (Pass n) = arrival_fails plan h (arrival_of_event plan h (Pass n))
-fails plan h (Alter n at mask) = arrival_fails plan h (arrival_of_event plan h (Alter n at mask))
-fails plan h (Cut n len) = arrival_fails plan h (arrival_of_event plan h (Cut n len))
-fails plan h (Forward link d) =
-    if_fails h (has_hop plan link) _ v.Nothing (forward_first_fails plan h link d (hop_waiting plan h link d)) tt
-fails plan h Absent = tt
-fails plan h (Arrive port bytes) = arrival_fails plan h (arrival_of_event plan h (Arrive port bytes))
+pub failed_by : (plan : Plan) (h : History) (e : Event) (port : PortName) (stream : ℕ) (sub : SubKind)
+    (cause : FailCause) → v.Fail port stream sub cause ≡ due plan h e → FailedBy plan h e port stream
+failed_by plan h e port stream sub cause is = by (arrival_of_event plan h e) refl
+  where
+    by : (o : Option ArrivedBytes) → arrival_of_event plan h e ≡ o → FailedBy plan h e port stream
+    by None none = absurd (true≢false (ap is_of_arrival is ∙ others plan h e none))
+    by (Some a) came = fails_of plan h e a port stream sub cause came (is ∙ due_arrives plan h e a came)
 
 -- ---- the pair
 
@@ -176,5 +101,5 @@ of_whole plan h e (v.Held port unit) is =
     let by = held_by plan h e port unit is in passed_whole plan h port by.packet unit by.passed
 of_whole plan h e (v.Accepted port unit effects) is =
     let by = accepted_by plan h e port unit effects is in passed_whole plan h port by.packet unit by.passed
-of_whole plan h e (v.Fail port stream sub cause) is = subst (Fails h) (sym is) (fails plan h e)
+of_whole plan h e (v.Fail port stream sub cause) is = (failed_by plan h e port stream sub cause is).whole
 of_whole plan h e w is = tt

@@ -1,6 +1,5 @@
-pub mod Failed
-pub mod Trusts
 pub mod Named
+pub mod Failed
 pub mod Effects
 pub mod Answers
 pub mod AllLaws
@@ -12,4 +11,4 @@ pub use Rattle.law_locks.proofs.{effects_there, head_of, owner_means, read_law, 
 pub use Rattle.law_locks.proofs.{of_effect, run_state, same_locks, trusted_before, trusted_there}
 pub use Rattle.law_locks.proofs.Runs.{Later, Since, IsStillStarted, later}
 pub use Rattle.law_locks.proofs.SecurePeers.{bound_secure}
-pub use Rattle.law_locks.proofs.{bind_origin_law, keeps_floors}
+pub use Rattle.law_locks.proofs.{keeps_floors, bind_origin_law}

@@ -20,6 +20,7 @@ use Rattle.guarded_memory.specs.Statuses.{is_open_range, is_config_unlocked}
 use Rattle.law_locks.specs.Fronts.{AtPairs}
 use Rattle.event_verdicts.specs.declared.verdict.BlockCause.TheVariants.{Full}
 use Rattle.event_verdicts.specs.declared.verdict.Effect.TheVariants.{Queued, Blocked, Waiting}
+use Rattle.law_mmio.specs.Numbers.{ClaimsLeast}
 
 -- ---- reads
 
@@ -122,6 +123,9 @@ pub record ExactEffects (plan : Plan) (h : History) (e : Event) (port : PortName
   pub reads : QueuesAsked plan h e port unit effects
   pub stores : StoresTaken plan h e port unit effects
   pub waits : WaitsToBeForwarded plan h e port unit effects
+  -- of any double words the claim is by the first interface there that has memory space on and a BAR with all of them,
+  -- and by its first such BAR
+  pub claims : (s : Span) → ClaimsLeast (history_statuses plan h (port_of plan port).line) s
 
 abbrev pub HasExactEffects : Plan → History → Event → Verdict → Type 0
 HasExactEffects plan h e (Accepted port unit effects) = ExactEffects plan h e port unit effects

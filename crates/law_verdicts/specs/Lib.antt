@@ -3,7 +3,7 @@ pub mod Effects
 pub mod Answers
 pub mod Statements
 -- the laws, with those of locks
-pub use Rattle.law_verdicts.specs.Verdicts.{FailedLaw, NamedLaw, TrustLaw}
+pub use Rattle.law_verdicts.specs.Verdicts.{FailedLaw, NamedLaw}
 pub use Rattle.law_verdicts.specs.Effects.{EffectLaw}
 pub use Rattle.law_verdicts.specs.Answers.{AnswerLaw}
 pub use Rattle.law_locks.specs.Locks.{ReportsAreShown, LockLaw, UnlockedIsScrubbed, ViewsAreTrue}

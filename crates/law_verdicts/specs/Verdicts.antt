@@ -45,16 +45,6 @@ asks_trust e = false
 abbrev pub is_at_host : PortName → Bool
 is_at_host end = is_host end.side && is_hosted end.line
 
-abbrev pub IsTrustAsked : Event → SealedPacket → Type 0
-IsTrustAsked e d = is_at_host d.port ≡ true → d.t ≡ true → asks_trust e ≡ true
-
-abbrev pub TrustsAsked : History → Event → Verdict → Type 0
-TrustsAsked h e (v.Sealed ds) = AllByRecursion (IsTrustAsked e) ds
-TrustsAsked h e w = Unit {0}
-
-abbrev pub TrustLaw : Plan → History → Type 0
-TrustLaw plan h = AtPairs TrustsAsked h
-
 -- ---- names
 
 -- what an event on an interface names beside it: a stream between its device and another, or a register

@@ -1,16 +1,10 @@
 //! Laws of verdicts, of every history in which each verdict is the one that is due.
 
 ghost use Rattle.law_verdicts.specs.Statements.{AnswerLawHolds, EffectLawHolds, FailedLawHolds, NamedLawHolds};
-ghost use Rattle.law_verdicts.specs.Statements.{TrustLawHolds};
 
 /// While a stream is failed at a port, nothing of it is sealed, held, accepted or failed there.
 pub fn failed_law()
     ensures { FailedLawHolds }
-{}
-
-/// A packet that a host's port seals has T only if its send asked for it, or if it answers a read.
-pub fn trust_law()
-    ensures { TrustLawHolds }
 {}
 
 /// A verdict is `none` exactly if something that its event names does not exist: a line or its stream, a link, a hop, a

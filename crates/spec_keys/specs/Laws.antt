@@ -1,7 +1,8 @@
 -- What the keys of a history obey.
 use Rattle.std.specs.Prelude.{◌≡◌, ◌≢◌, ◌≤◌, ◌<◌, ◌∷◌, ◌==◌, ◌&&◌, ◌||◌, if◌then◌else◌, ℕ, Bool, true, false, not}
-use Rattle.std.specs.Prelude.{Option, Some, None, List, []}
-use Rattle.spec_keys.specs.Terms.{Side, Event, Verdict}
+use Rattle.std.specs.Prelude.{Option, Some, None, List, [], take}
+use Rattle.ide_types.specs.Ports.{keyed_status}
+use Rattle.spec_keys.specs.Terms.{Side, Event, StreamStatus, Verdict}
 use Rattle.script_events.specs.declared.event.Event.TheVariants as event
 use Rattle.event_verdicts.specs.declared.verdict.Operation.TheVariants as op
 use Rattle.ide_types.specs.declared.status.StreamStatus.TheVariants as status
@@ -10,7 +11,7 @@ use Rattle.spec_keys.specs.Places.{KeyPlan, KeyPlace}
 use Rattle.spec_keys.specs.Keys.{Touch, Go, Seal, Accept, Keys, keys, key_in, draw_of_keyed, on_in, sender_draw}
 use Rattle.spec_keys.specs.Operations.{Idle, Establishing, Up, Refreshing, work_of}
 use Rattle.spec_keys.specs.History.{History, op_of, draws, moments, came, kept_draw, draw_on_at, history_status}
-use Rattle.spec_keys.specs.History.{go_exchange, manager, touches}
+use Rattle.spec_keys.specs.History.{failed_there, go_exchange, has_all, has_key, manager, touches, touches_after}
 use Rattle.spec_keys.specs.Due.{key_due}
 
 -- ---- the cause of each verdict
@@ -168,12 +169,31 @@ abbrev pub OperationsSettle : History → Type 0
 OperationsSettle [] = Unit {0}
 OperationsSettle ((e, verdict) ∷ h) = SettledAt h e verdict × OperationsSettle h
 
--- No move of a refresh takes a port out of Secure.
+-- ---- the moments of one event
+
+-- what an event does to a place, in order
+abbrev pub touches_by : History → Event → Verdict → KeyPlace → List Touch
+touches_by h e verdict p = touches (manager h).ops (draws h) e verdict p
+
+-- The keys of a place in the midst of an event that touched each place this many times so far.
+abbrev pub keys_within : History → Event → Verdict → (KeyPlace → ℕ) → KeyPlace → Keys
+keys_within h e verdict so_far p =
+    keys p.sends (touches_after (moments h p) (take (so_far p) (touches_by h e verdict p)))
+
+-- and the status of a stream at an end, if the event brings no arrival that fails
+abbrev pub status_within : History → Event → Verdict → (KeyPlace → ℕ) → Side → ℕ → ℕ → StreamStatus
+status_within h e verdict so_far side line stream =
+    keyed_status (failed_there h side line stream) (has_key (keys_within h e verdict so_far) side line stream)
+    (has_all (keys_within h e verdict so_far) side line stream)
+
+-- No move of a refresh takes a port out of Secure: not in the midst of the event, whichever places its exchanges
+-- reached so far, and not at its end.
 abbrev pub StaysSecureAtEvent : History → Event → Verdict → Type 0
 StaysSecureAtEvent h (event.Refresh line stream loss) verdict =
     (side : Side) → history_status h side line stream ≡ status.Secure
-    → history_status ((event.Refresh line stream loss, verdict)
-    ∷ h) side line stream ≡ status.Secure
+    → ((so_far : KeyPlace → ℕ)
+    → status_within h (event.Refresh line stream loss) verdict so_far side line stream ≡ status.Secure)
+    × (history_status ((event.Refresh line stream loss, verdict) ∷ h) side line stream ≡ status.Secure)
 StaysSecureAtEvent h e verdict = Unit {0}
 
 abbrev pub StaysSecure : History → Type 0

@@ -1,0 +1,5 @@
+pub mod Inert
+pub mod Resets
+pub mod Switches
+pub mod StreamsApart
+pub mod Statements

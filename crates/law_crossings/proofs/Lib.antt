@@ -1,0 +1,12 @@
+pub mod HopTrust
+pub mod Joined
+pub mod HopTaken
+pub mod HopSealed
+pub mod Unforged
+pub mod HopOrder
+pub mod Split
+pub mod HopPlaces
+pub mod HopBehind
+pub mod HopAfter
+pub mod HopPosted
+pub mod HopPostedLaw

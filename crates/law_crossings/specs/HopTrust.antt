@@ -1,0 +1,47 @@
+-- Nothing is trusted on a hop: what comes on a segment of it is no interface's, and no answer goes there.
+use Rattle.std.specs.Prelude.{◌≡◌, ◌||◌, Bool, true, false, Some, slice_get, ℕ}
+use Rattle.ide_types.specs.Lines.{is_near_hop_line, is_far_hop_line}
+use Rattle.ide_types.specs.declared.port.Side.{Side}
+use Rattle.ide_types.specs.declared.port.Side.TheVariants.{Host, Device}
+use Rattle.spec_links.specs.Terms.{AllByRecursion, Plan, Event, Access, Effect, Verdict, Accepted, Sealed, SealedPacket}
+use Rattle.spec_links.specs.Terms.{Packet, PortName, History}
+use Rattle.spec_links.specs.Memory.{unit_ended}
+use Rattle.law_locks.specs.Fronts.{AtPairs}
+use Rattle.script_events.specs.declared.event.AccessEvent.TheVariants as ae
+use Rattle.event_verdicts.specs.declared.verdict.Effect.TheVariants as effect
+
+-- a segment of a hop
+abbrev pub is_hop_line : ℕ → Bool
+is_hop_line line = is_near_hop_line line || is_far_hop_line line
+
+-- of a packet with T or without it: trusted memory took it, or will answer it, or it was stored as a trusted write
+abbrev pub is_trusted_effect : Effect → Bool → Bool
+is_trusted_effect effect.Applied t = true
+is_trusted_effect effect.Queued t = true
+is_trusted_effect effect.Stored t = t
+is_trusted_effect e t = false
+
+-- the end of a hop at its device
+abbrev pub is_device_hop_end : PortName → Bool
+is_device_hop_end end = by end.side
+  where
+    by : Side → Bool
+    by Host = false
+    by Device = is_far_hop_line end.line
+
+-- No packet of a unit that came on a segment of a hop has such an effect, and no answer is sealed there. The end of a
+-- hop at its device seals no packet with T.
+abbrev pub TrustsNoHop : Plan → History → Event → Verdict → Type 0
+TrustsNoHop plan h (Access (ae.Answer link)) (Sealed ds) =
+    AllByRecursion (λ (d : SealedPacket). is_hop_line d.port.line ≡ false) ds
+TrustsNoHop plan h e (Sealed ds) =
+    AllByRecursion (λ (d : SealedPacket). is_device_hop_end d.port ≡ true → d.t ≡ false) ds
+TrustsNoHop plan h e (Accepted port unit effects) =
+    is_hop_line port.line ≡ true → (n : ℕ) (p : Packet) (x : Effect)
+    → slice_get (unit_ended plan h e port unit) n ≡ Some p → slice_get effects n ≡ Some x
+    → is_trusted_effect x p.prefix.t ≡ false
+TrustsNoHop plan h e w = Unit {0}
+
+-- at each pair
+abbrev pub HopTrustLaw : Plan → History → Type 0
+HopTrustLaw plan h = AtPairs (TrustsNoHop plan) h

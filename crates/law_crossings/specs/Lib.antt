@@ -1,0 +1,3 @@
+pub mod HopTrust
+pub mod HopOrder
+pub mod Statements

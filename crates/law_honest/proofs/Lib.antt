@@ -1,0 +1,11 @@
+pub mod PostedCounts
+pub mod ByOrder
+pub mod Kept
+pub mod Clean
+pub mod Coming
+pub mod Next
+pub mod Stands
+pub mod Pairs
+pub mod Honest
+pub mod Fresh
+pub mod Passes

@@ -1,0 +1,3 @@
+pub mod ByOrder
+pub mod Honest
+pub mod Statements

@@ -1,0 +1,12 @@
+pub mod InUse
+pub mod Stops
+pub mod Refreshes
+pub mod Limits
+pub mod Forgeries
+pub mod Statements
+-- the laws
+pub use Rattle.law_key_use.specs.InUse.{KeysInUse}
+pub use Rattle.law_key_use.specs.Stops.{StopTakesKeys}
+pub use Rattle.law_key_use.specs.Refreshes.{RefreshTakes}
+pub use Rattle.law_key_use.specs.Limits.{KeyLimits}
+pub use Rattle.law_key_use.specs.Forgeries.{ForgeriesAreOfCipher}

@@ -1,0 +1,13 @@
+pub mod Keying
+pub mod Refreshing
+pub mod AfterKeys
+pub mod AfterInterfaces
+pub mod Planned
+pub mod Apart
+pub mod Recovered
+pub mod Nonces
+pub mod Operations
+pub mod Shown
+pub mod Blocks
+pub mod Failures
+pub mod AllLaws

@@ -1,0 +1,6 @@
+pub mod Choice
+pub mod Trust
+pub mod Sends
+pub mod Origins
+pub mod Covered
+pub mod Statements

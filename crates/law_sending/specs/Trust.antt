@@ -1,0 +1,80 @@
+-- Which sealed packets have T.
+use Rattle.std.specs.Prelude.{◌≡◌, ◌↔◌, ℕ, ◌&&◌, Bool, true, false, not, nat_le, List, Some, length, slice_get}
+use Rattle.spec_links.specs.Terms.{AllByRecursion, Plan, PortName, Event, SealedPacket, Verdict, History, read_of}
+use Rattle.spec_links.specs.History.{sent_bytes}
+use Rattle.spec_links.specs.Hops.{HopTlp, entering_end, leaving_end}
+use Rattle.spec_links.specs.HopLaws.{tlps_since_reset}
+use Rattle.spec_links.specs.Memory.{accepted_tlps}
+use Rattle.spec_links.specs.Ports.{at_switch}
+use Rattle.spec_keys.specs.Places.{is_host}
+use Rattle.ide_types.specs.Ends.{port_beside_end}
+use Rattle.ide_types.specs.Lines.{is_link_line, is_far_hop_line}
+use Rattle.ide_types.specs.declared.direction.Direction.{Direction}
+use Rattle.spec_interfaces.specs.Sites.{Site}
+use Rattle.spec_interfaces.specs.Cause.{owner_read}
+use Rattle.spec_interfaces.specs.Devices.{interface_at}
+use Rattle.interface_state.specs.declared.states.Lock.{Lock}
+use Rattle.interface_state.specs.declared.states.TdiState.TheVariants.{Run}
+use Rattle.spec_interfaces.specs.Laws.{OwnerIsBound}
+use Rattle.law_locks.specs.Fronts.{AtPairs}
+use Rattle.law_verdicts.specs.Verdicts.{asks_trust, is_at_host}
+use Rattle.script_events.specs.declared.event.Event.TheVariants as event
+use Rattle.event_verdicts.specs.declared.verdict.Verdict.TheVariants as v
+
+-- ---- ends
+
+-- a device's end of its link, of the segment of its hop, and of a stream between devices
+abbrev pub is_at_device : PortName → Bool
+is_at_device end = not (is_host end.side) && is_link_line end.line
+
+abbrev pub is_at_device_hop : PortName → Bool
+is_at_device_hop end = not (is_host end.side) && is_far_hop_line end.line
+
+abbrev pub is_at_peer : PortName → Bool
+is_at_peer end = nat_le 24 end.line
+
+-- ---- what sets T
+
+-- The owner of the TLP of these bytes, the interface of the link's device whose requester ID is that of the request or
+-- the completer of the completion, is in RUN, and its lock names the stream.
+pub record OwnerRuns (plan : Plan) (h : History) (link stream : ℕ) (bytes : List ℕ) : Type 0 where
+  pub interface : Site
+  pub owns : owner_read plan link (read_of bytes) ≡ Some interface
+  pub lock : Lock
+  pub runs : (interface_at plan h interface).state ≡ Run lock
+  pub names : lock.stream ≡ stream
+
+-- the first TLP that was accepted at a switch and not sealed behind it, since the link's last reset
+abbrev pub IsFirstWaiting : Plan → History → ℕ → Direction → HopTlp → Type 0
+IsFirstWaiting plan h link d x = slice_get (accepted_tlps plan h link (entering_end link d))
+    (length (tlps_since_reset plan h link (leaving_end link d))) ≡ Some x
+
+-- T is that of the TLP that is forwarded
+pub record HasForwardedT (plan : Plan) (h : History) (e : Event) (d : SealedPacket) : Type 0 where
+  pub link : ℕ
+  pub way : Direction
+  pub forwards : e ≡ event.Forward link way
+  pub first : HopTlp
+  pub waits : IsFirstWaiting plan h link way first
+  pub t_is : d.t ≡ first.t
+
+-- The T of a packet that carries a TLP, by the end that sealed it: at a host's it is as the event asks, at a device's
+-- as its interfaces are, and at a switch as it came. A sync packet has none.
+pub record HasItsT (plan : Plan) (h : History) (e : Event) (d : SealedPacket) : Type 0 where
+  pub sync : d.sync ≡ true → d.t ≡ false
+  pub host : d.sync ≡ false → is_at_host d.port ≡ true → d.t ≡ asks_trust e
+  pub device : d.sync ≡ false → is_at_device d.port ≡ true
+      → (d.t ≡ true) ↔ OwnerRuns plan h d.port.line d.stream (sent_bytes plan h e)
+  pub peer : d.sync ≡ false → is_at_peer d.port ≡ true
+      → (d.t ≡ true)
+      ↔ OwnerIsBound plan h (port_beside_end plan.peers d.port).line d.stream (sent_bytes plan h e)
+  pub hop : d.sync ≡ false → is_at_device_hop d.port ≡ true → d.t ≡ false
+  pub switch : d.sync ≡ false → at_switch plan d.port ≡ true → HasForwardedT plan h e d
+
+abbrev pub HaveTheirT : Plan → History → Event → Verdict → Type 0
+HaveTheirT plan h e (v.Sealed ds) = AllByRecursion (HasItsT plan h e) ds
+HaveTheirT plan h e w = Unit {0}
+
+-- each packet that is sealed
+abbrev pub ExactTrustLaw : Plan → History → Type 0
+ExactTrustLaw plan h = AtPairs (HaveTheirT plan) h

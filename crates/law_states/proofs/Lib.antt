@@ -1,0 +1,12 @@
+pub mod Quiet
+pub mod Told
+pub mod Turns
+pub mod Held
+pub mod Shown
+pub mod Leaving
+pub mod Places
+pub mod Asked
+pub mod Moves
+pub mod Shut
+pub mod InError
+pub mod AllLaws
