@@ -1,4 +1,5 @@
 pub mod Entries
+pub mod LookedUp
 pub mod Places
 pub mod Columns
 pub mod Codes

@@ -1,8 +1,10 @@
 -- The definitions on the standard's own examples (FIPS 197).
 use Rattle.std.proofs.Common.{◌≡◌, [], ◌∷◌, refl}
 use Rattle.aes_block.specs.Field.{times}
-use Rattle.aes_block.specs.Aes.{key_words, temp, mixed_byte, sbox, sub_bytes, shift_rows, mix_columns, add_round_key}
-use Rattle.aes_block.specs.Aes.{sub_word, expansion, rounds, cipher, aes, round_words}
+use Rattle.aes_block.specs.Aes.{key_words, mixed_byte, sbox, shift_rows, mix_columns, add_round_key, aes, round_words}
+use Rattle.aes_block.proofs.LookedUp.{looked_up_aes, looked_up_cipher, looked_up_expansion, looked_up_rounds}
+use Rattle.aes_block.proofs.LookedUp.{looked_up_next, looked_up_temp, looked_up_word, looked_up_bytes}
+use Rattle.aes_block.proofs.LookedUp.{expansion-looked_up, aes-looked_up}
 
 -- section 4.2
 pub times-example : times 0x57 0x13 ≡ 0xfe
@@ -26,8 +28,8 @@ pub expansion-example : round_words
     ∷ 0x6c518d80 ∷ 0xc814e204 ∷ 0x76a9fb8a ∷ 0x5025c02d ∷ 0x59c58239 ∷ 0xde136967 ∷ 0x6ccc5a71 ∷ 0xfa256395 ∷ 0x9674ee15
     ∷ 0x5886ca5d ∷ 0x2e2f31d7 ∷ 0x7e0af1fa ∷ 0x27cf73c3 ∷ 0x749c47ab ∷ 0x18501dda ∷ 0xe2757e4f ∷ 0x7401905a
     ∷ 0xcafaaae3 ∷ 0xe4d59b34 ∷ 0x9adf6ace ∷ 0xbd10190d ∷ 0xfe4890d1 ∷ 0xe6188d0b ∷ 0x046df344 ∷ 0x706c631e ∷ [])
-unfolding key_words temp expansion sub_word sbox
-expansion-example = refl
+unfolding key_words looked_up_expansion looked_up_next looked_up_temp looked_up_word
+expansion-example = expansion-looked_up _ 52
 
 -- appendix C.3
 pub aes-example : aes
@@ -37,6 +39,6 @@ pub aes-example : aes
     ∷ 0xff ∷ [])
     ≡ (0x8e ∷ 0xa2 ∷ 0xb7 ∷ 0xca ∷ 0x51 ∷ 0x67 ∷ 0x45 ∷ 0xbf ∷ 0xea ∷ 0xfc ∷ 0x49 ∷ 0x90 ∷ 0x4b ∷ 0x49 ∷ 0x60 ∷ 0x89
     ∷ [])
-unfolding key_words temp aes cipher rounds add_round_key mixed_byte mix_columns shift_rows sub_bytes expansion sub_word
-    sbox
-aes-example = refl
+unfolding looked_up_aes looked_up_cipher looked_up_expansion looked_up_rounds looked_up_next looked_up_temp
+    looked_up_word looked_up_bytes add_round_key mixed_byte mix_columns shift_rows key_words
+aes-example = aes-looked_up _ _

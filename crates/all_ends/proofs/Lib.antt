@@ -6,6 +6,7 @@ pub mod Rows
 pub mod Lent
 pub mod Comes
 mod Endings
+mod Pushed
 -- what proofs above cite
 pub use Rattle.link_ends.proofs.{is_asked}
 pub use Rattle.link_ends.proofs.Names.{IsNamed, named_stands, set_named}

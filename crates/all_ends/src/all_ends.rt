@@ -29,8 +29,7 @@ use ide_types::{
     BarPlan, Direction, OutOfMemory, PeerPlan, PortName, Register, Side, StreamStatus, SubKind,
     ValidPlan,
 };
-use interface_ends::InterfaceKeeper;
-use interface_host::InterfaceOperation;
+use interface_host::{InterfaceOperation, Interfaces};
 use key_host::{NamedOperation, StreamOutcome};
 use link_ends::{HostKeeper, LinkEnds, PairEnds, PeerStreams};
 use link_stores::{Accesses, LinkAccesses};
@@ -285,7 +284,7 @@ impl AllEnds {
         end: PortName,
         port: PortName,
         arrival: Arrival,
-        keeper: &InterfaceKeeper,
+        manager: &Interfaces,
         memory: &mut Trusted,
         access: &mut LinkAccesses,
     ) -> Verdict
@@ -293,14 +292,14 @@ impl AllEnds {
         requires link { port.line < length self.now.links }
         requires spare { 8 ≤ memory.old.spare }
         requires pages { 16 ≤ access.old.guarded.spare }
-        ensures comes { ComesAtEnd self.now memory.old.contents.regions (grants_in keeper.now) end port arrival result
+        ensures comes { ComesAtEnd self.now memory.old.contents.regions (grants_in manager.now) end port arrival result
             memory.old.contents memory.new.contents access.old access.new }
         ensures regions { memory.new.contents.regions ≡ memory.old.contents.regions }
     {
         let at = ReceivingPort {
             end,
             port,
-            keeper,
+            manager,
             interfaces: &self.links[port.line as usize].device.interfaces,
         };
         let packets = self.port(end).unwrap().delivered();
@@ -316,7 +315,7 @@ impl AllEnds {
         end: PortName,
         port: PortName,
         bytes: &[u8],
-        keeper: &InterfaceKeeper,
+        manager: &Interfaces,
         memory: &mut Trusted,
         accesses: &mut Accesses,
     ) -> Verdict
@@ -325,8 +324,8 @@ impl AllEnds {
         requires spare { 8 ≤ memory.old.spare }
         requires access { port.line < length accesses.old }
         requires pages { IfSome (slice_get accesses.old port.line) (λ a. 16 ≤ a.guarded.spare) }
-        ensures arrives { ArrivesAtEnd self.old accesses.old memory.old.contents.regions (grants_in keeper.now) end port
-            bytes.now result memory.old.contents memory.new.contents self.new accesses.new }
+        ensures arrives { ArrivesAtEnd self.old accesses.old memory.old.contents.regions (grants_in manager.now) end
+            port bytes.now result memory.old.contents memory.new.contents self.new accesses.new }
         ensures absent { is_some (port_on self.old end) ≡ false → Leaves result self.old memory.old.contents
             accesses.old self.new memory.new.contents accesses.new }
         ensures regions { memory.new.contents.regions ≡ memory.old.contents.regions }
@@ -336,7 +335,7 @@ impl AllEnds {
         }
         let access = accesses.at_mut(port.line);
         let arrival = self.take(end, bytes);
-        let verdict = self.arrived(end, port, arrival, keeper, memory, access);
+        let verdict = self.arrived(end, port, arrival, manager, memory, access);
         self.settle_port(port);
         verdict
     }

@@ -21,7 +21,8 @@ use event_verdicts::{Effect, Effects, SealedPacket, SealedPackets, UnitName, Ver
 use ide_port::{Arrival, SendRefusal, Sent};
 use ide_prefix::{PacketView, packet_word, tlp_word};
 use ide_types::{Binding, PortName, Side};
-use interface_ends::{DeviceInterfaces, InterfaceKeeper};
+use interface_ends::DeviceInterfaces;
+use interface_host::Interfaces;
 use link_stores::LinkAccesses;
 use sub_stream::Delivered;
 use tlp_layout::{HeadView, TlpView, owner};
@@ -102,17 +103,17 @@ pub fn send_verdict(end: PortName, port: PortName, number: u64, sent: &Sent) -> 
 pub struct ReceivingPort<'a> {
     pub end: PortName,
     pub port: PortName,
-    pub keeper: &'a InterfaceKeeper,
+    pub manager: &'a Interfaces,
     pub interfaces: &'a DeviceInterfaces,
 }
 
 // What the manager says of the requester of a TLP with this header.
-fn bound(link: u8, keeper: &InterfaceKeeper, head: &HeadView) -> Option<Binding>
-    ensures { result ≡ option_and_then (λ requester. running_grant keeper.now link requester) (owner_id head.now) }
+fn bound(link: u8, manager: &Interfaces, head: &HeadView) -> Option<Binding>
+    ensures { result ≡ option_and_then (λ requester. running_grant manager.now link requester) (owner_id head.now) }
 {
     match owner(head) {
         None => None,
-        Some(requester) => keeper.manager().grant(link, requester),
+        Some(requester) => manager.grant(link, requester),
     }
 }
 
@@ -127,17 +128,17 @@ fn requested(
 ) -> Effect
     requires spare { 1 ≤ memory.old.spare }
     requires fits { FitsHead tlp.now.head }
-    ensures effect { result ≡ head_effect memory.old.contents.regions (grants_in at.now.keeper.now) at.now.port.line
+    ensures effect { result ≡ head_effect memory.old.contents.regions (grants_in at.now.manager.now) at.now.port.line
         (length access.old.reads) unit trusted (Ok tlp.now.head) }
     ensures reads { access.new.reads ≡ access.old.reads ++ queued_by unit.draw result (Ok tlp.now.head) }
     ensures kept { access.new ≡ record access.old { reads = access.new.reads } }
     ensures regions { memory.new.contents.regions ≡ memory.old.contents.regions }
     ensures spare { memory.old.spare ≤ memory.new.spare + 1 }
-    ensures leads { Leads memory.old.contents (head_write memory.old.contents.regions (grants_in at.now.keeper.now)
+    ensures leads { Leads memory.old.contents (head_write memory.old.contents.regions (grants_in at.now.manager.now)
         at.now.port.line unit trusted tlp.now.payload.now (Ok tlp.now.head) ∷ []) memory.new.contents }
 {
     let grant = Grant {
-        bound: bound(at.port.line, at.keeper, &tlp.head),
+        bound: bound(at.port.line, at.manager, &tlp.head),
         stream: unit.stream,
         draw: unit.draw,
     };
@@ -155,7 +156,7 @@ fn effect(
     requires spare { 1 ≤ memory.old.spare }
     requires pages { 2 ≤ access.old.guarded.spare }
     requires tlp { HasTlp (packet_of_view packet.now) packet.now.tlp }
-    ensures came { PacketCame memory.old.contents.regions (grants_in at.now.keeper.now)
+    ensures came { PacketCame memory.old.contents.regions (grants_in at.now.manager.now)
         (device_statuses access.old.floors at.now.interfaces.now) at.now.port unit (packet_of_view packet.now)
         access.old.reads memory.old.contents access.old.guarded
         result access.new.reads memory.new.contents access.new.guarded }
@@ -188,7 +189,7 @@ fn effects(
 ) -> Effects
     requires spare { 8 ≤ memory.old.spare }
     requires pages { 16 ≤ access.old.guarded.spare }
-    ensures came { UnitCame memory.old.contents.regions (grants_in at.now.keeper.now)
+    ensures came { UnitCame memory.old.contents.regions (grants_in at.now.manager.now)
         (device_statuses access.old.floors at.now.interfaces.now) at.now.port unit packets.now
         access.old.reads memory.old.contents access.old.guarded
         result access.new.reads memory.new.contents access.new.guarded }
@@ -216,14 +217,14 @@ fn unit_effects(
     requires spare { 8 ≤ memory.old.spare }
     requires pages { 16 ≤ access.old.guarded.spare }
     ensures effects { let xs = device_statuses access.old.floors at.now.interfaces.now in
-        result ≡ of_unit arrival (λ unit. effects_from memory.old.contents.regions (grants_in at.now.keeper.now) xs
+        result ≡ of_unit arrival (λ unit. effects_from memory.old.contents.regions (grants_in at.now.manager.now) xs
         (length access.old.reads) at.now.port unit packets.now) }
     ensures reads { let xs = device_statuses access.old.floors at.now.interfaces.now in
         access.new.reads ≡ access.old.reads ++ of_unit arrival (λ unit. reads_by unit.draw
-        (effects_from memory.old.contents.regions (grants_in at.now.keeper.now) xs (length access.old.reads)
+        (effects_from memory.old.contents.regions (grants_in at.now.manager.now) xs (length access.old.reads)
         at.now.port unit packets.now) packets.now) }
     ensures leads { let regions = memory.old.contents.regions in
-        Leads memory.old.contents (unit_writes arrival (λ unit. map (packet_write regions (grants_in at.now.keeper.now)
+        Leads memory.old.contents (unit_writes arrival (λ unit. map (packet_write regions (grants_in at.now.manager.now)
         at.now.port unit) packets.now)) memory.new.contents }
     ensures stored { let xs = device_statuses access.old.floors at.now.interfaces.now in
         MmioLeads access.old.guarded (of_unit arrival (λ unit. map (packet_stored xs at.now.port unit) packets.now))
@@ -291,13 +292,13 @@ pub fn taken_verdict(
     requires pages { 16 ≤ access.old.guarded.spare }
     ensures verdict { let xs = device_statuses access.old.floors at.now.interfaces.now in
         result ≡ arrival_verdict at.now.end at.now.port arrival (λ unit. effects_from memory.old.contents.regions
-        (grants_in at.now.keeper.now) xs (length access.old.reads) at.now.port unit packets.now) }
+        (grants_in at.now.manager.now) xs (length access.old.reads) at.now.port unit packets.now) }
     ensures reads { let xs = device_statuses access.old.floors at.now.interfaces.now in
         access.new.reads ≡ access.old.reads ++ of_unit arrival (λ unit. reads_by unit.draw
-        (effects_from memory.old.contents.regions (grants_in at.now.keeper.now) xs (length access.old.reads)
+        (effects_from memory.old.contents.regions (grants_in at.now.manager.now) xs (length access.old.reads)
         at.now.port unit packets.now) packets.now) }
     ensures leads { let regions = memory.old.contents.regions in
-        Leads memory.old.contents (unit_writes arrival (λ unit. map (packet_write regions (grants_in at.now.keeper.now)
+        Leads memory.old.contents (unit_writes arrival (λ unit. map (packet_write regions (grants_in at.now.manager.now)
         at.now.port unit) packets.now)) memory.new.contents }
     ensures stored { let xs = device_statuses access.old.floors at.now.interfaces.now in
         MmioLeads access.old.guarded (of_unit arrival (λ unit. map (packet_stored xs at.now.port unit) packets.now))

@@ -1,5 +1,5 @@
 -- The table means the topology of generated events.
-use Rattle.std.proofs.Common.{◌≡◌, ◌≢◌, refl, ℕ, ◌+◌, ◌%◌, ◌≤◌, pos, false, nat_lt, List, [], ◌∷◌, ◌++◌, length, None}
+use Rattle.std.proofs.Common.{◌≡◌, ◌≢◌, refl, ℕ, ◌+◌, ◌%◌, ◌≤◌, pos, false, nat_lt, List, [], ◌∷◌, length, None}
 use Rattle.std.proofs.Common.{Ok, arith, codes, inl, inr}
 use Rattle.std.specs.List.{position_from}
 use Rattle.std.specs.Str.{bytes_eq}
@@ -10,27 +10,28 @@ use Rattle.hex.proofs.HexLemmas.{decode_sized-encode_lower}
 use Rattle.hex.proofs.OnLiterals.{hex_on_literals}
 use Rattle.toml.specs.Data.{Data, array}
 use Rattle.toml_walk.specs.Values.{key_bytes}
-use Rattle.toml_walk.specs.Walk.{Text, count_between, each, list, data_list, place, within_span}
+use Rattle.toml_walk.specs.Paths.{Path, Key as key_step, Place}
+use Rattle.toml_walk.specs.Walk.{count_between, each, list, data_list, within_span}
 use Rattle.ide_types.specs.declared.plan.Plan.{Plan}
 use Rattle.history_events.specs.GeneratedTopology.{the_interface, the_link, the_plan, the_stream}
 use Rattle.topology.specs.declared.draft.LinkDraft.{LinkDraft}
 use Rattle.topology.specs.declared.draft.PlanDraft.{PlanDraft}
 use Rattle.topology.specs.Meaning.{table_plan}
 use Rattle.topology.specs.Rules.{hop_rules, link_rules, pair_from, peer_rules, rules}
-use Rattle.topology.specs.Tables.{bar_keys, interface_keys, link_keys, region_keys, stream_keys, top_keys}
+use Rattle.topology.specs.Tables.{bar_keys, interface_keys, link_keys, region_keys, register_keys, stream_keys, top_keys}
 use Rattle.history_events.proofs.TextKeys.{Apart, Differ, Key, Keys}
 use Rattle.history_events.proofs.Parts.{are_bytes}
 use Rattle.history_events.proofs.Table.{interface_table, key_data, key_list, link_table, stream_table, table_with}
 
 -- ---- lists of keys
 
-key_read : (path : Text) (k : List ℕ) → Key k → key_bytes path (key_data k) ≡ Ok k
+key_read : (path : Path) (k : List ℕ) → Key k → key_bytes path (key_data k) ≡ Ok k
 key_read path k key = rw (decode_sized-encode_lower k 32 key.long (are_bytes k key.bytes)) refl
 
-each_read : (path : Text) (i : ℕ) (ks : List (List ℕ)) → Keys ks → each key_bytes path i (data_list (key_list ks))
+each_read : (path : Path) (i : ℕ) (ks : List (List ℕ)) → Keys ks → each key_bytes path i (data_list (key_list ks))
     ≡ Ok ks
 each_read path i [] keys = refl
-each_read path i (k ∷ ks) keys = rw (key_read (place path i) k keys.0, each_read path (i + 1) ks keys.1) refl
+each_read path i (k ∷ ks) keys = rw (key_read (Place i ∷ path) k keys.0, each_read path (i + 1) ks keys.1) refl
 
 as_many : (ks : List (List ℕ)) → length (data_list (key_list ks)) ≡ length ks
 as_many [] = refl
@@ -39,11 +40,11 @@ as_many (k ∷ ks) = let e = as_many ks in omega (arith, e)
 not_less : (m n : ℕ) → n ≤ m → nat_lt m n ≡ false
 not_less m n le = grind (arith, nat_tests)
 
-counted : (least most : ℕ) (path : Text) (ds : List Data) → least ≤ length ds → length ds ≤ most
+counted : (least most : ℕ) (path : Path) (ds : List Data) → least ≤ length ds → length ds ≤ most
     → within_span (count_between least most) path ds ≡ Ok ds
 counted least most path ds enough few = rw (not_less most (length ds) few, not_less (length ds) least enough) refl
 
-keys_read : (least most : ℕ) (path : Text) (ks : List (List ℕ)) → Keys ks → least ≤ length ks → length ks ≤ most
+keys_read : (least most : ℕ) (path : Path) (ks : List (List ℕ)) → Keys ks → least ≤ length ks → length ks ≤ most
     → list (count_between least most) key_bytes path (array (key_list ks)) ≡ Ok ks
 keys_read least most path ks keys enough few =
     let many = as_many ks in
@@ -74,23 +75,23 @@ plan_draft pool nonces = record {
   peers = [];
 }
 
-stream_read : (path : Text) → stream_keys path stream_table ≡ Ok the_stream
+stream_read : (path : Path) → stream_keys path stream_table ≡ Ok the_stream
 unfolding stream_keys
 stream_read path = refl
 
-interface_read : (path : Text) → interface_keys 1 path interface_table
+interface_read : (path : Path) → interface_keys 1 path interface_table
     ≡ Ok (record { stream = pos 5; interface = the_interface })
-unfolding interface_keys bar_keys hex_on_literals
+unfolding interface_keys register_keys bar_keys hex_on_literals
 interface_read path = refl
 
-link_read : (path : Text) (nonces : List (List ℕ)) → Keys nonces → length nonces ≤ 1024
+link_read : (path : Path) (nonces : List (List ℕ)) → Keys nonces → length nonces ≤ 1024
     → link_keys 1 path (link_table nonces) ≡ Ok (link_draft nonces)
 unfolding link_keys link_draft
 link_read path nonces keys few =
     rw (
-      keys_read 0 1024 (path ++ codes "nonces") nonces keys (omega arith) few,
-      stream_read (place (path ++ codes "stream") 0 ++ codes "."),
-      interface_read (place (path ++ codes "interface") 0 ++ codes "."),
+      keys_read 0 1024 (key_step (codes "nonces") ∷ path) nonces keys (omega arith) few,
+      stream_read (Place 0 ∷ key_step (codes "stream") ∷ path),
+      interface_read (Place 0 ∷ key_step (codes "interface") ∷ path),
     ) refl
 
 top_read : (pool nonces : List (List ℕ)) → Keys pool → Keys nonces → 6 ≤ length pool → length pool ≤ 6144
@@ -98,8 +99,8 @@ top_read : (pool nonces : List (List ℕ)) → Keys pool → Keys nonces → 6 �
 unfolding top_keys region_keys plan_draft
 top_read pool nonces keys others enough few most =
     rw (
-      keys_read 6 6144 (codes "pool") pool keys enough few,
-      link_read (place (codes "link") 0 ++ codes ".") nonces others most,
+      keys_read 6 6144 (key_step (codes "pool") ∷ []) pool keys enough few,
+      link_read (Place 0 ∷ key_step (codes "link") ∷ []) nonces others most,
     ) refl
 
 -- ---- the rules

@@ -1,6 +1,4 @@
 pub mod Walks
-pub mod Carried
-pub mod Refused
 pub mod Widths
 pub mod Due
 pub mod Exchanges

@@ -18,9 +18,9 @@ use Rattle.interface_ends.specs.Keepers.{manager_walk, walking_at, IsInterfaceWa
 
 -- ---- the exchange that is asked
 
-record IsAskedNow (xs : List HostTdi) (asking : Option Asking) (c : CurrentInterface) : Type 0 where
-  asked : asking ≡ Some c.asking
-  there : slice_get xs c.asking.place ≡ Some c.interface
+pub record IsAskedNow (xs : List HostTdi) (asking : Option Asking) (c : CurrentInterface) : Type 0 where
+  pub asked : asking ≡ Some c.asking
+  pub there : slice_get xs c.asking.place ≡ Some c.interface
 
 stands_at : (xs : List HostTdi) (a : Asking) (i : Option HostTdi) (c : CurrentInterface) → slice_get xs a.place ≡ i
     → current_by a i ≡ Some c → IsAskedNow xs (Some a) c
@@ -29,20 +29,21 @@ stands_at xs a (Some i) c g e =
     let same : (let k : CurrentInterface = record { interface = i; asking = a } in k) ≡ c = cc in
     subst (λ (k : CurrentInterface). IsAskedNow xs (Some a) k) same (record { asked = refl; there = g })
 
-stands : (xs : List HostTdi) (asking : Option Asking) (c : CurrentInterface)
+pub stands : (xs : List HostTdi) (asking : Option Asking) (c : CurrentInterface)
     → current_interface_in_list xs asking ≡ Some c → IsAskedNow xs asking c
 stands xs None c e = absurd cc
 stands xs (Some a) c e = stands_at xs a (slice_get xs a.place) c refl e
 
 -- ---- the walk
 
-abbrev next_current : StreamSaid → Option Loss → InterfaceManagerView → DeviceTdis → CurrentInterface → CurrentInterface
+abbrev pub next_current : StreamSaid → Option Loss → InterfaceManagerView → DeviceTdis → CurrentInterface
+    → CurrentInterface
 next_current said loss m d c = record {
   interface = (walked_once m.portion c.asking.draws said loss (walking_at m c d)).interface;
   asking = record c.asking { step = next_step c.asking.step };
 }
 
-moved : (said : StreamSaid) (loss : Option Loss) (m : InterfaceManagerView) (d : DeviceTdis) (c : CurrentInterface)
+pub moved : (said : StreamSaid) (loss : Option Loss) (m : InterfaceManagerView) (d : DeviceTdis) (c : CurrentInterface)
     → IsAskedNow m.interfaces m.asking c → (interface_exchanged said loss m d c).outcome ≡ outcome.Next
     → current_interface (interface_exchanged said loss m d c).manager ≡ Some (next_current said loss m d c)
 moved said loss m d c s next =
@@ -80,7 +81,7 @@ goes_by more said loss m d c (outcome.Refused refusal) s is rest = record
     { outcome_is = refl; interfaces_are = refl; read_is = refl; device_is = refl }
 
 -- a step of the manager's walk
-walk_step : (more : ℕ) (said : StreamSaid) (loss : Option Loss) (m : InterfaceManagerView) (d : DeviceTdis)
+pub walk_step : (more : ℕ) (said : StreamSaid) (loss : Option Loss) (m : InterfaceManagerView) (d : DeviceTdis)
     (c : CurrentInterface) → current_interface m
     ≡ Some c
     → manager_walk (suc more) said loss m d ≡ ended_if_over (interface_exchanged said loss m d c).outcome
@@ -95,7 +96,7 @@ walk_step more said loss m d c is = ap
     (interface_exchanged said loss m d c).device))
     (record { outcome = outcome.Next; manager = m; device = d })) is
 
-walk_none : (said : StreamSaid) (loss : Option Loss) (m : InterfaceManagerView) (d : DeviceTdis)
+pub walk_none : (said : StreamSaid) (loss : Option Loss) (m : InterfaceManagerView) (d : DeviceTdis)
     → (let e : Ended = record { outcome = outcome.Next; manager = m; device = d } in e)
     ≡ manager_walk zero said loss m d
 unfolding manager_walk
@@ -120,34 +121,3 @@ keeper_walks (suc more) said loss m d c is =
     (goes_by more said loss m d c (interface_exchanged said loss m d c).outcome s refl
     (λ k now. keeper_walks more said loss (interface_exchanged said loss m d c).manager
     (interface_exchanged said loss m d c).device k now))
-
--- ---- the code's walk
-
--- an exchange after which the operation goes on
-pub walks_on : (more : ℕ) (said : StreamSaid) (loss : Option Loss) (m : InterfaceManagerView) (d : DeviceTdis)
-    (e rest : Ended)
-    (x : Option CurrentInterface) → current_interface m ≡ x → is_some x ≡ true
-    → IfSome x (λ c. IsInterfaceExchanged said loss m d c e) → e.outcome ≡ outcome.Next → rest
-    ≡ manager_walk more said loss e.manager e.device → rest ≡ manager_walk (suc more) said loss m d
-walks_on more said loss m d e rest None is some came next goes = absurd cc
-walks_on more said loss m d e rest (Some c) is some came next goes =
-    goes ∙ sym (ap (λ o. ended_if_over o e (manager_walk more said loss e.manager e.device)) next)
-    ∙ ap (λ (k : Ended). ended_if_over k.outcome k (manager_walk more said loss k.manager k.device)) came.ends ∙ sym
-    (walk_step more said loss m d c is)
-
-stops_at : (o : InterfaceOutcome) (now rest : Ended) → o ≢ outcome.Next → ended_if_over o now rest ≡ now
-stops_at outcome.Next now rest other = absurd (other refl)
-stops_at (outcome.Done shown) now rest other = refl
-stops_at (outcome.Refused refusal) now rest other = refl
-
--- one after which it is over
-pub walks_out : (more : ℕ) (said : StreamSaid) (loss : Option Loss) (m : InterfaceManagerView) (d : DeviceTdis)
-    (e : Ended)
-    (x : Option CurrentInterface) → current_interface m ≡ x → is_some x ≡ true
-    → IfSome x (λ c. IsInterfaceExchanged said loss m d c e) → e.outcome ≢ outcome.Next → e
-    ≡ manager_walk (suc more) said loss m d
-walks_out more said loss m d e None is some came other = absurd cc
-walks_out more said loss m d e (Some c) is some came other =
-    sym (stops_at e.outcome e (manager_walk more said loss e.manager e.device) other)
-    ∙ ap (λ (k : Ended). ended_if_over k.outcome k (manager_walk more said loss k.manager k.device)) came.ends ∙ sym
-    (walk_step more said loss m d c is)

@@ -204,6 +204,15 @@ request_or_error false (Err f) = Err (code_by f)
 abbrev pub request_checked : List ℕ → Result RequestView ErrorCode
 request_checked bytes = request_or_error (nat_lt (length bytes) 17) (request_reading bytes)
 
+-- the stream that a lock names, or a binding to another device
+abbrev pub stream_asked : Result RequestView ErrorCode → Option ℕ
+stream_asked (Ok (LockInterface function flags stream offset mask)) = Some stream
+stream_asked (Ok (BindP2p function stream)) = Some stream
+stream_asked asked = None
+
+abbrev pub stream_named : List ℕ → Option ℕ
+stream_named bytes = stream_asked (request_checked bytes)
+
 abbrev pub interfaces_by : DeviceTdis → StreamSaid → Result RequestView ErrorCode → DeviceTdis
 interfaces_by d said (Ok request) = asked_interfaces d request said
 interfaces_by d said (Err code) = d

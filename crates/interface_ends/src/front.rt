@@ -1,7 +1,7 @@
 //! Requests as they come, and which are refused before an interface is looked for.
 
 ghost use Rattle.std.specs.Prelude.{◌≡◌, length};
-ghost use Rattle.interface_ends.specs.Replies.{code_by, function_or_none, request_checked};
+ghost use Rattle.interface_ends.specs.Replies.{code_by, function_or_none, request_checked, stream_named};
 
 use interface_state::ErrorCode;
 use tdisp_codec::{RequestView, TdispFault, function_of, request_read};
@@ -39,4 +39,16 @@ pub(crate) fn function(bytes: &[u8]) -> u32
     ensures { result ≡ function_or_none bytes.now }
 {
     function_of(bytes).unwrap_or(0)
+}
+
+/// The stream that a message names: that of a lock, or of a binding to another device. `None` of any other message, and
+/// of bytes that are none.
+pub fn stream_named(bytes: &[u8]) -> Option<u8>
+    ensures { result ≡ stream_named bytes.now }
+{
+    match request_asked(bytes) {
+        Ok(RequestView::LockInterface { stream, .. }) => Some(stream),
+        Ok(RequestView::BindP2p { stream, .. }) => Some(stream),
+        _ => None,
+    }
 }

@@ -40,6 +40,11 @@ seen_of_managed (managed.Running tdi) = IsRunning tdi.state.floor
 seen_of_managed (managed.Doubt tdi) = IsDoubt
 seen_of_managed (managed.Broken tdi) = IsBroken
 
+-- a view that a move has taken, which no interface is without after it, counts as broken
+abbrev pub seen_of_held : Option ManagedTdi → Seen
+seen_of_held None = IsBroken
+seen_of_held (Some m) = seen_of_managed m
+
 abbrev pub view_of : Seen → View
 view_of IsUnlocked = view.Unlocked
 view_of (IsLocked nonce is_reported) = view.Locked

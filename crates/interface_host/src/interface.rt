@@ -1,7 +1,7 @@
 //! An interface, for the manager.
 
 ghost use Rattle.std.specs.Prelude.{◌≡◌, Some, None, slice_set, true};
-ghost use Rattle.interface_host.specs.Facts.{interface_facts};
+ghost use Rattle.interface_host.specs.Facts.{interface_facts, reported_if_locked};
 ghost use Rattle.interface_host.specs.Judging.{answer_shown};
 ghost use Rattle.interface_host.specs.Views.{interface_unless_secure, key_refusal, refused_outcome, peer_number};
 ghost use Rattle.interface_host.specs.Views.{asked_peers, was_started_after, needs_after};
@@ -13,7 +13,6 @@ use crate::operation::{InterfaceOperation, InterfaceOutcome, InterfaceRefusal, I
 use crate::step::Step;
 use ide_types::{Binding, InterfacePlan, StreamStatus, View};
 use std::marker::Model;
-use std::mem;
 use tdisp_codec::RequestView;
 
 /// An interface of a link, and the manager's view of it.
@@ -27,12 +26,14 @@ pub(crate) struct HostInterface {
     draw: u32,
     needs: u32,
     was_started: bool,
-    managed: ManagedTdi,
+    // `None` only while a move has it
+    managed: Option<ManagedTdi>,
     asked: [bool; 8],
 }
 
 impl Model for HostInterface {
-    ghost use Rattle.interface_host.specs.Views.{HostTdi, seen_of_managed};
+    ghost use Rattle.std.specs.Prelude.{IsSome};
+    ghost use Rattle.interface_host.specs.Views.{HostTdi, seen_of_held};
 
     ghost Value = { HostTdi };
 
@@ -45,9 +46,11 @@ impl Model for HostInterface {
       draw = i.draw;
       needs = i.needs;
       was_started = i.was_started;
-      seen = seen_of_managed i.managed;
+      seen = seen_of_held i.managed;
       asked = i.asked;
     } };
+
+    ghost invariant = { λ i. IsSome i.managed };
 }
 
 // `NotSecure` unless the stream is Secure, else what else refuses.
@@ -137,7 +140,8 @@ fn needs_after(step: Step, draws: u32, answer: Answer, was_started: bool, needs:
 impl HostInterface {
     ghost use Rattle.interface_host.specs.Views.{new_interface, lock_refusal, report_refusal, start_refusal};
     ghost use Rattle.interface_host.specs.Views.{bind_refusal, interface_refusal_of, step_request, taken_interface};
-    ghost use Rattle.interface_host.specs.Views.{interface_outcome, view_of, is_bound_to, left_by_stop};
+    ghost use Rattle.interface_host.specs.Views.{interface_outcome, view_of, floor_of, nonce_of, is_bound_to};
+    ghost use Rattle.interface_host.specs.Views.{left_by_stop};
     ghost use Rattle.interface_host.specs.Views.{left_by_peer_stop, is_asked, keyed_by, left_by_reset, is_requester};
     ghost use Rattle.interface_host.specs.Views.{is_granted, interface_grant, broken_view};
 
@@ -154,7 +158,7 @@ impl HostInterface {
             draw: 0,
             needs: 0,
             was_started: false,
-            managed: ManagedTdi::new(),
+            managed: Some(ManagedTdi::new()),
             asked: [false; 8],
         }
     }
@@ -177,15 +181,38 @@ impl HostInterface {
     pub(crate) fn view(&self) -> View
         ensures { result ≡ view_of self.now.seen }
     {
-        self.managed.view()
+        match &self.managed {
+            Some(managed) => managed.view(),
+            None => View::Broken,
+        }
+    }
+
+    // The floor of a run.
+    fn floor(&self) -> Option<u32>
+        ensures { result ≡ floor_of self.now.seen }
+    {
+        match &self.managed {
+            Some(managed) => managed.floor(),
+            None => None,
+        }
+    }
+
+    // The nonce of a lock; 32 zero bytes stand for none.
+    fn nonce(&self) -> [u8; 32]
+        ensures { result ≡ nonce_of self.now.seen }
+    {
+        match &self.managed {
+            Some(managed) => managed.nonce(),
+            None => [0; 32],
+        }
     }
 
     fn lock_refusal(&self, status: StreamStatus) -> Option<InterfaceRefusal>
         ensures { result ≡ lock_refusal status self.now.seen }
     {
         match &self.managed {
-            ManagedTdi::Unlocked(_) => unless_secure(status, None),
-            managed => Some(InterfaceRefusal::WrongState(managed.view())),
+            Some(ManagedTdi::Unlocked(_)) => unless_secure(status, None),
+            _ => Some(InterfaceRefusal::WrongState(self.view())),
         }
     }
 
@@ -193,8 +220,8 @@ impl HostInterface {
         ensures { result ≡ report_refusal self.now.seen }
     {
         match &self.managed {
-            ManagedTdi::Locked(_) | ManagedTdi::Running(_) => None,
-            managed => Some(InterfaceRefusal::WrongState(managed.view())),
+            Some(ManagedTdi::Locked(_) | ManagedTdi::Running(_)) => None,
+            _ => Some(InterfaceRefusal::WrongState(self.view())),
         }
     }
 
@@ -202,10 +229,10 @@ impl HostInterface {
         ensures { result ≡ bind_refusal status draw self.now.needs self.now.seen }
     {
         match &self.managed {
-            ManagedTdi::Locked(_) | ManagedTdi::Running(_) => {
+            Some(ManagedTdi::Locked(_) | ManagedTdi::Running(_)) => {
                 unless_secure(status, key_refusal(draw, self.needs))
             }
-            managed => Some(InterfaceRefusal::WrongState(managed.view())),
+            _ => Some(InterfaceRefusal::WrongState(self.view())),
         }
     }
 
@@ -213,14 +240,14 @@ impl HostInterface {
         ensures { result ≡ start_refusal status self.now.draw self.now.needs self.now.seen }
     {
         match &self.managed {
-            ManagedTdi::Locked(tdi) => {
+            Some(ManagedTdi::Locked(tdi)) => {
                 if tdi.is_reported() {
                     unless_secure(status, key_refusal(self.draw, self.needs))
                 } else {
                     Some(InterfaceRefusal::NotReported)
                 }
             }
-            managed => Some(InterfaceRefusal::WrongState(managed.view())),
+            _ => Some(InterfaceRefusal::WrongState(self.view())),
         }
     }
 
@@ -282,8 +309,9 @@ impl HostInterface {
     pub(crate) fn take(&mut self, step: Step, draws: u32, answer: Answer)
         ensures { self.new ≡ taken_interface step draws (answer_shown answer.entry) self.old }
     {
-        let managed = mem::replace(&mut self.managed, ManagedTdi::new());
-        self.managed = managed.after(step, self.draw, answer);
+        if let Some(managed) = self.managed.take() {
+            self.managed = Some(managed.after(step, self.draw, answer));
+        }
         self.needs = needs_after(step, draws, answer, self.was_started, self.needs);
         self.was_started = was_started_after(step, self.was_started);
         ask(step, &mut self.asked);
@@ -298,8 +326,9 @@ impl HostInterface {
     fn leave(&mut self)
         ensures { self.new ≡ record self.old { seen = broken_view self.old.seen } }
     {
-        let managed = mem::replace(&mut self.managed, ManagedTdi::new());
-        self.managed = managed.broken();
+        if let Some(managed) = self.managed.take() {
+            self.managed = Some(managed.broken());
+        }
     }
 
     /// A stop of this stream began.
@@ -362,7 +391,7 @@ impl HostInterface {
     pub(crate) fn grant(&self) -> Option<Binding>
         ensures { result ≡ interface_grant self.now }
     {
-        match self.managed.floor() {
+        match self.floor() {
             Some(floor) => Some(Binding {
                 stream: self.stream,
                 floor,
@@ -393,7 +422,7 @@ impl HostInterface {
             },
             Step::Start => RequestView::StartInterface {
                 function,
-                nonce: self.managed.nonce(),
+                nonce: self.nonce(),
             },
             Step::Halt => RequestView::StopInterface { function },
             Step::State => RequestView::GetDeviceInterfaceState { function },
@@ -412,6 +441,16 @@ impl HostInterface {
 // ---- what is seen of it
 
 impl HostInterface {
+    // Whether the report of a lock was read; `None` if it is no lock.
+    fn reported_if_locked(&self) -> Option<bool>
+        ensures { result ≡ reported_if_locked self.now.seen }
+    {
+        match &self.managed {
+            Some(managed) => managed.reported_if_locked(),
+            None => None,
+        }
+    }
+
     /// What the manager keeps of it.
     pub(crate) fn facts(&self) -> InterfaceFacts
         ensures { result ≡ interface_facts self.now }
@@ -419,12 +458,12 @@ impl HostInterface {
         InterfaceFacts {
             link: self.link,
             stream: self.stream,
-            view: self.managed.view(),
+            view: self.view(),
             draw: self.draw,
             needs: self.needs,
             started: self.was_started,
-            reported: self.managed.reported_if_locked(),
-            floor: self.managed.floor(),
+            reported: self.reported_if_locked(),
+            floor: self.floor(),
         }
     }
 }

@@ -22,4 +22,4 @@ pub use operation::{
     InterfaceOperation, InterfaceOutcome, InterfaceRefusal, InterfaceResult, PeerStream,
 };
 pub use step::Step;
-pub use tdi::{Broken, Doubt, Locked, Running, Tdi, Unlocked};
+pub use tdi::{Broken, Doubt, Left, Locked, Running, Tdi, Unlocked};

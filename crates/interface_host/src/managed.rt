@@ -8,7 +8,7 @@ ghost use Rattle.interface_host.specs.Views.{compared_view, seen_after_step, bro
 
 use crate::judge::Answer;
 use crate::step::Step;
-use crate::tdi::{Broken, Doubt, Locked, Running, Tdi, Unlocked};
+use crate::tdi::{Broken, Doubt, Left, Locked, Running, Tdi, Unlocked};
 use ide_types::View;
 
 /// The manager's view of an interface, whichever it is. The device may leave a lock by itself, so this is the manager's
@@ -29,7 +29,18 @@ impl ManagedTdi {
     pub(crate) fn new() -> ManagedTdi
         ensures { seen_of_managed result ≡ IsUnlocked }
     {
-        ManagedTdi::Unlocked(Tdi::unlocked())
+        ManagedTdi::Unlocked(Tdi::new())
+    }
+
+    // What a move takes that can come from any view.
+    fn leave(self) -> Tdi<Left> {
+        match self {
+            ManagedTdi::Unlocked(tdi) => tdi.leave(),
+            ManagedTdi::Locked(tdi) => tdi.leave(),
+            ManagedTdi::Running(tdi) => tdi.leave(),
+            ManagedTdi::Doubt(tdi) => tdi.leave(),
+            ManagedTdi::Broken(tdi) => tdi.leave(),
+        }
     }
 
     /// Which it is.
@@ -104,14 +115,14 @@ impl ManagedTdi {
                 if code == 1 {
                     ManagedTdi::Locked(tdi)
                 } else {
-                    ManagedTdi::Broken(Tdi::broken())
+                    ManagedTdi::Broken(tdi.leave().break_lock())
                 }
             }
             ManagedTdi::Running(tdi) => {
                 if code == 2 {
                     ManagedTdi::Running(tdi)
                 } else {
-                    ManagedTdi::Broken(Tdi::broken())
+                    ManagedTdi::Broken(tdi.leave().break_lock())
                 }
             }
             managed => managed,
@@ -124,7 +135,7 @@ impl ManagedTdi {
     {
         match self {
             ManagedTdi::Unlocked(tdi) => ManagedTdi::Unlocked(tdi),
-            _ => ManagedTdi::Broken(Tdi::broken()),
+            managed => ManagedTdi::Broken(managed.leave().break_lock()),
         }
     }
 
@@ -137,11 +148,11 @@ impl ManagedTdi {
             (Step::Lock, Answer::Nonce(nonce)) => self.locked(nonce),
             (Step::Report, Answer::Portion { remainder: 0, .. }) => self.reported(),
             (Step::Start, Answer::Passed) => self.started(draw),
-            (Step::Start, Answer::Refused(_)) => ManagedTdi::Broken(Tdi::broken()),
-            (Step::Halt, Answer::Passed) => ManagedTdi::Unlocked(Tdi::unlocked()),
+            (Step::Start, Answer::Refused(_)) => ManagedTdi::Broken(self.leave().break_lock()),
+            (Step::Halt, Answer::Passed) => ManagedTdi::Unlocked(self.leave().halt()),
             (Step::State, Answer::State(code)) => self.compared(code),
             (Step::Lock | Step::Halt, Answer::Refused(_)) => self,
-            (Step::Lock | Step::Start | Step::Halt, _) => ManagedTdi::Doubt(Tdi::doubted()),
+            (Step::Lock | Step::Start | Step::Halt, _) => ManagedTdi::Doubt(self.leave().doubt()),
             _ => self,
         }
     }

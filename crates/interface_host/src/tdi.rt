@@ -2,8 +2,9 @@
 
 ghost use Rattle.std.specs.Prelude.{◌≡◌, true, false};
 
-/// The manager's view of an interface (this profile). It is neither `Copy` nor `Clone`: each move takes the old view
-/// and gives the new one, so no lock is started twice, and no nonce outlives its view.
+/// The manager's view of an interface (this profile). It is neither `Copy` nor `Clone`, and only `new` makes one from
+/// nothing: each move takes the view that it leaves and gives the next one. So an interface has one view at a time, no
+/// lock is started twice, and no nonce outlives its view.
 #[derive(Drop)]
 pub struct Tdi<S> {
     state: S,
@@ -34,9 +35,37 @@ pub struct Doubt {}
 #[derive(Drop)]
 pub struct Broken {}
 
+/// Between two of these: a move has taken the old view, whichever it was.
+#[derive(Drop)]
+pub struct Left {}
+
+impl<S: Drop> Tdi<S> {
+    /// A move takes it that can come from any view.
+    pub(crate) fn leave(self) -> Tdi<Left> {
+        Tdi { state: Left {} }
+    }
+}
+
+impl Tdi<Left> {
+    /// The device halted it.
+    pub(crate) fn halt(self) -> Tdi<Unlocked> {
+        Tdi { state: Unlocked {} }
+    }
+
+    /// A message was lost that may have changed it.
+    pub(crate) fn doubt(self) -> Tdi<Doubt> {
+        Tdi { state: Doubt {} }
+    }
+
+    /// What ends a lock happened.
+    pub(crate) fn break_lock(self) -> Tdi<Broken> {
+        Tdi { state: Broken {} }
+    }
+}
+
 impl Tdi<Unlocked> {
-    /// The view as the manager begins, and after a halt.
-    pub(crate) fn unlocked() -> Tdi<Unlocked> {
+    /// The view of an interface as the manager begins.
+    pub(crate) fn new() -> Tdi<Unlocked> {
         Tdi { state: Unlocked {} }
     }
 
@@ -101,19 +130,5 @@ impl Tdi<Running> {
         ensures { result ≡ self.now.state.floor }
     {
         self.state.floor
-    }
-}
-
-impl Tdi<Doubt> {
-    /// The view after a loss.
-    pub(crate) fn doubted() -> Tdi<Doubt> {
-        Tdi { state: Doubt {} }
-    }
-}
-
-impl Tdi<Broken> {
-    /// The view after what ends a lock.
-    pub(crate) fn broken() -> Tdi<Broken> {
-        Tdi { state: Broken {} }
     }
 }

@@ -6,7 +6,7 @@ ghost use Rattle.join_arrivals.specs.Accesses.{AccessesStay, Brings};
 
 use event_verdicts::Verdict;
 use ide_types::{OutOfMemory, PortName};
-use interface_ends::InterfaceKeeper;
+use interface_host::Interfaces;
 use join_ends::AllEnds;
 use link_stores::Accesses;
 use trusted_memory::Trusted;
@@ -18,7 +18,7 @@ const MOST_PAGES: u8 = 8;
 /// pages that a unit may need are taken first, so for want of memory nothing changes.
 pub fn bytes_arrive(
     ends: &mut AllEnds,
-    keeper: &InterfaceKeeper,
+    manager: &Interfaces,
     trusted: &mut Trusted,
     accesses: &mut Accesses,
     end: PortName,
@@ -28,7 +28,7 @@ pub fn bytes_arrive(
     requires link { port.line < length ends.old.links }
     requires few { EndsUnitsAtMost (2 ^ 40) ends.old }
     requires many { length accesses.old ≡ length ends.old.links }
-    ensures brings { IfOk result (λ v. Brings keeper.now end port bytes.now v ends.old trusted.old.contents
+    ensures brings { IfOk result (λ v. Brings manager.now end port bytes.now v ends.old trusted.old.contents
         accesses.old ends.new trusted.new.contents accesses.new) }
     ensures ends { OnErr result (ends.new ≡ ends.old) }
     ensures memory { OnErr result (trusted.new.contents ≡ trusted.old.contents) }
@@ -36,5 +36,5 @@ pub fn bytes_arrive(
 {
     trusted.spare(MOST_PAGES)?;
     accesses.at_mut(port.line).spare()?;
-    Ok(ends.arrive(end, port, bytes, keeper, trusted, accesses))
+    Ok(ends.arrive(end, port, bytes, manager, trusted, accesses))
 }

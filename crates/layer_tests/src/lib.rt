@@ -1,5 +1,5 @@
 //! Tests of public calls of several crates by known bytes: published vectors of the cipher, messages, objects of key
-//! management, and files of the system and in memory, whose reads and puts fail.
+//! management, what a device answers to requests, and files of the system and in memory, whose reads and puts fail.
 #![tactic(auto)]
 
 #[cfg(test)]
@@ -12,3 +12,5 @@ mod keys;
 mod lines;
 #[cfg(test)]
 mod messages;
+#[cfg(test)]
+mod requests;

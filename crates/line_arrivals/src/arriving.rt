@@ -8,7 +8,7 @@ ghost use Rattle.line_arrivals.specs.Landing.{ComesTo, Lands};
 
 use event_verdicts::Verdict;
 use ide_types::{Direction, OutOfMemory, PortName, Side, ValidPlan};
-use interface_ends::InterfaceKeeper;
+use interface_host::Interfaces;
 use join_arrivals::{AllEnds, bytes_arrive};
 use line_routes::{goes_through, port_of, reached};
 use link_stores::Accesses;
@@ -21,7 +21,7 @@ pub struct Arriving<'a> {
     /// The topology.
     pub plan: &'a ValidPlan,
     /// What the manager says of interfaces.
-    pub keeper: &'a InterfaceKeeper,
+    pub manager: &'a Interfaces,
     /// An end that is at the port.
     pub end: PortName,
     /// The bytes.
@@ -76,7 +76,7 @@ pub fn land(
 ) -> Result<Verdict, OutOfMemory>
     requires few { EndsUnitsAtMost (2 ^ 40) ends.old }
     requires many { length accesses.old ≡ length ends.old.links }
-    ensures lands { IfOk result (λ v. Lands arriving.now.plan.now arriving.now.keeper.now arriving.now.end
+    ensures lands { IfOk result (λ v. Lands arriving.now.plan.now arriving.now.manager.now arriving.now.end
         arriving.now.bytes.now v ends.old trusted.old.contents accesses.old ends.new trusted.new.contents
         accesses.new) }
     ensures ends { OnErr result (ends.new ≡ ends.old) }
@@ -85,7 +85,7 @@ pub fn land(
 {
     let Arriving {
         plan,
-        keeper,
+        manager,
         end,
         bytes,
     } = *arriving;
@@ -108,7 +108,7 @@ pub fn land(
             if port.line as usize >= ends.count() {
                 return Ok(Verdict::Nothing);
             }
-            bytes_arrive(ends, keeper, trusted, accesses, end, port, bytes)
+            bytes_arrive(ends, manager, trusted, accesses, end, port, bytes)
         }
     }
 }

@@ -1,5 +1,5 @@
 -- Slots by the places that messages name.
-use Rattle.std.proofs.Common.{◌≡◌, ◌∙◌, ℕ, Bool, refl, ap, subst, ◌==◌, ◌&&◌, if◌then◌else◌}
+use Rattle.std.proofs.Common.{◌≡◌, ◌∙◌, Bool, refl, ap, subst, ◌==◌, ◌&&◌, if◌then◌else◌}
 use Rattle.std.specs.Prelude.{nat_lt, option_map}
 use Rattle.ide_types.specs.Sub.{direction_number}
 use Rattle.ide_types.specs.declared.direction.Direction.{Direction}

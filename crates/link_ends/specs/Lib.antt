@@ -3,6 +3,7 @@ pub mod Keepers
 pub mod PairKeepers
 pub mod Hosts
 pub mod DeviceEnds
+pub mod InterfaceKeepers
 pub mod LineEnds
 -- what clauses and crates above cite
 pub use Rattle.link_ends.specs.DeviceEnds.{secure_or_live, DeviceEnd, new_device, secure_at, settled_device}

@@ -8,22 +8,39 @@ ghost use Rattle.ide_types.specs.RegisterNames.{has_register, width_of};
 ghost use Rattle.interface_state.specs.Machine.{state_code, LevelReset, FirmwareUpdate, WriteRegister};
 ghost use Rattle.interface_ends.specs.Replies.{called_at};
 ghost use Rattle.ide_port.specs.{IsSentAtPort, PortUnitsAtMost};
-ghost use Rattle.link_ends.specs.DeviceEnds.{secure_at};
+ghost use Rattle.interface_ends.specs.Replies.{interfaces_after_answer, answer_bytes, stream_named};
+ghost use Rattle.link_ends.specs.DeviceEnds.{secure_at, protocol_of};
 
 use crate::wiring::{Owners, PeerStreams, SecureStreams, is_secure_at_port};
 use ide_port::{Port, SendBuffer, Sent};
 use ide_types::{InterfacePlan, Items, OutOfMemory, PortName, Side, StreamPlan};
-use interface_ends::DeviceInterfaces;
+use interface_ends::{DeviceInterfaces, StreamSaid, stream_named};
 use interface_state::Register;
 use key_messages::Responder;
 use std::alloc::Global;
 use tlp_layout::OutgoingTlp;
 
+// What a request is of, by its first byte.
+enum Protocol {
+    KeyManagement,
+    Interfaces,
+}
+
+fn protocol_of(request: &[u8]) -> Option<Protocol>
+    ensures { result ≡ protocol_of request.now }
+{
+    match request.first().copied() {
+        Some(0) => Some(Protocol::KeyManagement),
+        Some(1) => Some(Protocol::Interfaces),
+        _ => None,
+    }
+}
+
 /// The device of a link: its port with the link's streams, whose keys its responder moves, and its interfaces (PCI
 /// Express Base 6.0 section 6.33 and chapter 11, in this profile).
 #[derive(Drop)]
 pub struct Device {
-    /// The port, whose keys are moved by `answer_of_keys` alone. After an arrival there the caller calls `settle`.
+    /// The port, whose keys are moved by `answer` alone. After an arrival there the caller calls `settle`.
     pub port: Port,
     /// The requester ID that the responder gives in its answer to QUERY.
     pub requester: u16,
@@ -33,7 +50,7 @@ pub struct Device {
 
 impl Device {
     ghost use Rattle.link_ends.specs.DeviceEnds.{new_device, settled_device, asked_device, reply_given};
-    ghost use Rattle.link_ends.specs.DeviceEnds.{device_trusting};
+    ghost use Rattle.link_ends.specs.DeviceEnds.{device_trusting, said_of, answered_device, device_answer};
 
     /// The device of a line with these streams, without keys, and these interfaces, whose locks get these nonces; a key
     /// seals at most `limit` units. `requester` is the requester ID that it gives in its answer to QUERY, 0 if it has
@@ -76,9 +93,8 @@ impl Device {
         self.interfaces.settle(&streams);
     }
 
-    /// Answers a message of key management, one of several that reach the device at one event; after the last of them
-    /// the caller calls `settle`. `reply` has 8 bytes of room.
-    pub fn answer_of_keys(&mut self, request: &[u8], draw: u32, reply: &mut Vec<u8>)
+    // Answers a message of key management.
+    fn answer_of_keys(&mut self, request: &[u8], draw: u32, reply: &mut Vec<u8>)
         requires { vec_len reply.old + 8 ≤ vec_capacity reply.old }
         ensures device { self.new ≡ asked_device self.old request.now draw }
         ensures reply { reply.new.items ≡ reply.old.items ++ reply_given self.old request.now draw }
@@ -86,6 +102,67 @@ impl Device {
     {
         let mut responder = Responder::make(self.requester);
         responder.answer(&mut self.port, request, draw, reply);
+    }
+
+    // What it says of the stream that a request names.
+    fn said<P: PeerStreams>(&self, peers: &P, stream: Option<u8>) -> StreamSaid
+        ensures { result ≡ said_of (P.live peers.now) self.now.port stream }
+    {
+        match stream {
+            None => StreamSaid {
+                secure: false,
+                live: None,
+            },
+            Some(stream) => StreamSaid {
+                secure: self.is_secure(stream),
+                live: peers.live(stream),
+            },
+        }
+    }
+
+    // Answers a message of TDISP.
+    fn answer_of_interfaces<P: PeerStreams>(
+        &mut self,
+        peers: &P,
+        request: &[u8],
+        reply: &mut Vec<u8>,
+    )
+        requires { vec_len reply.old + 1200 ≤ vec_capacity reply.old }
+        ensures device { self.new ≡ record self.old {
+          interfaces = interfaces_after_answer self.old.interfaces request.now
+              (said_of (P.live peers.now) self.old.port (stream_named request.now));
+        } }
+        ensures reply { reply.new.items ≡ reply.old.items ++ answer_bytes self.old.interfaces request.now
+            (said_of (P.live peers.now) self.old.port (stream_named request.now)) }
+        ensures capacity { vec_capacity reply.old ≤ vec_capacity reply.new }
+    {
+        let said = self.said(peers, stream_named(request));
+        self.interfaces.answer(request, said, reply);
+    }
+
+    /// Answers a request of any bytes. By its first byte it is of key management (00h) or of interfaces (01h); of any
+    /// other, and of no bytes, nothing comes and nothing changes (this profile). `draw` is the number under which a
+    /// KEY_PROG's key is kept; `peers` says what stands at its ends of streams between it and others. After the last
+    /// request of an event that is of keys the caller calls `settle`. `reply` has 1,200 bytes of room, so it takes no
+    /// memory.
+    pub fn answer<P: PeerStreams>(
+        &mut self,
+        peers: &P,
+        request: &[u8],
+        draw: u32,
+        reply: &mut Vec<u8>,
+    )
+        requires { vec_len reply.old + 1200 ≤ vec_capacity reply.old }
+        ensures device { self.new ≡ answered_device (P.live peers.now) self.old request.now draw }
+        ensures reply { reply.new.items ≡ reply.old.items
+            ++ device_answer (P.live peers.now) self.old request.now draw }
+        ensures capacity { vec_capacity reply.old ≤ vec_capacity reply.new }
+    {
+        match protocol_of(request) {
+            Some(Protocol::KeyManagement) => self.answer_of_keys(request, draw, reply),
+            Some(Protocol::Interfaces) => self.answer_of_interfaces(peers, request, reply),
+            None => {}
+        }
     }
 
     /// Whether the port has the stream, and it is Secure there.

@@ -11,16 +11,17 @@ ghost use Rattle.interface_host.specs.Managers.{new_interface_manager as new_int
 ghost use Rattle.interface_host.specs.Managers.{reset_interface_manager as reset_interfaces};
 ghost use Rattle.interface_ends.specs.Replies.{settled_interfaces};
 ghost use Rattle.interface_ends.specs.Keepers.{Ended};
-ghost use Rattle.link_ends.specs.DeviceEnds.{secure_at, secure_or_live};
-ghost use Rattle.link_ends.specs.Hosts.{manager_told, keyed_if, keyed_at_end, stopped_if, live_for_operation};
+ghost use Rattle.link_ends.specs.DeviceEnds.{secure_or_live};
+ghost use Rattle.link_ends.specs.Hosts.{manager_told, keyed_if, keyed_at_end, stopped_if};
 ghost use Rattle.link_ends.specs.Hosts.{status_for_operation};
 ghost use Rattle.link_ends.specs.Hosts.{pair_told, peer_drawn};
 
 use crate::ends::LinkEnds;
+use crate::interface_keeper::InterfaceKeeper;
 use crate::keeper::KeyKeeper;
+use crate::wiring::NoPeers;
 use crate::{PairEnds, PeerStreams};
 use ide_types::{FIRST_PEER_LINE, OutOfMemory, PortName, StreamStatus, ValidPlan};
-use interface_ends::{InterfaceKeeper, StreamSaid};
 use interface_host::InterfaceOperation;
 use key_host::{NamedOperation, StreamOutcome, StreamResult};
 use script_events::Loss;
@@ -43,16 +44,6 @@ fn status_or_idle(status: Option<StreamStatus>) -> StreamStatus
     match status {
         None => StreamStatus::Idle,
         Some(status) => status,
-    }
-}
-
-// What is Live at the device's end of the stream between devices that an operation names.
-fn live_for_operation<P: PeerStreams>(peers: &P, op: InterfaceOperation) -> Option<u32>
-    ensures { result ≡ live_for_operation (P.live peers.now) op }
-{
-    match op {
-        InterfaceOperation::Bind(peer) => peers.live(peer.id),
-        _ => None,
     }
 }
 
@@ -183,7 +174,7 @@ impl HostKeeper {
     {
         let begins = self.keys.begins(op);
         let draw = self.keys.draws();
-        let outcome = self.keys.operate(ends, op, loss);
+        let outcome = self.keys.operate(ends, peers, op, loss);
         ends.device.settle(peers);
         let drew = self.keys.draws() != draw;
         tell(&mut self.interfaces, op, begins, drew, draw, outcome);
@@ -203,7 +194,7 @@ impl HostKeeper {
         ensures units { KeysAlone ends.old ends.new }
         ensures kept { self.new ≡ record self.old { keys = self.new.keys } }
     {
-        self.keys.operate(ends, op, loss)
+        self.keys.operate(ends, &NoPeers {}, op, loss)
     }
 
     /// The same on a line that is keyed by messages at both ends: the segment of a hop towards the device, or a stream
@@ -274,14 +265,10 @@ impl HostKeeper {
     {
         let stream = self.interfaces.manager().stream(interface);
         let status = self.status_for_operation(op, ends.host.status(stream));
-        let said = StreamSaid {
-            secure: ends.device.is_secure(stream),
-            live: live_for_operation(peers, op),
-        };
         let draws = self.keys.draws();
-        let device = &mut ends.device.interfaces;
+        let device = &mut ends.device;
         self.interfaces
-            .operate(device, interface, op, status, said, draws, loss)
+            .operate(device, peers, interface, op, status, draws, loss)
     }
 
     /// Notes a reset of a link, which clears these ends: the streams of their lines are without keys again and their

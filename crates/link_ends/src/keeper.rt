@@ -18,8 +18,9 @@ ghost use Rattle.join_keys.specs.Walks.{judged_bytes};
 ghost use Rattle.spec_keys.specs.Due.{lost_message};
 
 use crate::ends::LinkEnds;
-use crate::{Device, PairEnds};
+use crate::{Device, PairEnds, PeerStreams};
 use ide_types::{OutOfMemory, PortName, StreamStatus, ValidPlan};
+use interface_ends::TDISP_REPLY_ROOM;
 use key_host::{ExchangeReply, Manager, NamedOperation, StageFacts, StreamOutcome};
 use key_slots::KeyPool;
 use script_events::{Loss, Lost};
@@ -28,9 +29,6 @@ use std::marker::Model;
 
 /// The room that a request needs, in bytes.
 const REQUEST_ROOM: usize = 49;
-
-/// The room that a reply needs, in bytes.
-const REPLY_ROOM: usize = 8;
 
 /// The most exchanges of an operation.
 const MOST_EXCHANGES: u8 = 13;
@@ -56,7 +54,7 @@ impl Model for KeyKeeper {
 
     ghost view = { λ k. record { manager = k.manager; pool = k.pool } };
 
-    ghost invariant = { λ k. (49 ≤ vec_capacity k.request) × (8 ≤ vec_capacity k.reply) };
+    ghost invariant = { λ k. (49 ≤ vec_capacity k.request) × (1200 ≤ vec_capacity k.reply) };
 }
 
 /// What is lost of the exchange of this number; `None` if nothing is.
@@ -81,21 +79,27 @@ fn carried(reply: &[u8]) -> ExchangeReply<'_>
 }
 
 // Gives the device the request of the exchange that is next; `reply` holds what it answers.
-fn deliver(manager: &Manager, device: &mut Device, request: &mut Vec<u8>, reply: &mut Vec<u8>)
+fn deliver<P: PeerStreams>(
+    manager: &Manager,
+    device: &mut Device,
+    peers: &P,
+    request: &mut Vec<u8>,
+    reply: &mut Vec<u8>,
+)
     requires asking { IsSome (current manager.now) }
     requires request_room { 49 ≤ vec_capacity request.old }
-    requires reply_room { 8 ≤ vec_capacity reply.old }
+    requires reply_room { 1200 ≤ vec_capacity reply.old }
     ensures device { IfSome (current manager.now) (λ c. device.new ≡ asked_device device.old
         (object_spelling (request_asked (has_host c.stream) c.asked c.stream)) c.asked.draw) }
     ensures reply { IfSome (current manager.now) (λ c. reply.new.items ≡ reply_given device.old
         (object_spelling (request_asked (has_host c.stream) c.asked c.stream)) c.asked.draw) }
     ensures request_room { 49 ≤ vec_capacity request.new }
-    ensures reply_room { 8 ≤ vec_capacity reply.new }
+    ensures reply_room { 1200 ≤ vec_capacity reply.new }
 {
     request.clear();
     let draw = manager.ask(request);
     reply.clear();
-    device.answer_of_keys(request, draw, reply);
+    device.answer(peers, request, draw, reply);
 }
 
 // Gives the end of a line that it is for the request of the exchange that is next; `reply` holds what it answers.
@@ -107,7 +111,7 @@ fn deliver_to_end(
 )
     requires asking { IsSome (current manager.now) }
     requires request_room { 49 ≤ vec_capacity request.old }
-    requires reply_room { 8 ≤ vec_capacity reply.old }
+    requires reply_room { 1200 ≤ vec_capacity reply.old }
     ensures ends { IfSome (current manager.now) (λ c.
         let side = end_asked (has_host c.stream) c.asked in
         let bytes = object_spelling (request_asked (has_host c.stream) c.asked c.stream) in
@@ -117,7 +121,7 @@ fn deliver_to_end(
         let bytes = object_spelling (request_asked (has_host c.stream) c.asked c.stream) in
         reply.new.items ≡ end_reply (line_end_in side ends.old) bytes c.asked.draw) }
     ensures request_room { 49 ≤ vec_capacity request.new }
-    ensures reply_room { 8 ≤ vec_capacity reply.new }
+    ensures reply_room { 1200 ≤ vec_capacity reply.new }
 {
     request.clear();
     let draw = manager.ask(request);
@@ -140,7 +144,7 @@ impl KeyKeeper {
         let manager = Manager::make(alloc, plan)?;
         let pool = KeyPool::make(alloc, plan.plan().pool.as_slice())?;
         let request = Vec::with_capacity(alloc, REQUEST_ROOM)?;
-        let reply = Vec::with_capacity(alloc, REPLY_ROOM)?;
+        let reply = Vec::with_capacity(alloc, TDISP_REPLY_ROOM)?;
         Ok(KeyKeeper {
             manager,
             pool,
@@ -180,7 +184,12 @@ impl KeyKeeper {
     }
 
     // Carries the exchange that is next, but for the message of it that `loss` loses, if any.
-    fn exchange(&mut self, ends: &mut LinkEnds, loss: Option<Loss>) -> StreamOutcome
+    fn exchange<P: PeerStreams>(
+        &mut self,
+        ends: &mut LinkEnds,
+        peers: &P,
+        loss: Option<Loss>,
+    ) -> StreamOutcome
         requires { IsSome (current self.old.manager) }
         ensures units { KeysAlone ends.old ends.new }
         ensures exchange { Exchanges loss self.old.manager ends.old result self.new.manager ends.new }
@@ -191,6 +200,7 @@ impl KeyKeeper {
                 deliver(
                     &self.manager,
                     &mut ends.device,
+                    peers,
                     &mut self.request,
                     &mut self.reply,
                 );
@@ -201,6 +211,7 @@ impl KeyKeeper {
                 deliver(
                     &self.manager,
                     &mut ends.device,
+                    peers,
                     &mut self.request,
                     &mut self.reply,
                 );
@@ -210,7 +221,13 @@ impl KeyKeeper {
     }
 
     // Up to so many exchanges of the operation that is asked.
-    fn walk(&mut self, more: u8, ends: &mut LinkEnds, loss: Option<Loss>) -> StreamOutcome
+    fn walk<P: PeerStreams>(
+        &mut self,
+        more: u8,
+        ends: &mut LinkEnds,
+        peers: &P,
+        loss: Option<Loss>,
+    ) -> StreamOutcome
         ensures units { KeysAlone ends.old ends.new }
         ensures walk { Walks more loss self.old.manager ends.old result self.new.manager ends.new }
         ensures pool { self.new.pool ≡ self.old.pool }
@@ -221,17 +238,19 @@ impl KeyKeeper {
         if !self.manager.is_asking() {
             return StreamOutcome::Next;
         }
-        match self.exchange(ends, loss) {
-            StreamOutcome::Next => self.walk(more - 1, ends, loss),
+        match self.exchange(ends, peers, loss) {
+            StreamOutcome::Next => self.walk(more - 1, ends, peers, loss),
             outcome => outcome,
         }
     }
 
     /// Begins an operation on a stream of the line with these ends, or goes on with it, and carries its exchanges until
-    /// it is done or refused, or `loss` loses one.
-    pub fn operate(
+    /// it is done or refused, or `loss` loses one. `peers` says what stands at the device's ends of streams between it
+    /// and others.
+    pub fn operate<P: PeerStreams>(
         &mut self,
         ends: &mut LinkEnds,
+        peers: &P,
         op: NamedOperation,
         loss: Option<Loss>,
     ) -> StreamOutcome
@@ -241,7 +260,7 @@ impl KeyKeeper {
     {
         match self.manager.begin(&mut ends.host, &mut self.pool, op) {
             Err(refusal) => StreamOutcome::Refused(refusal),
-            Ok(()) => self.walk(MOST_EXCHANGES, ends, loss),
+            Ok(()) => self.walk(MOST_EXCHANGES, ends, peers, loss),
         }
     }
 

@@ -20,6 +20,18 @@ pub trait PeerStreams {
         ensures { result ≡ live self.now stream };
 }
 
+/// Of a device that has no stream between it and another: the port of a switch towards the host.
+pub struct NoPeers {}
+
+impl PeerStreams for NoPeers {
+    ghost live = { λ s stream. None };
+
+    fn live(&self, stream: u8) -> Option<u32> {
+        let _ = stream;
+        None
+    }
+}
+
 /// The streams of a device, as its interfaces see them: those of its port, and those between it and others.
 #[derive(Drop)]
 pub struct SecureStreams<'a, P> {

@@ -14,10 +14,11 @@ use Rattle.toml.specs.Data.{Data, Members, get_member, as_table}
 use Rattle.toml_walk.specs.declared.bounds.Bounds.{Bounds}
 use Rattle.toml_walk.specs.declared.list.CountRange.{CountRange}
 use Rattle.toml_walk.specs.declared.fault.PlanFault.{PlanFault}
-use Rattle.toml_walk.specs.declared.fault.PlanFault.TheVariants.{Range, Limit}
-use Rattle.toml_walk.specs.Fault.{◌>>=◌, or_fault}
+use Rattle.toml_walk.specs.declared.fault.KeyFault.TheVariants.{Range, Limit}
+use Rattle.toml_walk.specs.Fault.{◌>>=◌, refused, or_fault}
+use Rattle.toml_walk.specs.Paths.{Path, Place}
 use Rattle.toml_walk.specs.Bounds.{admits, has_form}
-use Rattle.toml_walk.specs.Walk.{Text, Reader, place, required_value, found_or, optional, table, values_of, is_past}
+use Rattle.toml_walk.specs.Walk.{Text, Reader, required_value, found_or, optional, table, values_of, is_past}
 use Rattle.toml_walk.specs.Walk.{within_span, each, list, given_value}
 use Rattle.toml_walk.specs.Values.{integer, bounded_number, number, text, or_length, key_bytes, hex_bytes, both}
 use Rattle.toml_walk.specs.Values.{two_in_list, two}
@@ -70,11 +71,11 @@ admitted b n h =
     let high = both_true (nat_le n b.most) _ low.1 in
     record { least = leb-true _ _ low.0; most = leb-true _ _ high.0; form = high.1 }
 
-bounded_holds : (b : Bounds) (path : Text) (z : ℤ) → Holds (Admitted b) (bounded_number b path z)
+bounded_holds : (b : Bounds) (path : Path) (z : ℤ) → Holds (Admitted b) (bounded_number b path z)
 bounded_holds b path (pos n) = checked (Admitted b) (admits b n) n _ (admitted b n)
 bounded_holds b path (negsuc n) = faulty (Admitted b) _
 
-pub number_holds : (b : Bounds) (path : Text) (d : Data) → Holds (Admitted b) (number b path d)
+pub number_holds : (b : Bounds) (path : Path) (d : Data) → Holds (Admitted b) (number b path d)
 number_holds b path d = next (λ _. Unit {0}) (Admitted b) (integer path d) (bounded_number b path) (anything _)
     (λ z _. bounded_holds b path z)
 
@@ -91,7 +92,7 @@ all_bytes : (bytes : List ℕ) → IsBytes bytes → All (λ b. b < 256) bytes
 all_bytes bytes h = All-from_get_or (λ b. b < 256) bytes 0 (λ i _. h i)
 
 -- 32 bytes
-pub key_holds : (path : Text) (d : Data) → Holds (λ key. (length key ≡ 32) × All (λ b. b < 256) key) (key_bytes path d)
+pub key_holds : (path : Path) (d : Data) → Holds (λ key. (length key ≡ 32) × All (λ b. b < 256) key) (key_bytes path d)
 key_holds path d = next (λ _. Unit {0}) _ (text path d) (λ t. or_length path t (result_ok (decode_sized t 32)))
     (anything _)
     (λ t _. or_fault_holds _ _ _ (λ key e.
@@ -100,7 +101,7 @@ key_holds path d = next (λ _. Unit {0}) _ (text path d) (λ t. or_length path t
     let ok = decode_of-ok t key (sym (decode_sized-twice t 32 long) ∙ sized) in
     (omega (arith, ok.2, long), all_bytes key ok.3)))
 
-short_holds : (most : ℕ) (path t : Text) (b : Bool) → nat_le (length t) (2 * most) ≡ b
+short_holds : (most : ℕ) (path : Path) (t : Text) (b : Bool) → nat_le (length t) (2 * most) ≡ b
     → Holds (λ bytes. (length bytes ≤ most) × All (λ c. c < 256) bytes)
     (cond b (or_length path t (result_ok (decode_of t))) (or_length path t None))
 short_holds most path t true h = or_fault_holds _ (result_ok (decode_of t)) _ (λ bytes e.
@@ -110,7 +111,7 @@ short_holds most path t true h = or_fault_holds _ (result_ok (decode_of t)) _ (�
 short_holds most path t false h = faulty _ _
 
 -- up to so many bytes
-pub hex_holds : (most : ℕ) (path : Text) (d : Data) → Holds (λ bytes. (length bytes ≤ most) × All (λ b. b < 256) bytes)
+pub hex_holds : (most : ℕ) (path : Path) (d : Data) → Holds (λ bytes. (length bytes ≤ most) × All (λ b. b < 256) bytes)
     (hex_bytes most path d)
 hex_holds most path d = next (λ _. Unit {0}) _ (text path d)
     (λ t. cond (nat_le (length t) (2 * most)) (or_length path t (result_ok (decode_of t))) (or_length path t None))
@@ -118,28 +119,28 @@ hex_holds most path d = next (λ _. Unit {0}) _ (text path d)
     (λ t _. short_holds most path t (nat_le (length t) (2 * most)) refl)
 
 -- a key's value, and its default
-pub required_holds : {A : Type 0} (P : A → Type 0) (t : Text) (ms : Members) (name : Text) (read : Reader A)
-    → ((path : Text) (d : Data) → Holds P (read path d)) → Holds P (required_value t ms name read)
+pub required_holds : {A : Type 0} (P : A → Type 0) (t : Path) (ms : Members) (name : Text) (read : Reader A)
+    → ((path : Path) (d : Data) → Holds P (read path d)) → Holds P (required_value t ms name read)
 required_holds P t ms name read h = next (λ _. Unit {0}) P (or_fault (get_member name ms) _) (λ d. read _ d)
     (anything _) (λ d _. h _ d)
 
-found_holds : {A : Type 0} (P : A → Type 0) (path : Text) (default : A) (read : Reader A) (o : Option Data) → P default
-    → ((path : Text) (d : Data) → Holds P (read path d)) → Holds P (found_or path default read o)
+found_holds : {A : Type 0} (P : A → Type 0) (path : Path) (default : A) (read : Reader A) (o : Option Data) → P default
+    → ((path : Path) (d : Data) → Holds P (read path d)) → Holds P (found_or path default read o)
 found_holds P path default read None p h = gives P default p
 found_holds P path default read (Some d) p h = h path d
 
-pub optional_holds : {A : Type 0} (P : A → Type 0) (t : Text) (ms : Members) (name : Text) (default : A)
-    (read : Reader A) → P default → ((path : Text) (d : Data) → Holds P (read path d))
+pub optional_holds : {A : Type 0} (P : A → Type 0) (t : Path) (ms : Members) (name : Text) (default : A)
+    (read : Reader A) → P default → ((path : Path) (d : Data) → Holds P (read path d))
     → Holds P (optional t ms name default read)
 optional_holds P t ms name default read p h = found_holds P _ default read (get_member name ms) p h
 
-pub given_holds : {A : Type 0} (P : A → Type 0) (read : Reader A) → ((path : Text) (d : Data) → Holds P (read path d))
-    → (path : Text) (d : Data) → Holds (λ (o : Option A). IfSome o P) (given_value read path d)
+pub given_holds : {A : Type 0} (P : A → Type 0) (read : Reader A) → ((path : Path) (d : Data) → Holds P (read path d))
+    → (path : Path) (d : Data) → Holds (λ (o : Option A). IfSome o P) (given_value read path d)
 given_holds {A} P read h path d = next P (λ (o : Option A). IfSome o P) (read path d) (λ x. Ok (Some x)) (h path d)
     (λ x p. gives (λ (o : Option A). IfSome o P) (Some x) p)
 
-pub table_holds : {A : Type 0} (P : A → Type 0) (keys : Text → Members → Result A PlanFault)
-    → ((t : Text) (ms : Members) → Holds P (keys t ms)) → (path : Text) (d : Data) → Holds P (table keys path d)
+pub table_holds : {A : Type 0} (P : A → Type 0) (keys : Path → Members → Result A PlanFault)
+    → ((t : Path) (ms : Members) → Holds P (keys t ms)) → (path : Path) (d : Data) → Holds P (table keys path d)
 table_holds P keys h path d = next (λ _. Unit {0}) P (or_fault (as_table d) _) (λ ms. keys _ ms) (anything _)
     (λ ms _. h _ ms)
 
@@ -149,11 +150,12 @@ pub record Listed {A : Type 0} (span : CountRange) (P : A → Type 0) (xs : List
   pub most : is_past span.most (length xs) ≡ false
   pub each : All P xs
 
-each_holds : {A : Type 0} (P : A → Type 0) (one : Reader A) → ((path : Text) (d : Data) → Holds P (one path d))
-    → (path : Text) (i : ℕ) (ds : List Data) → Holds (λ xs. (length xs ≡ length ds) × All P xs) (each one path i ds)
+each_holds : {A : Type 0} (P : A → Type 0) (one : Reader A) → ((path : Path) (d : Data) → Holds P (one path d))
+    → (path : Path) (i : ℕ) (ds : List Data) → Holds (λ xs. (length xs ≡ length ds) × All P xs) (each one path i ds)
 each_holds P one h path i [] = gives _ [] (refl, All-nil P)
 each_holds {A} P one h path i (d ∷ ds) =
-    next P _ (one (place path i) d) (λ x. each one path (i + 1) ds >>= λ xs. Ok (x ∷ xs)) (h (place path i) d) (λ x p.
+    next P _ (one (Place i ∷ path) d) (λ x. each one path (i + 1) ds >>= λ xs. Ok (x ∷ xs)) (h (Place i ∷ path) d)
+    (λ x p.
     next (λ (xs : List A). (length xs ≡ length ds) × All P xs) _ (each one path (i + 1) ds) (λ xs. Ok (x ∷ xs))
     (each_holds P one h path (i + 1) ds) (λ xs ps.
     gives _ (x ∷ xs) (grind (arith, ps.0), All-cons P x xs p ps.1)))
@@ -162,17 +164,17 @@ neither : (a b : Bool) → (a || b) ≡ false → a ≡ false
 neither true b h = cc
 neither false b h = refl
 
-counted_holds : (span : CountRange) (path : Text) (ds : List Data) (past few : Bool) → is_past span.most (length ds)
+counted_holds : (span : CountRange) (path : Path) (ds : List Data) (past few : Bool) → is_past span.most (length ds)
     ≡ past
     → (nat_lt (length ds) span.least || (not span.allowed && nat_lt 0 (length ds))) ≡ few
     → Holds (λ (es : List Data). (span.least ≤ length es) × (is_past span.most (length es) ≡ false))
-    (cond past (Err (Limit path)) (cond few (Err (Range path (pos (length ds)))) (Ok ds)))
+    (cond past (Err (refused path Limit)) (cond few (Err (refused path (Range (pos (length ds))))) (Ok ds)))
 counted_holds span path ds true few p f = faulty _ _
 counted_holds span path ds false true p f = faulty _ _
 counted_holds span path ds false false p f = gives _ ds (ltb-false (length ds) span.least (neither _ _ f), p)
 
 pub list_holds : {A : Type 0} (span : CountRange) (P : A → Type 0) (one : Reader A)
-    → ((path : Text) (d : Data) → Holds P (one path d)) → (path : Text) (d : Data)
+    → ((path : Path) (d : Data) → Holds P (one path d)) → (path : Path) (d : Data)
     → Holds (Listed span P) (list span one path d)
 list_holds {A} span P one h path d =
     next (λ _. Unit {0}) (Listed span P) (values_of path d)
@@ -183,15 +185,15 @@ list_holds {A} span P one h path d =
     weaker _ (Listed span P) (each one path 0 cs) (each_holds P one h path 0 cs) (λ xs r.
     record { least = rw r.0 q.0; most = rw r.0 q.1; each = r.1 })))
 
-both_holds : (first last : Bounds) (path : Text) (d e : Data)
+both_holds : (first last : Bounds) (path : Path) (d e : Data)
     → Holds (λ (p : ℕ × ℕ). Admitted first p.0 × Admitted last p.1) (both first last path d e)
 both_holds first last path d e =
-    next (Admitted first) _ (number first (place path 0) d) (λ m. number last (place path 1) e >>= λ n. Ok (m, n))
+    next (Admitted first) _ (number first (Place 0 ∷ path) d) (λ m. number last (Place 1 ∷ path) e >>= λ n. Ok (m, n))
     (number_holds first _ d) (λ m p.
-    next (Admitted last) _ (number last (place path 1) e) (λ n. Ok (m, n)) (number_holds last _ e)
+    next (Admitted last) _ (number last (Place 1 ∷ path) e) (λ n. Ok (m, n)) (number_holds last _ e)
     (λ n q. gives _ (m, n) (p, q)))
 
-two_in_holds : (allowed : Bool) (first last : Bounds) (path : Text) (ds : List Data)
+two_in_holds : (allowed : Bool) (first last : Bounds) (path : Path) (ds : List Data)
     → Holds (λ (p : ℕ × ℕ). Admitted first p.0 × Admitted last p.1) (two_in_list allowed first last path ds)
 two_in_holds allowed first last path [] = faulty _ _
 two_in_holds allowed first last path (d ∷ []) = faulty _ _
@@ -200,7 +202,7 @@ two_in_holds false first last path (d ∷ e ∷ []) = faulty _ _
 two_in_holds allowed first last path (d ∷ e ∷ f ∷ ds) = faulty _ _
 
 -- two numbers, each within its bounds
-pub two_holds : (allowed : Bool) (first last : Bounds) (path : Text) (d : Data)
+pub two_holds : (allowed : Bool) (first last : Bounds) (path : Path) (d : Data)
     → Holds (λ (p : ℕ × ℕ). Admitted first p.0 × Admitted last p.1) (two allowed first last path d)
 two_holds allowed first last path d = next (λ _. Unit {0}) _ (values_of path d)
     (λ ds. two_in_list allowed first last path ds) (anything _) (λ ds _. two_in_holds allowed first last path ds)

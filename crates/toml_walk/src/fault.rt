@@ -6,24 +6,31 @@ ghost use Rattle.toml_walk.specs.declared.fault.PlanError.TheVariants.{Memory};
 use ide_types::Bytes;
 use std::alloc::{AllocError, AllocFailed};
 
-/// The first fault of a walk (this profile). A key is named by its path: keys and places in lists, joined by dots.
+/// Why a key is refused (this profile).
+#[derive(Clone, Copy)]
+pub enum KeyFault {
+    /// The key is not there and has no default.
+    Missing,
+    /// The key's value is of another kind.
+    Kind,
+    /// The key's value is outside its bounds: the number, the length of a text in bytes or of a list in elements, or 1
+    /// for `true`.
+    Range(i64),
+    /// Two elements of the list may not stand beside each other: their places, the least such pair.
+    Repeated(usize, usize),
+    /// No table has such a key.
+    Unknown,
+    /// The list has too many elements.
+    Limit,
+}
+
+/// The first fault of a walk (this profile).
 #[derive(Drop)]
 pub enum PlanFault {
     /// The bytes are no TOML text.
     NotToml,
-    /// The key is not there and has no default.
-    Missing(Bytes),
-    /// The key's value is of another kind.
-    Kind(Bytes),
-    /// The key's value is outside its bounds: the number, the length of a text in bytes or of a list in elements, or 1
-    /// for `true`.
-    Range(Bytes, i64),
-    /// Two elements of the list may not stand beside each other: their places, the least such pair.
-    Repeated(Bytes, usize, usize),
-    /// No table has such a key.
-    Unknown(Bytes),
-    /// The list has too many elements.
-    Limit(Bytes),
+    /// A key is refused. Its path names it: keys, each as TOML writes it, and places in lists, joined by dots.
+    At { path: Bytes, fault: KeyFault },
 }
 
 /// Why there is no plan: there was no memory, or the text has a fault.

@@ -7,8 +7,8 @@ ghost use Rattle.toml_walk.specs.Fault.{Gives};
 ghost use Rattle.toml_walk.specs.Walk.{data_list, values_of, within_span, each, list, is_past, count_between};
 ghost use Rattle.toml_walk.specs.Walk.{any_number};
 
-use crate::{PlanError, PlanFault, Reader, place_path};
-use ide_types::{Bytes, Items};
+use crate::{KeyFault, Path, PlanError, Reader};
+use ide_types::Items;
 use std::alloc::Global;
 use toml::Value;
 
@@ -67,11 +67,11 @@ fn items_if_list(value: &Value) -> Option<&[Value]>
 }
 
 /// The elements of the list that a value is, or the fault `Kind` of this path.
-pub fn items_of(path: Bytes, value: &Value) -> Result<&[Value], PlanError>
-    ensures { Gives (λ vs. map view vs.now) result (values_of path (view value.now)) }
+pub fn items_of<'a>(alloc: Global, path: &Path, value: &'a Value) -> Result<&'a [Value], PlanError>
+    ensures { Gives (λ vs. map view vs.now) result (values_of path.now (view value.now)) }
 {
     match items_if_list(value) {
-        None => Err(PlanError::Fault(PlanFault::Kind(path))),
+        None => Err(path.refuse(alloc, KeyFault::Kind)),
         Some(items) => Ok(items),
     }
 }
@@ -80,17 +80,17 @@ pub fn items_of(path: Bytes, value: &Value) -> Result<&[Value], PlanError>
 fn refuse_count(
     alloc: Global,
     span: &CountRange,
-    path: &[u8],
+    path: &Path,
     items: &[Value],
 ) -> Result<(), PlanError>
     ensures { Gives (λ _. map view items.now) result (within_span span.now path.now (map view items.now)) }
 {
     let count = items.len();
     if span.is_passed(count) {
-        return Err(PlanError::Fault(PlanFault::Limit(Bytes::copied(alloc, path)?)));
+        return Err(path.refuse(alloc, KeyFault::Limit));
     }
     if count < span.least || (!span.allowed && count > 0) {
-        return Err(PlanError::Fault(PlanFault::Range(Bytes::copied(alloc, path)?, count as i64)));
+        return Err(path.refuse(alloc, KeyFault::Range(count as i64)));
     }
     Ok(())
 }
@@ -99,15 +99,14 @@ fn refuse_count(
 fn each_of<R: Reader>(
     alloc: Global,
     reader: &R,
-    path: &[u8],
+    path: &Path,
     values: &[Value],
 ) -> Result<Vec<R::Out>, PlanError>
     ensures { Gives (λ v. v.items) result (each (R.reads reader.now) path.now 0 (map view values.now)) }
 {
     let mut all = Vec::new(alloc);
     for (i, value) in values.iter().enumerate() {
-        let place = place_path(alloc, path, i)?;
-        all.push(reader.read(alloc, place.as_slice(), value)?)?;
+        all.push(reader.read(alloc, &path.place(i), value)?)?;
     }
     Ok(all)
 }
@@ -138,8 +137,8 @@ impl<R: Reader> Reader for ListOf<R> {
 
     ghost reads = { λ l. list l.span (R.reads l.element) };
 
-    fn read(&self, alloc: Global, path: &[u8], value: &Value) -> Result<Items<R::Out>, PlanError> {
-        let items = items_of(Bytes::copied(alloc, path)?, value)?;
+    fn read(&self, alloc: Global, path: &Path, value: &Value) -> Result<Items<R::Out>, PlanError> {
+        let items = items_of(alloc, path, value)?;
         refuse_count(alloc, &self.span, path, items)?;
         Ok(Items::new(each_of(alloc, &self.element, path, items)?))
     }

@@ -8,29 +8,28 @@ ghost use Rattle.toml_walk.specs.Walk.{values_of};
 ghost use Rattle.toml_walk.specs.Values.{integer, bounded_number, number, both, two_in_list, two};
 
 use crate::list::items_of;
-use crate::{Bounds, Form, GREATEST, PlanError, PlanFault, Reader, place_path};
-use ide_types::Bytes;
+use crate::{Bounds, Form, GREATEST, KeyFault, Path, PlanError, Reader};
 use std::alloc::Global;
 use toml::Value;
 
 /// The number that a value is, or the fault `Kind` of this path.
-pub fn integer_of(alloc: Global, path: &[u8], value: &Value) -> Result<i64, PlanError>
+pub fn integer_of(alloc: Global, path: &Path, value: &Value) -> Result<i64, PlanError>
     ensures { Gives (λ z. z) result (integer path.now (view value.now)) }
 {
     match value.as_integer() {
-        None => Err(PlanError::Fault(PlanFault::Kind(Bytes::copied(alloc, path)?))),
+        None => Err(path.refuse(alloc, KeyFault::Kind)),
         Some(z) => Ok(z),
     }
 }
 
-fn bounded_of(alloc: Global, bounds: &Bounds, path: &[u8], z: i64) -> Result<u64, PlanError>
+fn bounded_of(alloc: Global, bounds: &Bounds, path: &Path, z: i64) -> Result<u64, PlanError>
     ensures gives { Gives (λ n. n) result (bounded_number bounds.now path.now z) }
     ensures most { IfOk result (λ n. n ≤ bounds.now.most) }
 {
     if z >= 0 && bounds.admit(z as u64) {
         Ok(z as u64)
     } else {
-        Err(PlanError::Fault(PlanFault::Range(Bytes::copied(alloc, path)?, z)))
+        Err(path.refuse(alloc, KeyFault::Range(z)))
     }
 }
 
@@ -39,7 +38,7 @@ fn bounded_of(alloc: Global, bounds: &Bounds, path: &[u8], z: i64) -> Result<u64
 pub fn number_of(
     alloc: Global,
     bounds: &Bounds,
-    path: &[u8],
+    path: &Path,
     value: &Value,
 ) -> Result<u64, PlanError>
     ensures gives { Gives (λ n. n) result (number bounds.now path.now (view value.now)) }
@@ -81,7 +80,7 @@ impl Reader for Byte {
 
     ghost reads = { λ r. number r.bounds };
 
-    fn read(&self, alloc: Global, path: &[u8], value: &Value) -> Result<u8, PlanError> {
+    fn read(&self, alloc: Global, path: &Path, value: &Value) -> Result<u8, PlanError> {
         let n = number_of(alloc, &self.bounds, path, value)?;
         Ok(n as u8)
     }
@@ -119,7 +118,7 @@ impl Reader for Word {
 
     ghost reads = { λ r. number r.bounds };
 
-    fn read(&self, alloc: Global, path: &[u8], value: &Value) -> Result<u16, PlanError> {
+    fn read(&self, alloc: Global, path: &Path, value: &Value) -> Result<u16, PlanError> {
         let n = number_of(alloc, &self.bounds, path, value)?;
         Ok(n as u16)
     }
@@ -148,7 +147,7 @@ impl Reader for Long {
 
     ghost reads = { λ r. number r.bounds };
 
-    fn read(&self, alloc: Global, path: &[u8], value: &Value) -> Result<u32, PlanError> {
+    fn read(&self, alloc: Global, path: &Path, value: &Value) -> Result<u32, PlanError> {
         let n = number_of(alloc, &self.bounds, path, value)?;
         Ok(n as u32)
     }
@@ -185,7 +184,7 @@ impl Reader for Wide {
 
     ghost reads = { λ r. number r.bounds };
 
-    fn read(&self, alloc: Global, path: &[u8], value: &Value) -> Result<u64, PlanError> {
+    fn read(&self, alloc: Global, path: &Path, value: &Value) -> Result<u64, PlanError> {
         number_of(alloc, &self.bounds, path, value)
     }
 }
@@ -195,7 +194,7 @@ fn both_of(
     alloc: Global,
     first: &Bounds,
     last: &Bounds,
-    path: &[u8],
+    path: &Path,
     m: &Value,
     n: &Value,
 ) -> Result<(u64, u64), PlanError>
@@ -203,8 +202,8 @@ fn both_of(
     ensures first_most { IfOk result (λ p. p.0 ≤ first.now.most) }
     ensures last_most { IfOk result (λ p. p.1 ≤ last.now.most) }
 {
-    let m = number_of(alloc, first, place_path(alloc, path, 0)?.as_slice(), m)?;
-    let n = number_of(alloc, last, place_path(alloc, path, 1)?.as_slice(), n)?;
+    let m = number_of(alloc, first, &path.place(0), m)?;
+    let n = number_of(alloc, last, &path.place(1), n)?;
     Ok((m, n))
 }
 
@@ -214,7 +213,7 @@ fn two_of(
     allowed: bool,
     first: &Bounds,
     last: &Bounds,
-    path: &[u8],
+    path: &Path,
     values: &[Value],
 ) -> Result<(u64, u64), PlanError>
     ensures gives { Gives (λ p. p) result (two_in_list allowed first.now last.now path.now (map view values.now)) }
@@ -224,11 +223,11 @@ fn two_of(
     let count = match values {
         [m, n] if allowed => return both_of(alloc, first, last, path, m, n),
         [_, _, _, ..] => {
-            return Err(PlanError::Fault(PlanFault::Limit(Bytes::copied(alloc, path)?)));
+            return Err(path.refuse(alloc, KeyFault::Limit));
         }
         other => other.len(),
     };
-    Err(PlanError::Fault(PlanFault::Range(Bytes::copied(alloc, path)?, count as i64)))
+    Err(path.refuse(alloc, KeyFault::Range(count as i64)))
 }
 
 /// The list of two numbers, each within its bounds, that a value is. Refused, in this order: `Kind` if it is no list,
@@ -239,13 +238,13 @@ pub fn two_numbers(
     allowed: bool,
     first: &Bounds,
     last: &Bounds,
-    path: &[u8],
+    path: &Path,
     value: &Value,
 ) -> Result<(u64, u64), PlanError>
     ensures gives { Gives (λ p. p) result (two allowed first.now last.now path.now (view value.now)) }
     ensures first_most { IfOk result (λ p. p.0 ≤ first.now.most) }
     ensures last_most { IfOk result (λ p. p.1 ≤ last.now.most) }
 {
-    let values = items_of(Bytes::copied(alloc, path)?, value)?;
+    let values = items_of(alloc, path, value)?;
     two_of(alloc, allowed, first, last, path, values)
 }

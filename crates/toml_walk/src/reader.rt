@@ -1,13 +1,14 @@
 //! How the values of keys are read.
 
-ghost use Rattle.std.specs.Prelude.{List, Result, ℕ};
+ghost use Rattle.std.specs.Prelude.{Result};
 ghost use Rattle.toml.specs.Data.{Data};
 ghost use Rattle.toml.specs.View.{view};
 ghost use Rattle.toml_walk.specs.declared.fault.PlanFault.{PlanFault};
 ghost use Rattle.toml_walk.specs.Fault.{Gives};
+ghost use Rattle.toml_walk.specs.Paths as paths;
 ghost use Rattle.toml_walk.specs.Walk.{given_value};
 
-use crate::PlanError;
+use crate::{Path, PlanError};
 use std::alloc::Global;
 use toml::Value;
 
@@ -16,10 +17,10 @@ pub trait Reader {
     /// What such a value means.
     type Out: Drop;
 
-    ghost reads: { Self → List ℕ → Data → Result Self.Out PlanFault };
+    ghost reads: { Self → paths.Path → Data → Result Self.Out PlanFault };
 
     /// What the value at the path means, or its first fault.
-    fn read(&self, alloc: Global, path: &[u8], value: &Value) -> Result<Self::Out, PlanError>
+    fn read(&self, alloc: Global, path: &Path, value: &Value) -> Result<Self::Out, PlanError>
         ensures { Gives (λ x. x) result (reads self.now path.now (view value.now)) };
 }
 
@@ -34,7 +35,7 @@ impl<R: Reader> Reader for Given<R> {
 
     ghost reads = { λ g. given_value (R.reads g.element) };
 
-    fn read(&self, alloc: Global, path: &[u8], value: &Value) -> Result<Option<R::Out>, PlanError> {
+    fn read(&self, alloc: Global, path: &Path, value: &Value) -> Result<Option<R::Out>, PlanError> {
         let given = self.element.read(alloc, path, value)?;
         Ok(Some(given))
     }

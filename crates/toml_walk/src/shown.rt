@@ -6,7 +6,6 @@ ghost use Rattle.std.specs.Str.{chars};
 ghost use Rattle.toml_walk.specs.Shown.{is_bare_byte, is_quoted_byte, is_bare, upper_digit, four_digits};
 ghost use Rattle.toml_walk.specs.Shown.{numbered_escape, shown_char, quoted_text, spelled_key};
 
-use ide_types::Bytes;
 use std::alloc::{AllocError, Global};
 
 fn is_bare_byte(b: u8) -> bool
@@ -118,7 +117,8 @@ fn push_quoted(alloc: Global, key: &str, path: &mut Vec<u8>) -> Result<(), Alloc
     path.extend_from_slice(b"\"")
 }
 
-fn push_shown(alloc: Global, key: &str, path: &mut Vec<u8>) -> Result<(), AllocError>
+/// Pushes a key as TOML writes it in printable ASCII: a bare key as it is, and any other as a basic string (TOML 1.0).
+pub(crate) fn push_shown(alloc: Global, key: &str, path: &mut Vec<u8>) -> Result<(), AllocError>
     ensures { OnOk result (path.new.items ≡ path.old.items ++ spelled_key key.now) }
 {
     if is_bare(key) {
@@ -126,14 +126,4 @@ fn push_shown(alloc: Global, key: &str, path: &mut Vec<u8>) -> Result<(), AllocE
     } else {
         push_quoted(alloc, key, path)
     }
-}
-
-/// The path of a key that no table has: that of its table and a dot, or nothing at the top, and the key as TOML writes
-/// it in printable ASCII, a bare key as it is and any other as a basic string (TOML 1.0).
-pub(crate) fn shown_path(alloc: Global, table: &[u8], key: &str) -> Result<Bytes, AllocError>
-    ensures { IfOk result (λ path. path ≡ table.now ++ spelled_key key.now) }
-{
-    let mut path = table.to_vec(alloc)?;
-    push_shown(alloc, key, &mut path)?;
-    Ok(Bytes::new(path))
 }

@@ -1,17 +1,15 @@
 //! Walking through a table.
 
-ghost use Rattle.std.specs.Prelude.{◌≡◌, ◌++◌, map, option_map, codes, string_bytes};
+ghost use Rattle.std.specs.Prelude.{◌≡◌, map, option_map, string_bytes};
 ghost use Rattle.std.specs.BTreeMap.{IsOrdered, keys};
 ghost use Rattle.std.specs.String.{string_cmp};
 ghost use Rattle.toml.specs.Data.{get_member, as_table};
 ghost use Rattle.toml.specs.View.{view, table_view};
-ghost use Rattle.toml_walk.specs.declared.fault.PlanFault.TheVariants.{Kind};
-ghost use Rattle.toml_walk.specs.Fault.{Gives, or_fault};
+ghost use Rattle.toml_walk.specs.declared.fault.KeyFault.TheVariants.{Kind};
+ghost use Rattle.toml_walk.specs.Fault.{Gives, refused, or_fault};
 ghost use Rattle.toml_walk.specs.Walk.{is_known, unknown_in, only_known, key_names, Ascend, required_value, optional};
 
-use crate::shown::shown_path;
-use crate::{PlanError, PlanFault, Reader, key_path};
-use ide_types::Bytes;
+use crate::{KeyFault, Path, PlanError, Reader};
 use std::alloc::Global;
 use toml::{Table, Value};
 
@@ -41,11 +39,11 @@ fn first_unknown<'a>(known: &[&str], table: &'a Table) -> Option<&'a str>
 }
 
 /// The keys of a table, to be read one after the other.
-#[derive(Drop)]
+#[derive(Clone, Copy)]
 pub struct Keys<'a> {
     pub alloc: Global,
-    /// The table's path and a dot, or nothing for the table at the top.
-    pub path: Bytes,
+    /// The table's path.
+    pub path: &'a Path<'a>,
     pub table: &'a Table,
 }
 
@@ -61,16 +59,13 @@ impl Keys<'_> {
     #[tactic(auto, using(crate::proofs::Lists::keys_of_view, crate::proofs::Unknown::table_ascends))]
     pub fn only(&self, known: &[&str]) -> Result<(), PlanError>
         ensures gives { Gives (λ u. u) result
-            (only_known self.now.path (map (λ s. s.now) known.now) (table_view self.now.table.now)) }
+            (only_known self.now.path.now (map (λ s. s.now) known.now) (table_view self.now.table.now)) }
         // So the first unknown key is the least.
         ensures ascend { Ascend (key_names (table_view self.now.table.now)) }
     {
         match first_unknown(known, self.table) {
             None => Ok(()),
-            Some(key) => {
-                let path = shown_path(self.alloc, self.path.as_slice(), key)?;
-                Err(PlanError::Fault(PlanFault::Unknown(path)))
-            }
+            Some(key) => Err(self.path.key(key).refuse(self.alloc, KeyFault::Unknown)),
         }
     }
 
@@ -78,12 +73,12 @@ impl Keys<'_> {
     /// refuses its value.
     pub fn required<R: Reader>(&self, name: &str, reader: &R) -> Result<R::Out, PlanError>
         ensures { Gives (λ x. x) result
-            (required_value self.now.path (table_view self.now.table.now) name.now (R.reads reader.now)) }
+            (required_value self.now.path.now (table_view self.now.table.now) name.now (R.reads reader.now)) }
     {
-        let path = key_path(self.alloc, self.path.as_slice(), name)?;
+        let path = self.path.key(name);
         match found(self.table, name) {
-            None => Err(PlanError::Fault(PlanFault::Missing(path))),
-            Some(value) => reader.read(self.alloc, path.as_slice(), value),
+            None => Err(path.refuse(self.alloc, KeyFault::Missing)),
+            Some(value) => reader.read(self.alloc, &path, value),
         }
     }
 
@@ -95,24 +90,22 @@ impl Keys<'_> {
         reader: &R,
     ) -> Result<R::Out, PlanError>
         ensures { Gives (λ x. x) result
-            (optional self.now.path (table_view self.now.table.now) name.now default (R.reads reader.now)) }
+            (optional self.now.path.now (table_view self.now.table.now) name.now default (R.reads reader.now)) }
     {
         match found(self.table, name) {
             None => Ok(default),
-            Some(value) => {
-                let path = key_path(self.alloc, self.path.as_slice(), name)?;
-                reader.read(self.alloc, path.as_slice(), value)
-            }
+            Some(value) => reader.read(self.alloc, &self.path.key(name), value),
         }
     }
 }
 
 /// The table that a value is, or the fault `Kind` of this path.
-pub fn table_of(path: Bytes, value: &Value) -> Result<&Table, PlanError>
-    ensures { Gives (λ t. table_view t.now) result (or_fault (as_table (view value.now)) (Kind path)) }
+pub fn table_of<'a>(alloc: Global, path: &Path, value: &'a Value) -> Result<&'a Table, PlanError>
+    ensures { Gives (λ t. table_view t.now) result
+        (or_fault (as_table (view value.now)) (refused path.now Kind)) }
 {
     match value.as_table() {
-        None => Err(PlanError::Fault(PlanFault::Kind(path))),
+        None => Err(path.refuse(alloc, KeyFault::Kind)),
         Some(table) => Ok(table),
     }
 }

@@ -7,7 +7,7 @@ ghost use Rattle.toml.specs.View.{view};
 ghost use Rattle.toml_walk.specs.Fault.{Gives};
 ghost use Rattle.toml_walk.specs.Values.{truth, text, or_length, key_bytes, hex_bytes};
 
-use crate::{PlanError, PlanFault, Reader};
+use crate::{KeyFault, Path, PlanError, Reader};
 use hex::{FromHex, FromHexError};
 use ide_types::Bytes;
 use std::alloc::{AllocError, Global};
@@ -22,20 +22,20 @@ impl Reader for Truth {
 
     ghost reads = { λ _. truth };
 
-    fn read(&self, alloc: Global, path: &[u8], value: &Value) -> Result<bool, PlanError> {
+    fn read(&self, alloc: Global, path: &Path, value: &Value) -> Result<bool, PlanError> {
         match value.as_bool() {
-            None => Err(PlanError::Fault(PlanFault::Kind(Bytes::copied(alloc, path)?))),
+            None => Err(path.refuse(alloc, KeyFault::Kind)),
             Some(b) => Ok(b),
         }
     }
 }
 
 /// The text that a value is, or the fault `Kind` of this path.
-pub fn text_of<'a>(alloc: Global, path: &[u8], value: &'a Value) -> Result<&'a str, PlanError>
+pub fn text_of<'a>(alloc: Global, path: &Path, value: &'a Value) -> Result<&'a str, PlanError>
     ensures { Gives (λ s. s.now) result (text path.now (view value.now)) }
 {
     match value.as_str() {
-        None => Err(PlanError::Fault(PlanFault::Kind(Bytes::copied(alloc, path)?))),
+        None => Err(path.refuse(alloc, KeyFault::Kind)),
         Some(text) => Ok(text),
     }
 }
@@ -43,7 +43,7 @@ pub fn text_of<'a>(alloc: Global, path: &[u8], value: &'a Value) -> Result<&'a s
 /// What a text spells; if it spells nothing, the fault `Range` with its length in bytes.
 pub fn or_length<T: Drop>(
     alloc: Global,
-    path: &[u8],
+    path: &Path,
     text: &str,
     spelled: Option<T>,
 ) -> Result<T, PlanError>
@@ -51,10 +51,7 @@ pub fn or_length<T: Drop>(
 {
     match spelled {
         Some(value) => Ok(value),
-        None => {
-            let path = Bytes::copied(alloc, path)?;
-            Err(PlanError::Fault(PlanFault::Range(path, text.len() as i64)))
-        }
+        None => Err(path.refuse(alloc, KeyFault::Range(text.len() as i64))),
     }
 }
 
@@ -68,7 +65,7 @@ impl Reader for KeyBytes {
 
     ghost reads = { λ _. key_bytes };
 
-    fn read(&self, alloc: Global, path: &[u8], value: &Value) -> Result<[u8; 32], PlanError> {
+    fn read(&self, alloc: Global, path: &Path, value: &Value) -> Result<[u8; 32], PlanError> {
         let text = text_of(alloc, path, value)?;
         or_length(alloc, path, text, <[u8; 32]>::from_hex(text).ok())
     }
@@ -97,7 +94,7 @@ impl Reader for HexBytes {
 
     ghost reads = { λ r. hex_bytes r.most };
 
-    fn read(&self, alloc: Global, path: &[u8], value: &Value) -> Result<Bytes, PlanError> {
+    fn read(&self, alloc: Global, path: &Path, value: &Value) -> Result<Bytes, PlanError> {
         let text = text_of(alloc, path, value)?;
         if text.len() > 2 * usize::from(self.most) {
             return or_length(alloc, path, text, None);

@@ -2,10 +2,11 @@
 use Rattle.std.proofs.Common.{◌≡◌, refl, subst, ℕ, ◌+◌, List, [], ◌∷◌, Option, Some, None, Result, Ok, Err}
 use Rattle.toml.specs.Data.{Data, Members, as_table}
 use Rattle.toml_walk.specs.declared.fault.PlanFault.{PlanFault}
-use Rattle.toml_walk.specs.declared.fault.PlanFault.TheVariants.{Kind}
+use Rattle.toml_walk.specs.declared.fault.KeyFault.TheVariants.{Kind}
 use Rattle.toml_walk.specs.declared.list.CountRange.{CountRange}
-use Rattle.toml_walk.specs.Fault.{◌>>=◌, or_fault}
-use Rattle.toml_walk.specs.Walk.{Text, Reader, place, values_of, within_span, each, list, table, found_or}
+use Rattle.toml_walk.specs.Fault.{◌>>=◌, refused, or_fault}
+use Rattle.toml_walk.specs.Paths.{Path, Place}
+use Rattle.toml_walk.specs.Walk.{Reader, values_of, within_span, each, list, table, found_or}
 
 abbrev result_of : {A : Type 0} → A → Result A PlanFault
 result_of x = Ok x
@@ -41,13 +42,13 @@ itself a = record { given = λ x e. (x, e, refl) }
 
 -- the same value, read in two ways
 abbrev pub Extends : {A : Type 0} → Reader A → Reader A → Type 0
-Extends r s = (path : Text) (d : Data) → Carries Same (r path d) (s path d)
+Extends r s = (path : Path) (d : Data) → Carries Same (r path d) (s path d)
 
-each_extends : {A : Type 0} (r s : Reader A) → Extends r s → (path : Text) (i : ℕ) (ds : List Data)
+each_extends : {A : Type 0} (r s : Reader A) → Extends r s → (path : Path) (i : ℕ) (ds : List Data)
     → Carries Same (each r path i ds) (each s path i ds)
 each_extends r s h path i [] = itself _
 each_extends {A} r s h path i (d ∷ ds) =
-    next Same Same (r (place path i) d) (s (place path i) d) _ _ (h (place path i) d) (λ x y e.
+    next Same Same (r (Place i ∷ path) d) (s (Place i ∷ path) d) _ _ (h (Place i ∷ path) d) (λ x y e.
     next Same Same (each r path (i + 1) ds) (each s path (i + 1) ds) _ _ (each_extends r s h path (i + 1) ds)
     (λ xs ys es.
     gives Same (x ∷ xs) (y ∷ ys) cc))
@@ -56,11 +57,11 @@ pub list_extends : {A : Type 0} (span : CountRange) (r s : Reader A) → Extends
 list_extends span r s h path d = then Same (values_of path d) _ _
     (λ ds. then Same (within_span span path ds) _ _ (λ cs. each_extends r s h path 0 cs))
 
-pub table_extends : {A : Type 0} (r s : Text → Members → Result A PlanFault)
-    → ((t : Text) (ms : Members) → Carries Same (r t ms) (s t ms)) → Extends (table r) (table s)
-table_extends r s h path d = then Same (or_fault (as_table d) (Kind path)) _ _ (λ ms. h _ ms)
+pub table_extends : {A : Type 0} (r s : Path → Members → Result A PlanFault)
+    → ((t : Path) (ms : Members) → Carries Same (r t ms) (s t ms)) → Extends (table r) (table s)
+table_extends r s h path d = then Same (or_fault (as_table d) (refused path Kind)) _ _ (λ ms. h _ ms)
 
-pub found_extends : {A : Type 0} (path : Text) (default : A) (r s : Reader A) (o : Option Data) → Extends r s
+pub found_extends : {A : Type 0} (path : Path) (default : A) (r s : Reader A) (o : Option Data) → Extends r s
     → Carries Same (found_or path default r o) (found_or path default s o)
 found_extends path default r s None h = itself _
 found_extends path default r s (Some d) h = h path d

@@ -19,18 +19,20 @@ use Rattle.toml_walk.specs.declared.bounds.Bounds.{Bounds}
 use Rattle.toml_walk.specs.declared.bounds.Form.TheVariants.{Pages, Mebibytes, LastOfMebibyte, UnitMode}
 use Rattle.toml_walk.specs.declared.fault.PlanFault.{PlanFault}
 use Rattle.toml_walk.specs.declared.list.CountRange.{CountRange}
-use Rattle.toml_walk.specs.Fault.{◌>>=◌, or_fault}
+use Rattle.toml_walk.specs.Fault.{◌>>=◌, refused, or_fault}
 use Rattle.toml_walk.specs.Bounds.{greatest, within, bounds_of_form, admits}
 use Rattle.toml_walk.specs.Values.{integer as any_integer, number, truth, text, key_bytes, hex_bytes, two, two_in_list}
 use Rattle.toml_walk.specs.Values.{bounded_number}
-use Rattle.toml_walk.specs.Walk.{Text, Reader, place, is_known, key_names, unknown_in, only_known, required_value}
+use Rattle.toml_walk.specs.Paths.{Path, Key, Place}
+use Rattle.toml_walk.specs.Walk.{Text, Reader, is_known, key_names, unknown_in, only_known, required_value}
 use Rattle.toml_walk.specs.Walk.{optional, table, data_list, values_of, is_past, within_span, each, list}
 use Rattle.toml_walk.specs.Walk.{count_between, any_number, given_value as walk_given}
-use Rattle.toml_walk.specs.declared.fault.PlanFault.TheVariants.{Missing, Kind, Range}
+use Rattle.toml_walk.specs.declared.fault.KeyFault.TheVariants.{Missing, Kind, Range}
 use Rattle.std.specs.Option.{option_and_then}
 use Rattle.std.specs.Prelude.{if◌then◌else◌, pos, negsuc}
 use Rattle.topology.specs.Tables.{stream_kind, is_selective_kind, only_if, id_range, address_range, truth_if}
-use Rattle.topology.specs.Tables.{stream_names, stream_keys, bar_names, bar_keys, interface_names, interface_keys}
+use Rattle.topology.specs.Tables.{stream_names, stream_keys, bar_names, bar_keys, register_keys, interface_names}
+use Rattle.topology.specs.Tables.{interface_keys}
 use Rattle.topology.specs.Tables.{link_names, link_keys, region_names, region_keys, peer_names, peer_keys, is_two}
 use Rattle.topology.specs.Tables.{is_newer, top_names, top_keys}
 use Rattle.topology.specs.Rules.{rules}
@@ -39,6 +41,7 @@ use Rattle.ide_types.specs.declared.plan.PeerPlan.{PeerPlan}
 use Rattle.ide_types.specs.declared.plan.Region.{Region}
 use Rattle.ide_types.specs.declared.stream.StreamPlan.{StreamPlan}
 use Rattle.topology.specs.declared.draft.InterfaceDraft.{InterfaceDraft}
+use Rattle.topology.specs.declared.draft.RegisterDraft.{RegisterDraft}
 use Rattle.topology.specs.declared.draft.LinkDraft.{LinkDraft}
 use Rattle.topology.specs.declared.draft.PlanDraft.{PlanDraft}
 use Rattle.topology.specs.Meaning.{drafted_plan, table_plan}
@@ -52,11 +55,6 @@ first : {A B : Type 0} (a : Result A PlanFault) (f : A → Result B PlanFault) (
     × (a ≡ Ok x) × (f x ≡ Ok y)
 first (Ok x) f y e = (x, refl, e)
 first (Err z) f y e = absurd cc
-
-step : {A B : Type 0} (C : Type 0) (a : Result A PlanFault) (f : A → Result B PlanFault) (y : B)
-    → ((x : A) → a ≡ Ok x → f x ≡ Ok y → C) → (a >>= f) ≡ Ok y → C
-step C (Ok x) f y h e = h x refl e
-step C (Err z) f y h e = absurd cc
 
 given : {A : Type 0} (o : Option A) (z : PlanFault) (x : A) → or_fault o z ≡ Ok x → o ≡ Some x
 given None z x e = absurd cc
@@ -93,7 +91,7 @@ flat_truth (data_table x) v e = absurd cc
 
 -- what is read of the data is at most so deep
 abbrev pub Deep : {A : Type 0} → ℕ → Reader A → Type 0
-Deep {A} n read = (path : Text) (d : Data) (x : A) → is_sorted d ≡ true → read path d ≡ Ok x → depth d ≤ n
+Deep {A} n read = (path : Path) (d : Data) (x : A) → is_sorted d ≡ true → read path d ≡ Ok x → depth d ≤ n
 
 none_deep : (n m : ℕ) → m ≡ 0 → m ≤ n
 none_deep n m e = omega (arith, e)
@@ -140,17 +138,17 @@ truth_if_deep n allowed path d x s e =
 greater : (a b n : ℕ) → a ≤ n → b ≤ n → max a b ≤ n
 greater a b n h k = omega (arith, h, k)
 
-each_deep : {A : Type 0} (n : ℕ) (one : Reader A) → Deep n one → (path : Text) (i : ℕ) (ds : Items) (xs : List A)
+each_deep : {A : Type 0} (n : ℕ) (one : Reader A) → Deep n one → (path : Path) (i : ℕ) (ds : Items) (xs : List A)
     → items_are_sorted ds ≡ true → each one path i (data_list ds) ≡ Ok xs → items_depth ds ≤ n
 each_deep n one h path i no_items xs s e = omega arith
 each_deep n one h path i (item d ds) xs s e =
     let parts = and_parts (is_sorted d) (items_are_sorted ds) s in
-    let a = first (one (place path i) d) _ xs e in
+    let a = first (one (Place i ∷ path) d) _ xs e in
     let b = first (each one path (i + 1) (data_list ds)) _ xs a.2 in
-    greater (depth d) (items_depth ds) n (h (place path i) d a.0 parts.0 a.1)
+    greater (depth d) (items_depth ds) n (h (Place i ∷ path) d a.0 parts.0 a.1)
     (each_deep n one h path (i + 1) ds b.0 parts.1 b.1)
 
-array_of : (path : Text) (d : Data) (ds : List Data) → values_of path d ≡ Ok ds → (items : Items) × (d ≡ array items)
+array_of : (path : Path) (d : Data) (ds : List Data) → values_of path d ≡ Ok ds → (items : Items) × (d ≡ array items)
     × (data_list items ≡ ds)
 array_of path (string x) ds e = absurd cc
 array_of path (integer x) ds e = absurd cc
@@ -179,17 +177,17 @@ list_deep n span one h path d x s e =
     let few = each_deep n one h path 0 items x sorted read in
     subst (λ (z : Data). depth z ≤ suc n) (sym is) (omega (arith, few))
 
-two_items : (allowed : Bool) (one last : Bounds) (path : Text) (items : Items) (x : ℕ × ℕ) → items_are_sorted items
+two_items : (allowed : Bool) (one last : Bounds) (path : Path) (items : Items) (x : ℕ × ℕ) → items_are_sorted items
     ≡ true → two_in_list allowed one last path (data_list items) ≡ Ok x → items_depth items ≤ 0
 two_items allowed one last path no_items x s e = absurd cc
 two_items allowed one last path (item d no_items) x s e = absurd cc
 two_items true one last path (item d (item f no_items)) x s e =
     let parts = and_parts (is_sorted d) (items_are_sorted (item f no_items)) s in
     let more = and_parts (is_sorted f) true parts.1 in
-    let a = first (number one (place path 0) d) _ x e in
-    let b = first (number last (place path 1) f) _ x a.2 in
-    greater (depth d) (max (depth f) 0) 0 (number_deep 0 one (place path 0) d a.0 parts.0 a.1)
-    (greater (depth f) 0 0 (number_deep 0 last (place path 1) f b.0 more.0 b.1) (omega arith))
+    let a = first (number one (Place 0 ∷ path) d) _ x e in
+    let b = first (number last (Place 1 ∷ path) f) _ x a.2 in
+    greater (depth d) (max (depth f) 0) 0 (number_deep 0 one (Place 0 ∷ path) d a.0 parts.0 a.1)
+    (greater (depth f) 0 0 (number_deep 0 last (Place 1 ∷ path) f b.0 more.0 b.1) (omega arith))
 two_items false one last path (item d (item f no_items)) x s e = absurd cc
 two_items allowed one last path (item d (item f (item g ds))) x s e = absurd cc
 
@@ -285,8 +283,8 @@ each_name n ms (k ∷ ks) h name there =
       | inr later ↦ each_name n ms ks h.1 name later
     ]
 
-table_deep : {A : Type 0} (n : ℕ) (keys : Text → Members → Result A PlanFault)
-    → ((t : Text) (ms : Members) (x : A) → members_are_sorted ms ≡ true → keys t ms ≡ Ok x → members_depth ms ≤ n)
+table_deep : {A : Type 0} (n : ℕ) (keys : Path → Members → Result A PlanFault)
+    → ((t : Path) (ms : Members) (x : A) → members_are_sorted ms ≡ true → keys t ms ≡ Ok x → members_depth ms ≤ n)
     → Deep (suc n) (table keys)
 table_deep n keys h path (string y) x s e = absurd cc
 table_deep n keys h path (integer y) x s e = absurd cc
@@ -296,17 +294,17 @@ table_deep n keys h path (datetime y) x s e = absurd cc
 table_deep n keys h path (array y) x s e = absurd cc
 table_deep n keys h path (data_table ms) x s e = let few = h _ ms x s e in omega (arith, few)
 
-of_required : {A : Type 0} (n : ℕ) (t : Text) (ms : Members) (name : Text) (read : Reader A) (x : A) → Deep n read
+of_required : {A : Type 0} (n : ℕ) (t : Path) (ms : Members) (name : Text) (read : Reader A) (x : A) → Deep n read
     → required_value t ms name read ≡ Ok x → Found n ms name
 of_required n t ms name read x h e d sorted at =
     let a = first (or_fault (get_member name ms) _) _ x e in
     let there : get_member name ms ≡ Some a.0 = given (get_member name ms) _ a.0 a.1 in
     let same : a.0 ≡ d = cc in
-    h (t ++ name) d x sorted (subst (λ (z : Data). read (t ++ name) z ≡ Ok x) same a.2)
+    h (Key name ∷ t) d x sorted (subst (λ (z : Data). read (Key name ∷ t) z ≡ Ok x) same a.2)
 
-of_optional : {A : Type 0} (n : ℕ) (t : Text) (ms : Members) (name : Text) (default : A) (read : Reader A) (x : A)
+of_optional : {A : Type 0} (n : ℕ) (t : Path) (ms : Members) (name : Text) (default : A) (read : Reader A) (x : A)
     → Deep n read → optional t ms name default read ≡ Ok x → Found n ms name
-of_optional n t ms name default read x h e d sorted at = h (t ++ name) d x sorted (rw at at e)
+of_optional n t ms name default read x h e d sorted at = h (Key name ∷ t) d x sorted (rw at at e)
 
 given_deep : {A : Type 0} (n : ℕ) (read : Reader A) → Deep n read → Deep n (walk_given read)
 given_deep n read h path d x s e =
@@ -315,7 +313,7 @@ given_deep n read h path d x s e =
 
 -- ---- tables, key by key
 
-bar_deep : (t : Text) (ms : Members) (x : BarPlan) → members_are_sorted ms ≡ true → bar_keys t ms ≡ Ok x
+bar_deep : (t : Path) (ms : Members) (x : BarPlan) → members_are_sorted ms ≡ true → bar_keys t ms ≡ Ok x
     → members_depth ms ≤ 0
 unfolding bar_keys
 bar_deep t ms x s e =
@@ -336,7 +334,7 @@ bar_deep t ms x s e =
       ),
     ))
 
-region_deep : (t : Text) (ms : Members) (x : Region) → members_are_sorted ms ≡ true → region_keys t ms ≡ Ok x
+region_deep : (t : Path) (ms : Members) (x : Region) → members_are_sorted ms ≡ true → region_keys t ms ≡ Ok x
     → members_depth ms ≤ 0
 unfolding region_keys
 region_deep t ms x s e =
@@ -354,7 +352,7 @@ region_deep t ms x s e =
       ),
     ))
 
-stream_deep : (t : Text) (ms : Members) (x : StreamPlan) → members_are_sorted ms ≡ true → stream_keys t ms ≡ Ok x
+stream_deep : (t : Path) (ms : Members) (x : StreamPlan) → members_are_sorted ms ≡ true → stream_keys t ms ≡ Ok x
     → members_depth ms ≤ 2
 unfolding stream_keys
 stream_deep t ms x s e =
@@ -406,65 +404,91 @@ stream_deep t ms x s e =
       ),
     ))
 
-interface_deep : (t : Text) (ms : Members) (x : InterfaceDraft) → members_are_sorted ms ≡ true → interface_keys 2 t ms
+abbrev register_names : List Text
+register_names = codes "command" ∷ codes "msix" ∷ codes "lnr" ∷ codes "cacheline" ∷ codes "tph" ∷ codes "pasid"
+    ∷ codes "ats" ∷ []
+
+registers_found : (t : Path) (ms : Members) (x : RegisterDraft) → register_keys t ms ≡ Ok x
+    → AllByRecursion (Found 2 ms) register_names
+unfolding register_keys
+registers_found t ms x e =
+    let command = first (optional t ms (codes "command") 0 (number (within 0 65535))) _ x e in
+    let msix = first (optional t ms (codes "msix") 0 (number (within 0 65535))) _ x command.2 in
+    let lnr = first (optional t ms (codes "lnr") 0 (number (within 0 65535))) _ x msix.2 in
+    let line = first (optional t ms (codes "cacheline") 0 (number (within 0 255))) _ x lnr.2 in
+    let tph = first (optional t ms (codes "tph") 0 (number (within 0 4294967295))) _ x line.2 in
+    let pasid = first (optional t ms (codes "pasid") 0 (number (within 0 65535))) _ x tph.2 in
+    let ats = first (optional t ms (codes "ats") 0 (number (within 0 65535))) _ x pasid.2 in (
+      of_optional 2 t ms (codes "command") 0 (number (within 0 65535)) command.0 (number_deep 2 (within 0 65535))
+          command.1,
+      (
+        of_optional 2 t ms (codes "msix") 0 (number (within 0 65535)) msix.0 (number_deep 2 (within 0 65535)) msix.1,
+        (
+          of_optional 2 t ms (codes "lnr") 0 (number (within 0 65535)) lnr.0 (number_deep 2 (within 0 65535)) lnr.1,
+          (
+            of_optional 2 t ms (codes "cacheline") 0 (number (within 0 255)) line.0 (number_deep 2 (within 0 255))
+                line.1,
+            (
+              of_optional 2 t ms (codes "tph") 0 (number (within 0 4294967295)) tph.0
+                  (number_deep 2 (within 0 4294967295)) tph.1,
+              (
+                of_optional 2 t ms (codes "pasid") 0 (number (within 0 65535)) pasid.0 (number_deep 2 (within 0 65535))
+                    pasid.1,
+                (
+                  of_optional 2 t ms (codes "ats") 0 (number (within 0 65535)) ats.0 (number_deep 2 (within 0 65535))
+                      ats.1,
+                  tt,
+                ),
+              ),
+            ),
+          ),
+        ),
+      ),
+    )
+
+interface_deep : (t : Path) (ms : Members) (x : InterfaceDraft) → members_are_sorted ms ≡ true → interface_keys 2 t ms
     ≡ Ok x → members_depth ms ≤ 2
 unfolding interface_keys
 interface_deep t ms x s e =
-    step (members_depth ms ≤ 2) (only_known t (interface_names 2) ms) _ x (λ k k_is more0.
-    step (members_depth ms ≤ 2) (required_value t ms (codes "rid") (number (within 0 65535))) _ x (λ rid rid_is more1.
-    step (members_depth ms ≤ 2) (required_value t ms (codes "stream") any_integer) _ x (λ bound bound_is more2.
-    step (members_depth ms ≤ 2) (optional t ms (codes "flags") 0 (number (within 0 31))) _ x
-    (λ flags flags_is more3.
-    step (members_depth ms ≤ 2) (optional t ms (codes "offset") 0 (number (bounds_of_form 0 greatest Pages))) _ x
-    (λ offset offset_is more4.
-    step (members_depth ms ≤ 2) (optional t ms (codes "command") 0 (number (within 0 65535))) _ x
-    (λ command command_is more5.
-    step (members_depth ms ≤ 2) (optional t ms (codes "msix") 0 (number (within 0 65535))) _ x (λ msix msix_is more6.
-    step (members_depth ms ≤ 2) (optional t ms (codes "lnr") 0 (number (within 0 65535))) _ x (λ lnr lnr_is more7.
-    step (members_depth ms ≤ 2) (optional t ms (codes "cacheline") 0 (number (within 0 255))) _ x (λ line line_is more8.
-    step (members_depth ms ≤ 2) (optional t ms (codes "tph") 0 (number (within 0 4294967295))) _ x (λ tph tph_is more9.
-    step (members_depth ms ≤ 2) (optional t ms (codes "pasid") 0 (number (within 0 65535))) _ x
-    (λ pasid pasid_is more10.
-    step (members_depth ms ≤ 2) (optional t ms (codes "ats") 0 (number (within 0 65535))) _ x (λ ats ats_is more11.
-    step (members_depth ms ≤ 2) (optional t ms (codes "info") [] (hex_bytes 1024)) _ x (λ info info_is more12.
-    step (members_depth ms ≤ 2) (optional t ms (codes "bars") [] (list (count_between 0 6) (table bar_keys))) _ x
-    (λ bars bars_is more13.
-    known_deep 2 (interface_names 2) ms s (none_refused t (unknown_in (interface_names 2) (key_names ms)) k_is)
+    let k = first (only_known t (interface_names 2) ms) _ x e in
+    let rid = first (required_value t ms (codes "rid") (number (within 0 65535))) _ x k.2 in
+    let bound = first (required_value t ms (codes "stream") any_integer) _ x rid.2 in
+    let flags = first (optional t ms (codes "flags") 0 (number (within 0 31))) _ x bound.2 in
+    let offset = first (optional t ms (codes "offset") 0 (number (bounds_of_form 0 greatest Pages))) _ x flags.2 in
+    let registers = first (register_keys t ms) _ x offset.2 in
+    let info = first (optional t ms (codes "info") [] (hex_bytes 1024)) _ x registers.2 in
+    let bars = first (optional t ms (codes "bars") [] (list (count_between 0 6) (table bar_keys))) _ x info.2 in
+    let found = registers_found t ms registers.0 registers.1 in
+    known_deep 2 (interface_names 2) ms s (none_refused t (unknown_in (interface_names 2) (key_names ms)) k.1)
     (each_name 2 ms (interface_names 2) (
-      of_optional 2 t ms (codes "pasid") 0 (number (within 0 65535)) pasid (number_deep 2 (within 0 65535)) pasid_is,
+      found.1.1.1.1.1.0,
       (
-        of_optional 2 t ms (codes "ats") 0 (number (within 0 65535)) ats (number_deep 2 (within 0 65535)) ats_is,
+        found.1.1.1.1.1.1.0,
         (
-          of_required 2 t ms (codes "rid") (number (within 0 65535)) rid (number_deep 2 (within 0 65535)) rid_is,
+          of_required 2 t ms (codes "rid") (number (within 0 65535)) rid.0 (number_deep 2 (within 0 65535)) rid.1,
           (
-            of_required 2 t ms (codes "stream") any_integer bound (integer_deep 2) bound_is,
+            of_required 2 t ms (codes "stream") any_integer bound.0 (integer_deep 2) bound.1,
             (
-              of_optional 2 t ms (codes "flags") 0 (number (within 0 31)) flags
-                  (number_deep 2 (within 0 31)) flags_is,
+              of_optional 2 t ms (codes "flags") 0 (number (within 0 31)) flags.0 (number_deep 2 (within 0 31)) flags.1,
               (
-                of_optional 2 t ms (codes "offset") 0 (number (bounds_of_form 0 greatest Pages)) offset
-                    (number_deep 2 (bounds_of_form 0 greatest Pages)) offset_is,
+                of_optional 2 t ms (codes "offset") 0 (number (bounds_of_form 0 greatest Pages)) offset.0
+                    (number_deep 2 (bounds_of_form 0 greatest Pages)) offset.1,
                 (
-                  of_optional 2 t ms (codes "command") 0 (number (within 0 65535)) command
-                      (number_deep 2 (within 0 65535)) command_is,
+                  found.0,
                   (
-                    of_optional 2 t ms (codes "msix") 0 (number (within 0 65535)) msix (number_deep 2 (within 0 65535))
-                        msix_is,
+                    found.1.0,
                     (
-                      of_optional 2 t ms (codes "lnr") 0 (number (within 0 65535)) lnr (number_deep 2 (within 0 65535))
-                          lnr_is,
+                      found.1.1.0,
                       (
-                        of_optional 2 t ms (codes "cacheline") 0 (number (within 0 255)) line
-                            (number_deep 2 (within 0 255)) line_is,
+                        found.1.1.1.0,
                         (
-                          of_optional 2 t ms (codes "tph") 0 (number (within 0 4294967295)) tph
-                              (number_deep 2 (within 0 4294967295)) tph_is,
+                          found.1.1.1.1.0,
                           (
-                            of_optional 2 t ms (codes "info") [] (hex_bytes 1024) info (hex_deep 2 1024) info_is,
+                            of_optional 2 t ms (codes "info") [] (hex_bytes 1024) info.0 (hex_deep 2 1024) info.1,
                             (
-                              of_optional 2 t ms (codes "bars") [] (list (count_between 0 6) (table bar_keys)) bars
+                              of_optional 2 t ms (codes "bars") [] (list (count_between 0 6) (table bar_keys)) bars.0
                                   (list_deep 1 (count_between 0 6) (table bar_keys) (table_deep 0 bar_keys bar_deep))
-                                  bars_is,
+                                  bars.1,
                               tt,
                             ),
                           ),
@@ -479,9 +503,8 @@ interface_deep t ms x s e =
         ),
       ),
     ))
-    ) more12) more11) more10) more9) more8) more7) more6) more5) more4) more3) more2) more1) more0) e
 
-link_deep : (t : Text) (ms : Members) (x : LinkDraft) → members_are_sorted ms ≡ true → link_keys 2 t ms ≡ Ok x
+link_deep : (t : Path) (ms : Members) (x : LinkDraft) → members_are_sorted ms ≡ true → link_keys 2 t ms ≡ Ok x
     → members_depth ms ≤ 4
 unfolding link_keys
 link_deep t ms x s e =
@@ -519,7 +542,7 @@ link_deep t ms x s e =
       ),
     ))
 
-peer_deep : (t : Text) (ms : Members) (x : PeerPlan) → members_are_sorted ms ≡ true → peer_keys t ms ≡ Ok x
+peer_deep : (t : Path) (ms : Members) (x : PeerPlan) → members_are_sorted ms ≡ true → peer_keys t ms ≡ Ok x
     → members_depth ms ≤ 0
 unfolding peer_keys
 peer_deep t ms x s e =
@@ -546,24 +569,26 @@ peer_deep t ms x s e =
     ))
 
 -- whose version is read as 2
-two_read : (t : Text) (o : Option Data) → (or_fault o (Missing (t ++ codes "version"))
-    >>= λ d. number (within 1 2) (t ++ codes "version") d) ≡ Ok 2 → is_two (option_and_then as_integer o) ≡ true
+two_read : (t : Path) (o : Option Data) → (or_fault o (refused (Key (codes "version") ∷ t) Missing)
+    >>= λ d. number (within 1 2) (Key (codes "version") ∷ t) d) ≡ Ok 2 → is_two (option_and_then as_integer o) ≡ true
 two_read t None e = absurd cc
 two_read t (Some d) e = by (as_integer d) e
   where
     by : (z : Option ℤ)
-        → (or_fault z (Kind (t ++ codes "version")) >>= bounded_number (within 1 2) (t ++ codes "version")) ≡ Ok 2
+        → (or_fault z (refused (Key (codes "version") ∷ t) Kind) >>= bounded_number (within 1 2)
+        (Key (codes "version") ∷ t)) ≡ Ok 2
         → is_two z ≡ true
     by None e = absurd cc
     by (Some (pos n)) e = two n (admits (within 1 2) n) e
       where
-        two : (n : ℕ) (b : Bool) → (if b then Ok n else Err (Range (t ++ codes "version") (pos n))) ≡ Ok 2
+        two : (n : ℕ) (b : Bool) → (if b then Ok n else Err (refused (Key (codes "version") ∷ t) (Range (pos n))))
+            ≡ Ok 2
             → is_two (Some (pos n)) ≡ true
         two n true e = let same : n ≡ 2 = cc in rw same refl
         two n false e = absurd cc
     by (Some (negsuc n)) e = absurd cc
 
-newer_read : (t : Text) (ms : Members) → required_value t ms (codes "version") (number (within 1 2)) ≡ Ok 2
+newer_read : (t : Path) (ms : Members) → required_value t ms (codes "version") (number (within 1 2)) ≡ Ok 2
     → is_newer ms ≡ true
 newer_read t ms e = two_read t (get_member (codes "version") ms) e
 
@@ -571,7 +596,7 @@ same_version : (v : ℕ) (r : Result ℕ PlanFault) → r ≡ Ok v → r ≡ Ok 
 same_version v r a b = cc
 
 -- the version is 2
-top_deep : (t : Text) (ms : Members) (x : PlanDraft) → members_are_sorted ms ≡ true
+top_deep : (t : Path) (ms : Members) (x : PlanDraft) → members_are_sorted ms ≡ true
     → required_value t ms (codes "version") (number (within 1 2)) ≡ Ok 2 → top_keys t ms ≡ Ok x → members_depth ms ≤ 6
 unfolding top_keys
 top_deep t ms x s two e =

@@ -11,18 +11,20 @@ use Rattle.ide_types.specs.Plans.{has_selective, is_selective}
 use Rattle.ide_types.specs.Fits.{AreBytes, IsKey, FitsStream, FitsBar, FitsInterface, FitsRegion}
 use Rattle.toml_walk.specs.declared.bounds.Form.TheVariants.{Pages}
 use Rattle.toml_walk.specs.Bounds.{greatest, within, bounds_of_form}
-use Rattle.toml_walk.specs.Walk.{Text, only_known, required_value, optional, table, list, count_between, any_number}
+use Rattle.toml_walk.specs.Paths.{Path}
+use Rattle.toml_walk.specs.Walk.{only_known, required_value, optional, table, list, count_between, any_number}
 use Rattle.toml_walk.specs.Walk.{given_value}
 use Rattle.toml_walk.specs.Values.{integer, number, key_bytes, hex_bytes}
 use Rattle.toml_walk.proofs.Holds.{Holds, gives, anything, next, weaker, Admitted, Listed, number_holds, key_holds}
 use Rattle.toml_walk.proofs.Holds.{hex_holds, required_holds, optional_holds, given_holds, table_holds, list_holds}
 use Rattle.topology.specs.declared.draft.LinkDraft.{LinkDraft}
 use Rattle.topology.specs.declared.draft.PlanDraft.{PlanDraft}
-use Rattle.topology.specs.Tables.{stream_keys, bar_keys, stream_id_of, interface_names, interface_keys, link_names}
-use Rattle.topology.specs.Tables.{link_keys, region_keys, peer_keys, is_newer, top_names, top_keys}
+use Rattle.topology.specs.Tables.{stream_keys, bar_keys, stream_id_of, register_keys, interface_names, interface_keys}
+use Rattle.topology.specs.Tables.{link_names, link_keys, region_keys, peer_keys, is_newer, top_names, top_keys}
 use Rattle.topology.specs.Rules.{is_id, is_bound}
 use Rattle.topology.proofs.TableFits.{Upto, upto, stream_holds, bar_holds, region_holds, PeerHolds, peer_holds}
 use Rattle.topology.specs.declared.draft.InterfaceDraft.{InterfaceDraft}
+use Rattle.topology.specs.declared.draft.RegisterDraft.{RegisterDraft}
 
 id_is : (z : ℤ) (id : ℕ) → id ≤ 255 → is_id z id ≡ true → (id == stream_id_of z) ≡ true
 id_is (pos n) id small h =
@@ -55,15 +57,51 @@ unfoldable pub DraftFits : InterfaceDraft → Type 0
 DraftFits d = (streams : List StreamPlan) → All FitsStream streams → is_bound streams d.stream ≡ true
     → FitsInterface streams d.interface
 
-bars_hold : (path : Text) (d : Data) → Holds (λ xs. (length xs ≤ 6) × All FitsBar xs)
+bars_hold : (path : Path) (d : Data) → Holds (λ xs. (length xs ≤ 6) × All FitsBar xs)
     (list (count_between 0 6) (table bar_keys) path d)
 bars_hold path d =
     weaker (Listed (count_between 0 6) FitsBar) _ _
     (list_holds _ FitsBar (table bar_keys) (table_holds FitsBar bar_keys bar_holds) path d)
     (λ xs l. (ltb-false 6 (length xs) l.most, l.each))
 
+pub record FitsRegisters (r : RegisterDraft) : Type 0 where
+  pub command : r.command ≤ 65535
+  pub msix : r.msix ≤ 65535
+  pub lnr : r.lnr ≤ 65535
+  pub cache_line : r.cache_line ≤ 255
+  pub tph : r.tph ≤ 4294967295
+  pub pasid : r.pasid ≤ 65535
+  pub ats : r.ats ≤ 65535
+
+registers_hold : (t : Path) (ms : Members) → Holds FitsRegisters (register_keys t ms)
+unfolding register_keys
+registers_hold t ms =
+    next (Upto 65535) FitsRegisters (optional t ms (codes "command") 0 (number (within 0 65535))) _
+    (optional_holds _ t ms (codes "command") 0 _ (lit≤ tt) (upto 65535)) (λ command command_fits.
+    next (Upto 65535) FitsRegisters (optional t ms (codes "msix") 0 (number (within 0 65535))) _
+    (optional_holds _ t ms (codes "msix") 0 _ (lit≤ tt) (upto 65535)) (λ msix msix_fits.
+    next (Upto 65535) FitsRegisters (optional t ms (codes "lnr") 0 (number (within 0 65535))) _
+    (optional_holds _ t ms (codes "lnr") 0 _ (lit≤ tt) (upto 65535)) (λ lnr lnr_fits.
+    next (Upto 255) FitsRegisters (optional t ms (codes "cacheline") 0 (number (within 0 255))) _
+    (optional_holds _ t ms (codes "cacheline") 0 _ (lit≤ tt) (upto 255)) (λ line line_fits.
+    next (Upto 4294967295) FitsRegisters (optional t ms (codes "tph") 0 (number (within 0 4294967295))) _
+    (optional_holds _ t ms (codes "tph") 0 _ (lit≤ tt) (upto 4294967295)) (λ tph tph_fits.
+    next (Upto 65535) FitsRegisters (optional t ms (codes "pasid") 0 (number (within 0 65535))) _
+    (optional_holds _ t ms (codes "pasid") 0 _ (lit≤ tt) (upto 65535)) (λ pasid pasid_fits.
+    next (Upto 65535) FitsRegisters (optional t ms (codes "ats") 0 (number (within 0 65535))) _
+    (optional_holds _ t ms (codes "ats") 0 _ (lit≤ tt) (upto 65535)) (λ ats ats_fits.
+    gives FitsRegisters _ (record {
+      command = command_fits;
+      msix = msix_fits;
+      lnr = lnr_fits;
+      cache_line = line_fits;
+      tph = tph_fits;
+      pasid = pasid_fits;
+      ats = ats_fits;
+    }))))))))
+
 -- key by key, as the keys are read: each reader gives its bound, and the last step collects them
-pub interface_holds : (version : ℕ) (t : Text) (ms : Members) → Holds DraftFits (interface_keys version t ms)
+pub interface_holds : (version : ℕ) (t : Path) (ms : Members) → Holds DraftFits (interface_keys version t ms)
 unfolding interface_keys DraftFits
 interface_holds version t ms =
     next (λ _. Unit {0}) DraftFits (only_known t (interface_names version) ms) _ (anything _) (λ _ _.
@@ -76,20 +114,7 @@ interface_holds version t ms =
     (optional t ms (codes "offset") 0 (number (bounds_of_form 0 greatest Pages))) _
     (optional_holds _ t ms (codes "offset") 0 _ (record { least = lit≤ tt; most = lit≤ tt; form = refl })
     (number_holds _)) (λ offset offset_fits.
-    next (Upto 65535) DraftFits (optional t ms (codes "command") 0 (number (within 0 65535))) _
-    (optional_holds _ t ms (codes "command") 0 _ (lit≤ tt) (upto 65535)) (λ command command_fits.
-    next (Upto 65535) DraftFits (optional t ms (codes "msix") 0 (number (within 0 65535))) _
-    (optional_holds _ t ms (codes "msix") 0 _ (lit≤ tt) (upto 65535)) (λ msix msix_fits.
-    next (Upto 65535) DraftFits (optional t ms (codes "lnr") 0 (number (within 0 65535))) _
-    (optional_holds _ t ms (codes "lnr") 0 _ (lit≤ tt) (upto 65535)) (λ lnr lnr_fits.
-    next (Upto 255) DraftFits (optional t ms (codes "cacheline") 0 (number (within 0 255))) _
-    (optional_holds _ t ms (codes "cacheline") 0 _ (lit≤ tt) (upto 255)) (λ line line_fits.
-    next (Upto 4294967295) DraftFits (optional t ms (codes "tph") 0 (number (within 0 4294967295))) _
-    (optional_holds _ t ms (codes "tph") 0 _ (lit≤ tt) (upto 4294967295)) (λ tph tph_fits.
-    next (Upto 65535) DraftFits (optional t ms (codes "pasid") 0 (number (within 0 65535))) _
-    (optional_holds _ t ms (codes "pasid") 0 _ (lit≤ tt) (upto 65535)) (λ pasid pasid_fits.
-    next (Upto 65535) DraftFits (optional t ms (codes "ats") 0 (number (within 0 65535))) _
-    (optional_holds _ t ms (codes "ats") 0 _ (lit≤ tt) (upto 65535)) (λ ats ats_fits.
+    next FitsRegisters DraftFits (register_keys t ms) _ (registers_hold t ms) (λ registers registers_fit.
     next (λ bytes. (length bytes ≤ 1024) × AreBytes bytes) DraftFits (optional t ms (codes "info") [] (hex_bytes 1024))
     _
     (optional_holds _ t ms (codes "info") [] _ (lit≤ tt, All-nil (λ b. b < 256)) (hex_holds 1024)) (λ info info_fits.
@@ -102,18 +127,18 @@ interface_holds version t ms =
       flags = flags_fit;
       offset = eqb-true _ _ offset_fits.form;
       offset_most = omega (arith, offset_fits.most);
-      command = command_fits;
-      msix = msix_fits;
-      lnr = lnr_fits;
-      cache_line = line_fits;
-      tph = omega (arith, tph_fits);
-      pasid = pasid_fits;
-      ats = ats_fits;
+      command = registers_fit.command;
+      msix = registers_fit.msix;
+      lnr = registers_fit.lnr;
+      cache_line = registers_fit.cache_line;
+      tph = omega (arith, registers_fit.tph);
+      pasid = registers_fit.pasid;
+      ats = registers_fit.ats;
       info = info_fits.0;
       info_bytes = info_fits.1;
       bars = bars_fit.0;
       each_bar = bars_fit.1;
-    })))))))))))))))
+    })))))))))
 
 pub record LinkHolds (l : LinkDraft) : Type 0 where
   pub nonces : length l.nonces ≤ 1024
@@ -125,16 +150,16 @@ pub record LinkHolds (l : LinkDraft) : Type 0 where
   pub hop : IfSome l.hop (Upto 255)
   pub hop_classes : IfSome l.hop_classes (All (λ c. c ≤ 7))
 
-classes_hold : (path : Text) (d : Data) → Holds (All (λ c. c ≤ 7)) (list any_number (number (within 0 7)) path d)
+classes_hold : (path : Path) (d : Data) → Holds (All (λ c. c ≤ 7)) (list any_number (number (within 0 7)) path d)
 classes_hold path d = weaker (Listed any_number (Upto 7)) _ _
     (list_holds _ (Upto 7) (number (within 0 7)) (upto 7) path d) (λ xs l. l.each)
 
-nonces_hold : (path : Text) (d : Data) → Holds (λ xs. (length xs ≤ 1024) × All IsKey xs)
+nonces_hold : (path : Path) (d : Data) → Holds (λ xs. (length xs ≤ 1024) × All IsKey xs)
     (list (count_between 0 1024) key_bytes path d)
 nonces_hold path d = weaker (Listed (count_between 0 1024) IsKey) _ _ (list_holds _ IsKey key_bytes key_holds path d)
     (λ xs l. (ltb-false 1024 (length xs) l.most, l.each))
 
-interfaces_hold : (version : ℕ) (path : Text) (d : Data) → Holds (All DraftFits)
+interfaces_hold : (version : ℕ) (path : Path) (d : Data) → Holds (All DraftFits)
     (list any_number (table (interface_keys version)) path d)
 interfaces_hold version path d = weaker (Listed any_number DraftFits) _ _
     (list_holds _ DraftFits (table (interface_keys version))
@@ -142,7 +167,7 @@ interfaces_hold version path d = weaker (Listed any_number DraftFits) _ _
     (λ xs l. l.each)
 
 -- key by key, as the keys are read
-pub link_holds : (version : ℕ) (t : Text) (ms : Members) → Holds LinkHolds (link_keys version t ms)
+pub link_holds : (version : ℕ) (t : Path) (ms : Members) → Holds LinkHolds (link_keys version t ms)
 unfolding link_keys
 link_holds version t ms =
     next (λ _. Unit {0}) LinkHolds (only_known t (link_names version) ms) _ (anything _) (λ _ _.
@@ -186,7 +211,7 @@ pub record TopHolds (d : PlanDraft) : Type 0 where
   pub peers : Listed (count_between 0 8) PeerHolds d.peers
 
 -- key by key, as the keys are read
-pub top_holds : (t : Text) (ms : Members) → Holds TopHolds (top_keys t ms)
+pub top_holds : (t : Path) (ms : Members) → Holds TopHolds (top_keys t ms)
 unfolding top_keys
 top_holds t ms =
     next (λ _. Unit {0}) TopHolds (only_known t (top_names (is_newer ms)) ms) _ (anything _) (λ _ _.

@@ -12,6 +12,7 @@ use Rattle.ide_types.specs.declared.stream.StreamPlan.{StreamPlan}
 use Rattle.ide_types.specs.declared.plan.PeerPlan.{PeerPlan}
 use Rattle.ide_types.specs.Plans.{has_stream_id, lists_class, hop_has_id, link_has_id, links_have_id}
 use Rattle.ide_types.specs.Fits.{FitsHopIfAny, FitsPeer}
+use Rattle.toml_walk.specs.Paths.{Path}
 use Rattle.topology.specs.declared.draft.LinkDraft.{LinkDraft}
 use Rattle.topology.specs.Rules.{link_has, draft_streams, is_peer_with_id, refused_class, classes_apart}
 use Rattle.topology.specs.Meaning.{hop_of, link_of}
@@ -52,7 +53,7 @@ none_found f (x ∷ xs) e =
 
 -- ---- hops
 
-no_class : (path : List ℕ) (streams : List StreamPlan) (classes : List ℕ) → classes_apart path streams (Some classes)
+no_class : (path : Path) (streams : List StreamPlan) (classes : List ℕ) → classes_apart path streams (Some classes)
     ≡ Ok tt → find (lists_class streams) classes ≡ None
 no_class path streams classes e = by (find (lists_class streams) classes) e
   where
@@ -60,7 +61,7 @@ no_class path streams classes e = by (find (lists_class streams) classes) e
     by None e = refl
     by (Some c) e = cc
 
-classes_fit : (path : List ℕ) (streams : List StreamPlan) (o : Option (List ℕ)) → classes_apart path streams o ≡ Ok tt
+classes_fit : (path : Path) (streams : List StreamPlan) (o : Option (List ℕ)) → classes_apart path streams o ≡ Ok tt
     → All (λ c. lists_class streams c ≡ false) (unwrap_or o [])
 classes_fit path streams None e = All-nil (λ c. lists_class streams c ≡ false)
 classes_fit path streams (Some classes) e = none_found (lists_class streams) classes (no_class path streams classes e)

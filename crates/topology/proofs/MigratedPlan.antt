@@ -1,5 +1,5 @@
 -- The plan of the table with `version` 2.
-use Rattle.std.proofs.Common.{◌≡◌, refl, sym, ◌∙◌, ℕ, ◌==◌, ◌||◌, ◌≤◌, nat_le, pos, Bool, true, false, []}
+use Rattle.std.proofs.Common.{◌≡◌, refl, sym, ◌∙◌, ℕ, ◌==◌, ◌||◌, ◌≤◌, nat_le, pos, Bool, true, false, [], ◌∷◌}
 use Rattle.std.proofs.Common.{Option, Some, None, Ok, codes, arith}
 use Rattle.std.specs.Ordering.{nat_cmp, is_eq}
 use Rattle.std.specs.Cmp.Lexicographic.{slice_cmp}
@@ -11,10 +11,11 @@ use Rattle.std.proofs.lemmas.Slice.Eq.{bytes_eq-Decides}
 use Rattle.toml.specs.Data.{Data, integer, Members, get_member}
 use Rattle.ide_types.specs.declared.plan.Plan.{Plan}
 use Rattle.ide_types.specs.Plans.{interface_limit}
-use Rattle.toml_walk.specs.declared.fault.PlanFault.TheVariants.{Missing}
-use Rattle.toml_walk.specs.Fault.{◌>>=◌, or_fault}
+use Rattle.toml_walk.specs.declared.fault.KeyFault.TheVariants.{Missing}
+use Rattle.toml_walk.specs.Fault.{◌>>=◌, refused, or_fault}
 use Rattle.toml_walk.specs.Bounds.{within}
 use Rattle.toml_walk.specs.Values.{number, key_bytes}
+use Rattle.toml_walk.specs.Paths.{Path, Key}
 use Rattle.toml_walk.specs.Walk.{Text, Reader, is_known, only_known, required_value, optional, table, list}
 use Rattle.toml_walk.specs.Walk.{count_between}
 use Rattle.topology.specs.declared.draft.PlanDraft.{PlanDraft}
@@ -48,8 +49,8 @@ optional_is : {A : Type 0} (name : Text) (default : A) (read : Reader A) (ms : M
     (optional [] (migrated_members ms) name default read)
 optional_is name default read ms other = rw (value_is name ms other) (itself _)
 
-from_value : {A : Type 0} (path : Text) (read again : Reader A) (o : Option Data) → Extends read again
-    → Carries Same (or_fault o (Missing path) >>= read path) (or_fault o (Missing path) >>= again path)
+from_value : {A : Type 0} (path : Path) (read again : Reader A) (o : Option Data) → Extends read again
+    → Carries Same (or_fault o (refused path Missing) >>= read path) (or_fault o (refused path Missing) >>= again path)
 from_value path read again None h = record { given = λ x e. absurd cc }
 from_value path read again (Some d) h = h path d
 
@@ -113,7 +114,7 @@ top_is ms =
     gives InVersion2 _ _ (rw (two, portion, units, pool, links, memory, peers) refl)))))))))
 
 -- what meets a limit meets a greater one
-limit_is : (least most : ℕ) (path : Text) (n : ℕ) → least ≤ most
+limit_is : (least most : ℕ) (path : Path) (n : ℕ) → least ≤ most
     → Carries Same (at_most least path n) (at_most most path n)
 limit_is least most path n le = go (nat_le n least) refl
   where
@@ -135,11 +136,12 @@ rules_are : (d : PlanDraft) → Carries Same (rules d) (rules (record d { versio
 unfolding rules
 rules_are d =
     then {A = Unit {0}} Same (in_sixes d.pool) _ _ (λ _.
-    then {A = Unit {0}} Same (no_clash (codes "pool") bytes_eq d.pool) _ _ (λ _.
+    then {A = Unit {0}} Same (no_clash (Key (codes "pool") ∷ []) bytes_eq d.pool) _ _ (λ _.
     then {A = Unit {0}} Same (each_link 0 d.links) _ _ (λ _.
-    next Same Same (at_most (interface_limit d.version) (codes "interface") (interface_count d.links))
-    (at_most 64 (codes "interface") (interface_count d.links)) _ _
-    (limit_is (interface_limit d.version) 64 (codes "interface") (interface_count d.links) (limits d.version)) (λ _ _ _.
+    next Same Same (at_most (interface_limit d.version) (Key (codes "interface") ∷ []) (interface_count d.links))
+    (at_most 64 (Key (codes "interface") ∷ []) (interface_count d.links)) _ _
+    (limit_is (interface_limit d.version) 64 (Key (codes "interface") ∷ []) (interface_count d.links)
+    (limits d.version)) (λ _ _ _.
     itself _))))
 
 abbrev pub PlanInVersion2 : Plan → Plan → Type 0

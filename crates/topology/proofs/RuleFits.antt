@@ -1,6 +1,6 @@
 -- What the rules over several values say of a topology that meets them.
 use Rattle.std.proofs.Common.{◌≡◌, ap, refl, subst, ℕ, zero, suc, ◌+◌, ◌%◌, ◌<◌, ◌≤◌, ◌==◌, ◌&&◌, ◌||◌, nat_le, nat_lt}
-use Rattle.std.proofs.Common.{not, List, [], ◌∷◌, ◌++◌, map, length, take, Bool, true, false, Option, Some, None}
+use Rattle.std.proofs.Common.{not, List, [], ◌∷◌, map, length, take, Bool, true, false, Option, Some, None}
 use Rattle.std.proofs.Common.{Result, Ok, Err, cond, arith, codes}
 use Rattle.std.specs.Prelude.{sum_by, slice_get}
 use Rattle.std.specs.List.{All, AllPairs, list_any, position_from}
@@ -13,7 +13,7 @@ use Rattle.ide_types.specs.Plans.{interface_limit, same_id, both_default, share_
 use Rattle.ide_types.specs.declared.plan.PeerPlan.{PeerPlan}
 use Rattle.toml_walk.specs.declared.fault.PlanFault.{PlanFault}
 use Rattle.toml_walk.specs.Fault.{◌>>=◌}
-use Rattle.toml_walk.specs.Walk.{Text, place}
+use Rattle.toml_walk.specs.Paths.{Path, Key, Place}
 use Rattle.topology.specs.declared.draft.InterfaceDraft.{InterfaceDraft}
 use Rattle.topology.specs.declared.draft.LinkDraft.{LinkDraft}
 use Rattle.topology.specs.declared.draft.PlanDraft.{PlanDraft}
@@ -55,7 +55,7 @@ module _ {A B : Type 0} (clash : A → A → Bool) (R : B → B → Type 0) (f :
       let p = no_later i (position_from (clash x) (i + 1) xs) (pair_from clash (i + 1) xs) e in
       AllPairs-cons R (f x) (map f xs) (apart_from x (i + 1) xs p.0) (apart (i + 1) xs p.1)
 
-no_pair : (path : Text) (o : Option (ℕ × ℕ)) → refused_pair path o ≡ Ok tt → o ≡ None
+no_pair : (path : Path) (o : Option (ℕ × ℕ)) → refused_pair path o ≡ Ok tt → o ≡ None
 no_pair path None e = refl
 no_pair path (Some p) e = cc
 
@@ -64,23 +64,23 @@ map_itself [] = refl
 map_itself {A} (x ∷ xs) = ap (λ (ys : List A). x ∷ ys) (map_itself xs)
 
 -- no two elements clash
-pub clash_free : {A : Type 0} (path : Text) (clash : A → A → Bool) (xs : List A) → no_clash path clash xs ≡ Ok tt
+pub clash_free : {A : Type 0} (path : Path) (clash : A → A → Bool) (xs : List A) → no_clash path clash xs ≡ Ok tt
     → AllPairs (λ a b. clash a b ≡ false) xs
 clash_free path clash xs e = rw (map_itself xs) at
     (apart clash (λ a b. clash a b ≡ false) (λ x. x) (λ a b h. h) 0 xs (no_pair path (pair_from clash 0 xs) e))
 
 -- nor do what they are mapped to
-pub clash_free_map : {A B : Type 0} (path : Text) (clash : A → A → Bool) (R : B → B → Type 0) (f : A → B) (xs : List A)
+pub clash_free_map : {A B : Type 0} (path : Path) (clash : A → A → Bool) (R : B → B → Type 0) (f : A → B) (xs : List A)
     → ((a b : A) → clash a b ≡ false → R (f a) (f b)) → no_clash path clash xs ≡ Ok tt → AllPairs R (map f xs)
 clash_free_map path clash R f xs sound e = apart clash R f sound 0 xs (no_pair path (pair_from clash 0 xs) e)
 
-pub at_most_is : (limit : ℕ) (path : Text) (total : ℕ) → at_most limit path total ≡ Ok tt → total ≤ limit
+pub at_most_is : (limit : ℕ) (path : Path) (total : ℕ) → at_most limit path total ≡ Ok tt → total ≤ limit
 at_most_is limit path total e = leb-true total limit (tested (nat_le total limit) (Ok tt) _ tt e).0
 
 pub sixes : (pool : List (List ℕ)) → in_sixes pool ≡ Ok tt → length pool % 6 ≡ 0
 sixes pool e = eqb-true _ _ (tested (length pool % 6 == 0) (Ok tt) _ tt e).0
 
-pub all_bound : (path : Text) (streams : List StreamPlan) (i : ℕ) (xs : List InterfaceDraft)
+pub all_bound : (path : Path) (streams : List StreamPlan) (i : ℕ) (xs : List InterfaceDraft)
     → each_bound path streams i xs ≡ Ok tt → All (λ x. is_bound streams x.stream ≡ true) xs
 all_bound path streams i [] e = All-nil (λ x. is_bound streams x.stream ≡ true)
 all_bound path streams i (x ∷ xs) e =
@@ -89,20 +89,20 @@ all_bound path streams i (x ∷ xs) e =
 
 -- the rules of one link
 pub record LinkRuled (l : LinkDraft) : Type 0 where
-  pub path : Text
-  pub ids : no_clash (path ++ codes ".stream") same_id l.streams ≡ Ok tt
-  pub defaults : no_clash (path ++ codes ".stream") both_default l.streams ≡ Ok tt
-  pub classes : no_clash (path ++ codes ".stream") share_class l.streams ≡ Ok tt
-  pub requesters : no_clash (path ++ codes ".interface") same_requester l.interfaces ≡ Ok tt
+  pub path : Path
+  pub ids : no_clash (Key (codes "stream") ∷ path) same_id l.streams ≡ Ok tt
+  pub defaults : no_clash (Key (codes "stream") ∷ path) both_default l.streams ≡ Ok tt
+  pub classes : no_clash (Key (codes "stream") ∷ path) share_class l.streams ≡ Ok tt
+  pub requesters : no_clash (Key (codes "interface") ∷ path) same_requester l.interfaces ≡ Ok tt
   pub bound : All (λ x. is_bound l.streams x.stream ≡ true) l.interfaces
 
-link_ruled : (path : Text) (l : LinkDraft) → link_rules path l ≡ Ok tt → LinkRuled l
+link_ruled : (path : Path) (l : LinkDraft) → link_rules path l ≡ Ok tt → LinkRuled l
 unfolding link_rules
 link_ruled path l e =
-    let a = steps (no_clash (path ++ codes ".stream") same_id l.streams) _ tt e in
-    let b = steps (no_clash (path ++ codes ".stream") both_default l.streams) _ tt a.1 in
-    let c = steps (no_clash (path ++ codes ".stream") share_class l.streams) _ tt b.1 in
-    let d = steps (no_clash (path ++ codes ".interface") same_requester l.interfaces) _ tt c.1 in
+    let a = steps (no_clash (Key (codes "stream") ∷ path) same_id l.streams) _ tt e in
+    let b = steps (no_clash (Key (codes "stream") ∷ path) both_default l.streams) _ tt a.1 in
+    let c = steps (no_clash (Key (codes "stream") ∷ path) share_class l.streams) _ tt b.1 in
+    let d = steps (no_clash (Key (codes "interface") ∷ path) same_requester l.interfaces) _ tt c.1 in
     record {
       path = path;
       ids = a.0;
@@ -110,18 +110,18 @@ link_ruled path l e =
       classes = c.0;
       requesters = d.0;
       bound = all_bound
-          (path ++ codes ".interface") l.streams 0 l.interfaces d.1;
+          (Key (codes "interface") ∷ path) l.streams 0 l.interfaces d.1;
     }
 
 links_ruled : (i : ℕ) (ls : List LinkDraft) → each_link i ls ≡ Ok tt → All LinkRuled ls
 links_ruled i [] e = All-nil LinkRuled
 links_ruled i (l ∷ ls) e =
-    let s = steps (link_rules (place (codes "link") i) l) (λ _. each_link (i + 1) ls) tt e in
-    All-cons LinkRuled l ls (link_ruled (place (codes "link") i) l s.0) (links_ruled (i + 1) ls s.1)
+    let s = steps (link_rules (Place i ∷ Key (codes "link") ∷ []) l) (λ _. each_link (i + 1) ls) tt e in
+    All-cons LinkRuled l ls (link_ruled (Place i ∷ Key (codes "link") ∷ []) l s.0) (links_ruled (i + 1) ls s.1)
 
 -- ---- streams between devices, and hops
 
-pub allowed_is : (path : Text) (n : ℕ) (b : Bool) → allowed_or_range path n b ≡ Ok tt → b ≡ true
+pub allowed_is : (path : Path) (n : ℕ) (b : Bool) → allowed_or_range path n b ≡ Ok tt → b ≡ true
 allowed_is path n true e = refl
 allowed_is path n false e = cc
 
@@ -142,17 +142,18 @@ pub record PeerRuled (links : List LinkDraft) (earlier : List PeerPlan) (p : Pee
   pub far_new : link_has links p.far p.id ≡ false
   pub id_new : list_any (λ q. q.id == p.id) earlier ≡ false
 
-peer_ruled : (path : Text) (links : List LinkDraft) (earlier : List PeerPlan) (p : PeerPlan)
+peer_ruled : (path : Path) (links : List LinkDraft) (earlier : List PeerPlan) (p : PeerPlan)
     → peer_rules path links earlier p ≡ Ok tt → PeerRuled links earlier p
 unfolding peer_rules
 peer_ruled path links earlier p e =
-    let a = steps (allowed_or_range (path ++ codes ".a") p.near (nat_lt p.near (length links))) _ tt e in
-    let b = steps (allowed_or_range (path ++ codes ".b") p.far (nat_lt p.far (length links) && not (p.far == p.near))) _
+    let a = steps (allowed_or_range (Key (codes "a") ∷ path) p.near (nat_lt p.near (length links))) _ tt e in
+    let b = steps (allowed_or_range (Key (codes "b") ∷ path) p.far
+    (nat_lt p.far (length links) && not (p.far == p.near))) _
     tt a.1
     in
-    let near = allowed_is (path ++ codes ".a") p.near _ a.0 in
-    let far = and_parts _ _ (allowed_is (path ++ codes ".b") p.far _ b.0) in
-    let taken = or_parts _ _ (not_true _ (allowed_is (path ++ codes ".id") p.id _ b.1)) in
+    let near = allowed_is (Key (codes "a") ∷ path) p.near _ a.0 in
+    let far = and_parts _ _ (allowed_is (Key (codes "b") ∷ path) p.far _ b.0) in
+    let taken = or_parts _ _ (not_true _ (allowed_is (Key (codes "id") ∷ path) p.id _ b.1)) in
     let links_new = or_parts _ _ taken.0 in
     record {
       near = ltb-true p.near (length links) near;
@@ -169,21 +170,23 @@ pub peers_ruled : (links : List LinkDraft) (all : List PeerPlan) (i : ℕ) (ps :
 peers_ruled links all i [] e zero m p at is = absurd cc
 peers_ruled links all i [] e (suc k) m p at is = absurd cc
 peers_ruled links all i (q ∷ ps) e zero m p at is =
-    let s = steps (peer_rules (place (codes "p2p") i) links (take i all) q) (λ _. each_peer links all (i + 1) ps) tt e
+    let s = steps (peer_rules (Place i ∷ Key (codes "p2p") ∷ []) links (take i all) q)
+    (λ _. each_peer links all (i + 1) ps) tt e
     in
     let same : q ≡ p = cc in
     let number : i ≡ m = omega (arith, at) in
     subst (λ n. PeerRuled links (take n all) p) number
-    (subst (PeerRuled links (take i all)) same (peer_ruled (place (codes "p2p") i) links (take i all) q s.0))
+    (subst (PeerRuled links (take i all)) same (peer_ruled (Place i ∷ Key (codes "p2p") ∷ []) links (take i all) q s.0))
 peers_ruled links all i (q ∷ ps) e (suc k) m p at is =
-    let s = steps (peer_rules (place (codes "p2p") i) links (take i all) q) (λ _. each_peer links all (i + 1) ps) tt e
+    let s = steps (peer_rules (Place i ∷ Key (codes "p2p") ∷ []) links (take i all) q)
+    (λ _. each_peer links all (i + 1) ps) tt e
     in
     peers_ruled links all (i + 1) ps s.1 k m p (omega (arith, at)) is
 
 -- a hop that meets its rules, on this link
 pub record HopRuled (peers : List PeerPlan) (link : ℕ) (streams : List StreamPlan) (id : ℕ)
     (classes : Option (List ℕ)) : Type 0 where
-  pub path : Text
+  pub path : Path
   pub id_new : has_stream_id streams id ≡ false
   pub peers_new : list_any (is_peer_with_id link id) peers ≡ false
   pub apart : classes_apart path streams classes ≡ Ok tt
@@ -191,38 +194,39 @@ pub record HopRuled (peers : List PeerPlan) (link : ℕ) (streams : List StreamP
 abbrev pub HopIsRuled : List PeerPlan → ℕ → LinkDraft → Type 0
 HopIsRuled peers link l = (id : ℕ) → l.hop ≡ Some id → HopRuled peers link l.streams id l.hop_classes
 
-hop_ruled : (path : Text) (peers : List PeerPlan) (link : ℕ) (l : LinkDraft) → hop_rules path peers link l ≡ Ok tt
+hop_ruled : (path : Path) (peers : List PeerPlan) (link : ℕ) (l : LinkDraft) → hop_rules path peers link l ≡ Ok tt
     → HopIsRuled peers link l
 unfolding hop_rules
 hop_ruled path peers link l e id is =
     let ruled : hop_rules_of_fields path peers link l.streams (Some id) l.hop_classes
     ≡ Ok tt = subst (λ o. hop_rules_of_fields path peers link l.streams o l.hop_classes ≡ Ok tt) is e in
-    let a = steps (allowed_or_range (path ++ codes ".hop") id (not (is_hop_taken peers link l.streams id))) _ tt ruled
+    let a = steps (allowed_or_range (Key (codes "hop") ∷ path) id (not (is_hop_taken peers link l.streams id))) _ tt
+    ruled
     in
-    let new = or_parts _ _ (not_true _ (allowed_is (path ++ codes ".hop") id _ a.0)) in
-    record { path = path ++ codes ".hop_tcs"; id_new = new.0; peers_new = new.1; apart = a.1 }
+    let new = or_parts _ _ (not_true _ (allowed_is (Key (codes "hop") ∷ path) id _ a.0)) in
+    record { path = Key (codes "hop_tcs") ∷ path; id_new = new.0; peers_new = new.1; apart = a.1 }
 
 pub hops_ruled : (peers : List PeerPlan) (i : ℕ) (ls : List LinkDraft) → each_hop peers i ls ≡ Ok tt → (k m : ℕ)
     (l : LinkDraft) → m ≡ i + k → slice_get ls k ≡ Some l → HopIsRuled peers m l
 hops_ruled peers i [] e zero m l at is = absurd cc
 hops_ruled peers i [] e (suc k) m l at is = absurd cc
 hops_ruled peers i (x ∷ ls) e zero m l at is =
-    let s = steps (hop_rules (place (codes "link") i) peers i x) (λ _. each_hop peers (i + 1) ls) tt e in
+    let s = steps (hop_rules (Place i ∷ Key (codes "link") ∷ []) peers i x) (λ _. each_hop peers (i + 1) ls) tt e in
     let same : x ≡ l = cc in
     let number : i ≡ m = omega (arith, at) in
     subst (λ n. HopIsRuled peers n l) number
-    (subst (HopIsRuled peers i) same (hop_ruled (place (codes "link") i) peers i x s.0))
+    (subst (HopIsRuled peers i) same (hop_ruled (Place i ∷ Key (codes "link") ∷ []) peers i x s.0))
 hops_ruled peers i (x ∷ ls) e (suc k) m l at is =
-    let s = steps (hop_rules (place (codes "link") i) peers i x) (λ _. each_hop peers (i + 1) ls) tt e in
+    let s = steps (hop_rules (Place i ∷ Key (codes "link") ∷ []) peers i x) (λ _. each_hop peers (i + 1) ls) tt e in
     hops_ruled peers (i + 1) ls s.1 k m l (omega (arith, at)) is
 
 pub record Ruled (d : PlanDraft) : Type 0 where
   pub pool_sixes : length d.pool % 6 ≡ 0
-  pub pool : no_clash (codes "pool") bytes_eq d.pool ≡ Ok tt
+  pub pool : no_clash (Key (codes "pool") ∷ []) bytes_eq d.pool ≡ Ok tt
   pub each_link : All LinkRuled d.links
   pub interfaces : interface_count d.links ≤ interface_limit d.version
   pub memory : sum_by (λ r. r.size) d.memory ≤ 16777216
-  pub regions : no_clash (codes "memory") overlap d.memory ≡ Ok tt
+  pub regions : no_clash (Key (codes "memory") ∷ []) overlap d.memory ≡ Ok tt
   pub peers : each_peer d.links d.peers 0 d.peers ≡ Ok tt
   pub hops : each_hop d.peers 0 d.links ≡ Ok tt
 
@@ -231,18 +235,19 @@ pub ruled : (d : PlanDraft) → rules d ≡ Ok tt → Ruled d
 unfolding rules
 ruled d e =
     let a = steps (in_sixes d.pool) _ tt e in
-    let b = steps (no_clash (codes "pool") bytes_eq d.pool) _ tt a.1 in
+    let b = steps (no_clash (Key (codes "pool") ∷ []) bytes_eq d.pool) _ tt a.1 in
     let c = steps (each_link 0 d.links) _ tt b.1 in
-    let f = steps (at_most (interface_limit d.version) (codes "interface") (interface_count d.links)) _ tt c.1 in
-    let g = steps (at_most 16777216 (codes "memory") (sum_by (λ r. r.size) d.memory)) _ tt f.1 in
-    let h = steps (no_clash (codes "memory") overlap d.memory) _ tt g.1 in
+    let f = steps (at_most (interface_limit d.version) (Key (codes "interface") ∷ []) (interface_count d.links)) _ tt
+    c.1 in
+    let g = steps (at_most 16777216 (Key (codes "memory") ∷ []) (sum_by (λ r. r.size) d.memory)) _ tt f.1 in
+    let h = steps (no_clash (Key (codes "memory") ∷ []) overlap d.memory) _ tt g.1 in
     let i = steps (each_peer d.links d.peers 0 d.peers) _ tt h.1 in
     record {
       pool_sixes = sixes d.pool a.0;
       pool = b.0;
       each_link = links_ruled 0 d.links c.0;
-      interfaces = at_most_is (interface_limit d.version) (codes "interface") _ f.0;
-      memory = at_most_is 16777216 (codes "memory") _ g.0;
+      interfaces = at_most_is (interface_limit d.version) (Key (codes "interface") ∷ []) _ f.0;
+      memory = at_most_is 16777216 (Key (codes "memory") ∷ []) _ g.0;
       regions = h.0;
       peers = i.0;
       hops = i.1;

@@ -10,7 +10,8 @@ use Rattle.ide_types.specs.declared.stream.AddressRange.{AddressRange}
 use Rattle.ide_types.specs.Fits.{is_aggregation, FitsIds, FitsAddresses, FitsSelector, FitsStream, FitsBar, FitsRegion}
 use Rattle.toml_walk.specs.declared.bounds.Form.TheVariants.{Pages, Mebibytes, LastOfMebibyte, UnitMode}
 use Rattle.toml_walk.specs.Bounds.{greatest, within, bounds_of_form}
-use Rattle.toml_walk.specs.Walk.{Text, only_known, required_value, optional, list, count_between, any_number}
+use Rattle.toml_walk.specs.Paths.{Path}
+use Rattle.toml_walk.specs.Walk.{only_known, required_value, optional, list, count_between, any_number}
 use Rattle.toml_walk.specs.Values.{number, truth, two}
 use Rattle.toml_walk.proofs.Holds.{Holds, gives, anything, next, weaker, checked, Admitted, Listed, number_holds}
 use Rattle.toml_walk.proofs.Holds.{required_holds, optional_holds, list_holds, two_holds}
@@ -25,17 +26,17 @@ use Rattle.ide_types.specs.declared.plan.PeerPlan.{PeerPlan}
 abbrev pub Upto : ℕ → ℕ → Type 0
 Upto most n = n ≤ most
 
-pub upto : (most : ℕ) (path : Text) (d : Data) → Holds (Upto most) (number (within 0 most) path d)
+pub upto : (most : ℕ) (path : Path) (d : Data) → Holds (Upto most) (number (within 0 most) path d)
 upto most path d = weaker (Admitted (within 0 most)) (Upto most) _ (number_holds _ path d) (λ n a. a.most)
 
-ids_hold : (allowed : Bool) (path : Text) (d : Data) → Holds FitsIds (id_range allowed path d)
+ids_hold : (allowed : Bool) (path : Path) (d : Data) → Holds FitsIds (id_range allowed path d)
 ids_hold allowed path d =
     next (λ (p : ℕ × ℕ). Admitted (within 0 65535) p.0 × Admitted (within 0 65535) p.1) FitsIds
     (two allowed (within 0 65535) (within 0 65535) path d) (ids_in_order path) (two_holds allowed _ _ path d)
     (λ p a. checked FitsIds (nat_le p.0 p.1) (Some (record { base = p.0; limit = p.1 })) _
     (λ h. (leb-true p.0 p.1 h, a.1.most)))
 
-addresses_hold : (path : Text) (d : Data) → Holds FitsAddresses (address_range path d)
+addresses_hold : (path : Path) (d : Data) → Holds FitsAddresses (address_range path d)
 addresses_hold path d =
     next (λ (p : ℕ × ℕ). Admitted (bounds_of_form 0 greatest Mebibytes) p.0
     × Admitted (bounds_of_form 0 greatest LastOfMebibyte) p.1)
@@ -56,20 +57,20 @@ selector_fits : (k : StreamKind) (ids : Option IdRange) (addresses : List Addres
 selector_fits kind.Selective ids addresses default classes i a c = (i, a.0, a.1)
 selector_fits kind.Link ids addresses default classes i a c = c
 
-ranges_hold : (allowed : Bool) (path : Text) (d : Data) → Holds (λ xs. (length xs ≤ 8) × All FitsAddresses xs)
+ranges_hold : (allowed : Bool) (path : Path) (d : Data) → Holds (λ xs. (length xs ≤ 8) × All FitsAddresses xs)
     (list (only_if allowed (count_between 0 8)) address_range path d)
 ranges_hold allowed path d =
     weaker (Listed (only_if allowed (count_between 0 8)) FitsAddresses) _ _
     (list_holds _ FitsAddresses address_range addresses_hold path d)
     (λ xs l. (ltb-false 8 (length xs) l.most, l.each))
 
-classes_hold : (allowed : Bool) (path : Text) (d : Data) → Holds (All (λ c. c ≤ 7))
+classes_hold : (allowed : Bool) (path : Path) (d : Data) → Holds (All (λ c. c ≤ 7))
     (list (only_if allowed any_number) (number (within 0 7)) path d)
 classes_hold allowed path d = weaker (Listed (only_if allowed any_number) (Upto 7)) _ _
     (list_holds _ (Upto 7) (number (within 0 7)) (upto 7) path d) (λ xs l. l.each)
 
 -- key by key, as the keys are read; the kind says which lists may have elements
-pub stream_holds : (t : Text) (ms : Members) → Holds FitsStream (stream_keys t ms)
+pub stream_holds : (t : Path) (ms : Members) → Holds FitsStream (stream_keys t ms)
 unfolding stream_keys
 stream_holds t ms =
     next (λ _. Unit {0}) FitsStream (only_known t stream_names ms) _ (anything _) (λ _ _.
@@ -100,7 +101,7 @@ stream_holds t ms =
           addresses_fit classes_fit;
     }))))))))))
 
-pub bar_holds : (t : Text) (ms : Members) → Holds FitsBar (bar_keys t ms)
+pub bar_holds : (t : Path) (ms : Members) → Holds FitsBar (bar_keys t ms)
 unfolding bar_keys
 bar_holds t ms =
     next (λ _. Unit {0}) FitsBar (only_known t bar_names ms) _ (anything _) (λ _ _.
@@ -112,7 +113,7 @@ bar_holds t ms =
     (optional_holds _ t ms (codes "attributes") 0 _ (lit≤ tt) (upto 15)) (λ attributes attributes_fit.
     gives FitsBar _ (record { base = omega (arith, base_fits); pages = pages_fit; attributes = attributes_fit })))))
 
-pub region_holds : (t : Text) (ms : Members) → Holds FitsRegion (region_keys t ms)
+pub region_holds : (t : Path) (ms : Members) → Holds FitsRegion (region_keys t ms)
 unfolding region_keys
 region_holds t ms =
     next (λ _. Unit {0}) FitsRegion (only_known t region_names ms) _ (anything _) (λ _ _.
@@ -135,7 +136,7 @@ pub record PeerHolds (p : PeerPlan) : Type 0 where
   pub id : p.id ≤ 255
   pub aggregation : is_aggregation p.aggregation ≡ true
 
-pub peer_holds : (t : Text) (ms : Members) → Holds PeerHolds (peer_keys t ms)
+pub peer_holds : (t : Path) (ms : Members) → Holds PeerHolds (peer_keys t ms)
 unfolding peer_keys
 peer_holds t ms =
     next (λ _. Unit {0}) PeerHolds (only_known t peer_names ms) _ (anything _) (λ _ _.

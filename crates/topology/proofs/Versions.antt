@@ -4,6 +4,7 @@ use Rattle.std.proofs.Common.{◌∷◌, Option, Some, None, Ok, codes}
 use Rattle.toml.specs.Data.{Members, get_member}
 use Rattle.ide_types.specs.declared.stream.StreamPlan.{StreamPlan}
 use Rattle.toml_walk.specs.Values.{key_bytes}
+use Rattle.toml_walk.specs.Paths.{Path}
 use Rattle.toml_walk.specs.Walk.{Text, is_known, key_names, unknown_in, refused_key, only_known, required_value}
 use Rattle.toml_walk.specs.Walk.{optional, table, list, count_between, any_number}
 use Rattle.topology.specs.Tables.{link_names, interface_names, interface_keys, link_keys, stream_keys}
@@ -28,11 +29,11 @@ fewer_unknown known more [] w e = refl
 fewer_unknown known more (k ∷ ks) w e = one_known (is_known known k) known more k ks refl (w k)
     (fewer_unknown known more ks w) e
 
-pub none_refused : (t : Text) (o : Option Text) → refused_key t o ≡ Ok tt → o ≡ None
+pub none_refused : (t : Path) (o : Option Text) → refused_key t o ≡ Ok tt → o ≡ None
 none_refused t None e = refl
 none_refused t (Some k) e = cc
 
-pub more_known : (known more : List Text) (t : Text) (ms : Members)
+pub more_known : (known more : List Text) (t : Path) (ms : Members)
     → ((k : Text) → is_known known k ≡ true → is_known more k ≡ true)
     → Carries Same (only_known t known ms) (only_known t more ms)
 more_known known more t ms w = record {
@@ -50,7 +51,7 @@ both_known : (b : Bool) (version : ℕ) (k : Text) → (version == 2) ≡ b → 
 both_known true version k is h = rw is at h
 both_known false version k is h = or_right _ _ (or_right _ _ (rw is at h))
 
-pub interface_extends : (version : ℕ) (t : Text) (ms : Members)
+pub interface_extends : (version : ℕ) (t : Path) (ms : Members)
     → Carries Same (interface_keys version t ms) (interface_keys 2 t ms)
 unfolding interface_keys
 interface_extends version t ms =
@@ -64,7 +65,7 @@ both_link_known : (b : Bool) (version : ℕ) (k : Text) → (version == 2) ≡ b
 both_link_known true version k is h = rw is at h
 both_link_known false version k is h = or_right _ _ (or_right _ _ (rw is at h))
 
-pub link_extends : (version : ℕ) (t : Text) (ms : Members) → Carries Same (link_keys version t ms) (link_keys 2 t ms)
+pub link_extends : (version : ℕ) (t : Path) (ms : Members) → Carries Same (link_keys version t ms) (link_keys 2 t ms)
 unfolding link_keys
 link_extends version t ms =
     next Same Same (only_known t (link_names version) ms) (only_known t (link_names 2) ms) _ _

@@ -1,6 +1,6 @@
 -- The tables of a topology: for each its keys in their order, with kind, bounds and default.
 use Rattle.std.specs.Prelude.{◌+◌, ℕ, ℤ, pos, negsuc, nat_le, nat_lt, Bool, true, false, not, ◌&&◌, ◌==◌, List, [], ◌∷◌}
-use Rattle.std.specs.Prelude.{◌++◌, Option, Some, None, Result, Ok, Err, if◌then◌else◌, codes}
+use Rattle.std.specs.Prelude.{Option, Some, None, Result, Ok, Err, if◌then◌else◌, codes}
 use Rattle.std.specs.Str.{bytes_eq}
 use Rattle.std.specs.Option.{option_and_then}
 use Rattle.toml.specs.Data.{Members, get_member, as_integer}
@@ -12,10 +12,11 @@ use Rattle.ide_types.specs.declared.plan.Region.{Region}
 use Rattle.toml_walk.specs.declared.bounds.Form.TheVariants.{Pages, Mebibytes, LastOfMebibyte, UnitMode}
 use Rattle.toml_walk.specs.declared.list.CountRange.{CountRange}
 use Rattle.toml_walk.specs.declared.fault.PlanFault.{PlanFault}
-use Rattle.toml_walk.specs.declared.fault.PlanFault.TheVariants.{Range}
-use Rattle.toml_walk.specs.Fault.{◌>>=◌}
+use Rattle.toml_walk.specs.declared.fault.KeyFault.TheVariants.{Range}
+use Rattle.toml_walk.specs.Fault.{◌>>=◌, refused}
+use Rattle.toml_walk.specs.Paths.{Path, Key, Place}
 use Rattle.toml_walk.specs.Bounds.{greatest, within, bounds_of_form}
-use Rattle.toml_walk.specs.Walk.{Text, Reader, place, only_known, required_value, optional, table, list, count_between}
+use Rattle.toml_walk.specs.Walk.{Text, Reader, only_known, required_value, optional, table, list, count_between}
 use Rattle.toml_walk.specs.Walk.{any_number, given_value}
 use Rattle.toml_walk.specs.Values.{integer, number, truth, text, or_length, key_bytes, hex_bytes, two}
 use Rattle.topology.specs.declared.draft.StreamKind.{StreamKind}
@@ -23,6 +24,7 @@ use Rattle.topology.specs.declared.draft.StreamKind.TheVariants as kind
 use Rattle.ide_types.specs.declared.stream.StreamPlan.{StreamPlan}
 use Rattle.ide_types.specs.declared.interface.BarPlan.{BarPlan}
 use Rattle.ide_types.specs.declared.plan.PeerPlan.{PeerPlan}
+use Rattle.topology.specs.declared.draft.RegisterDraft.{RegisterDraft}
 use Rattle.topology.specs.declared.draft.InterfaceDraft.{InterfaceDraft}
 use Rattle.topology.specs.declared.draft.LinkDraft.{LinkDraft}
 use Rattle.topology.specs.declared.draft.PlanDraft.{PlanDraft}
@@ -48,10 +50,10 @@ abbrev pub only_if : Bool → CountRange → CountRange
 only_if allowed span = record span { allowed = allowed }
 
 -- [base, limit] with base at most limit
-abbrev pub ids_in_order : Text → ℕ × ℕ → Result (Option IdRange) PlanFault
+abbrev pub ids_in_order : Path → ℕ × ℕ → Result (Option IdRange) PlanFault
 ids_in_order path (base, limit) =
     if nat_le base limit then Ok (Some (record { base = base; limit = limit }))
-    else Err (Range (place path 1) (pos limit))
+    else Err (refused (Place 1 ∷ path) (Range (pos limit)))
 
 abbrev pub id_range : Bool → Reader (Option IdRange)
 id_range allowed path d = do
@@ -59,9 +61,10 @@ id_range allowed path d = do
   ids_in_order path ends
 
 -- [base, limit] with base less than limit
-abbrev pub addresses_in_order : Text → ℕ × ℕ → Result AddressRange PlanFault
+abbrev pub addresses_in_order : Path → ℕ × ℕ → Result AddressRange PlanFault
 addresses_in_order path (base, limit) =
-    if nat_lt base limit then Ok (record { base = base; limit = limit }) else Err (Range (place path 1) (pos limit))
+    if nat_lt base limit then Ok (record { base = base; limit = limit })
+    else Err (refused (Place 1 ∷ path) (Range (pos limit)))
 
 -- base and limit + 1 are multiples of 2^20
 abbrev pub address_range : Reader AddressRange
@@ -70,8 +73,8 @@ address_range path d = do
   addresses_in_order path ends
 
 -- true if it is allowed, or false; Range with 1 is the fault of true
-abbrev pub true_if : Bool → Text → Bool → Result Bool PlanFault
-true_if allowed path b = if b && not allowed then Err (Range path (pos 1)) else Ok b
+abbrev pub true_if : Bool → Path → Bool → Result Bool PlanFault
+true_if allowed path b = if b && not allowed then Err (refused path (Range (pos 1))) else Ok b
 
 abbrev pub truth_if : Bool → Reader Bool
 truth_if allowed path d = do
@@ -87,7 +90,7 @@ stream_names = codes "id" ∷ codes "kind" ∷ codes "mode" ∷ codes "rid" ∷ 
     ∷ codes "closed" ∷ []
 
 -- a stream: rid, ranges and default are a selective stream's, tcs a link stream's
-unfoldable pub stream_keys : Text → Members → Result StreamPlan PlanFault
+unfoldable pub stream_keys : Path → Members → Result StreamPlan PlanFault
 stream_keys t ms = do
   _ ← only_known t stream_names ms
   id ← required_value t ms (codes "id") (number (within 0 255))
@@ -112,7 +115,7 @@ abbrev pub bar_names : List Text
 bar_names = codes "base" ∷ codes "pages" ∷ codes "attributes" ∷ []
 
 -- a base address register
-unfoldable pub bar_keys : Text → Members → Result BarPlan PlanFault
+unfoldable pub bar_keys : Path → Members → Result BarPlan PlanFault
 bar_keys t ms = do
   _ ← only_known t bar_names ms
   base ← required_value t ms (codes "base") (number (within 0 greatest))
@@ -136,14 +139,9 @@ common_names =
 abbrev pub interface_names : ℕ → List Text
 interface_names version = if version == 2 then codes "pasid" ∷ codes "ats" ∷ common_names else common_names
 
--- an interface of a version, and the number at its key `stream`, whose bounds are a rule over several values
-unfoldable pub interface_keys : ℕ → Text → Members → Result InterfaceDraft PlanFault
-interface_keys version t ms = do
-  _ ← only_known t (interface_names version) ms
-  rid ← required_value t ms (codes "rid") (number (within 0 65535))
-  stream ← required_value t ms (codes "stream") integer
-  flags ← optional t ms (codes "flags") 0 (number (within 0 31))
-  offset ← optional t ms (codes "offset") 0 (number (bounds_of_form 0 greatest Pages))
+-- the registers of an interface
+unfoldable pub register_keys : Path → Members → Result RegisterDraft PlanFault
+register_keys t ms = do
   command ← optional t ms (codes "command") 0 (number (within 0 65535))
   msix ← optional t ms (codes "msix") 0 (number (within 0 65535))
   lnr ← optional t ms (codes "lnr") 0 (number (within 0 65535))
@@ -151,6 +149,25 @@ interface_keys version t ms = do
   tph ← optional t ms (codes "tph") 0 (number (within 0 4294967295))
   pasid ← optional t ms (codes "pasid") 0 (number (within 0 65535))
   ats ← optional t ms (codes "ats") 0 (number (within 0 65535))
+  Ok (record {
+    command = command;
+    msix = msix;
+    lnr = lnr;
+    cache_line = cacheline;
+    tph = tph;
+    pasid = pasid;
+    ats = ats;
+  })
+
+-- an interface of a version, and the number at its key `stream`, whose bounds are a rule over several values
+unfoldable pub interface_keys : ℕ → Path → Members → Result InterfaceDraft PlanFault
+interface_keys version t ms = do
+  _ ← only_known t (interface_names version) ms
+  rid ← required_value t ms (codes "rid") (number (within 0 65535))
+  stream ← required_value t ms (codes "stream") integer
+  flags ← optional t ms (codes "flags") 0 (number (within 0 31))
+  offset ← optional t ms (codes "offset") 0 (number (bounds_of_form 0 greatest Pages))
+  registers ← register_keys t ms
   info ← optional t ms (codes "info") [] (hex_bytes 1024)
   bars ← optional t ms (codes "bars") [] (list (count_between 0 6) (table bar_keys))
   Ok (record {
@@ -160,13 +177,13 @@ interface_keys version t ms = do
       stream = stream_id_of stream;
       flags = flags;
       offset = offset;
-      command = command;
-      cache_line = cacheline;
-      msix = msix;
-      lnr = lnr;
-      tph = tph;
-      pasid = pasid;
-      ats = ats;
+      command = registers.command;
+      cache_line = registers.cache_line;
+      msix = registers.msix;
+      lnr = registers.lnr;
+      tph = registers.tph;
+      pasid = registers.pasid;
+      ats = registers.ats;
       info = info;
       bars = bars;
     };
@@ -180,7 +197,7 @@ abbrev pub link_names : ℕ → List Text
 link_names version = if version == 2 then codes "hop" ∷ codes "hop_tcs" ∷ common_link_names else common_link_names
 
 -- a link of a topology of a version
-unfoldable pub link_keys : ℕ → Text → Members → Result LinkDraft PlanFault
+unfoldable pub link_keys : ℕ → Path → Members → Result LinkDraft PlanFault
 link_keys version t ms = do
   _ ← only_known t (link_names version) ms
   nonces ← optional t ms (codes "nonces") [] (list (count_between 0 1024) key_bytes)
@@ -194,13 +211,13 @@ abbrev pub region_names : List Text
 region_names = codes "base" ∷ codes "size" ∷ []
 
 -- base + size at most 2^63
-abbrev pub region_within : Text → ℕ → ℕ → Result Region PlanFault
+abbrev pub region_within : Path → ℕ → ℕ → Result Region PlanFault
 region_within t base size =
     if nat_le (base + size) 9223372036854775808 then Ok (record { base = base; size = size })
-    else Err (Range (t ++ codes "size") (pos size))
+    else Err (refused (Key (codes "size") ∷ t) (Range (pos size)))
 
 -- a region of trusted memory
-unfoldable pub region_keys : Text → Members → Result Region PlanFault
+unfoldable pub region_keys : Path → Members → Result Region PlanFault
 region_keys t ms = do
   _ ← only_known t region_names ms
   base ← required_value t ms (codes "base") (number (bounds_of_form 0 greatest Pages))
@@ -211,7 +228,7 @@ abbrev pub peer_names : List Text
 peer_names = codes "id" ∷ codes "a" ∷ codes "b" ∷ codes "mode" ∷ []
 
 -- a stream between the devices of two links
-unfoldable pub peer_keys : Text → Members → Result PeerPlan PlanFault
+unfoldable pub peer_keys : Path → Members → Result PeerPlan PlanFault
 peer_keys t ms = do
   _ ← only_known t peer_names ms
   id ← required_value t ms (codes "id") (number (within 0 255))
@@ -237,7 +254,7 @@ abbrev pub top_names : Bool → List Text
 top_names newer = if newer then codes "p2p" ∷ common_top_names else common_top_names
 
 -- the table at the top
-unfoldable pub top_keys : Text → Members → Result PlanDraft PlanFault
+unfoldable pub top_keys : Path → Members → Result PlanDraft PlanFault
 top_keys t ms = do
   _ ← only_known t (top_names (is_newer ms)) ms
   version ← required_value t ms (codes "version") (number (within 1 2))

@@ -9,6 +9,18 @@ pub enum StreamKind {
     Link,
 }
 
+/// The registers of an interface.
+#[derive(Clone, Copy)]
+pub struct RegisterDraft {
+    pub command: u16,
+    pub msix: u16,
+    pub lnr: u16,
+    pub cache_line: u8,
+    pub tph: u32,
+    pub pasid: u16,
+    pub ats: u16,
+}
+
 /// An interface, and the number that names its stream.
 #[derive(Drop)]
 pub struct InterfaceDraft {

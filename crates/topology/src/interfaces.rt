@@ -6,21 +6,21 @@ ghost use Rattle.toml_walk.specs.Bounds.{within, bounds_of_form};
 ghost use Rattle.toml_walk.specs.Fault.{Gives};
 ghost use Rattle.toml_walk.specs.Values.{integer};
 ghost use Rattle.toml_walk.specs.Walk.{table};
-ghost use Rattle.topology.specs.Tables.{bar_keys, stream_id_of, interface_names, interface_keys};
+ghost use Rattle.topology.specs.Tables.{bar_keys, stream_id_of, register_keys, interface_names, interface_keys};
 
-use crate::draft::InterfaceDraft;
+use crate::draft::{InterfaceDraft, RegisterDraft};
 use ide_types::{BarPlan, Bytes, InterfacePlan, Items};
 use std::alloc::Global;
 use toml::Value;
 use toml_walk::{
-    Byte, Form, GREATEST, HexBytes, Keys, ListOf, Long, PlanError, Reader, Wide, Word, integer_of,
-    key_path, table_of,
+    Byte, Form, GREATEST, HexBytes, Keys, ListOf, Long, Path, PlanError, Reader, Wide, Word,
+    integer_of, table_of,
 };
 
 // The keys of a base address register's table.
 #[tactic(auto, unfolding(crate::specs::Tables::bar_keys))]
 fn bar_of(keys: &Keys) -> Result<BarPlan, PlanError>
-    ensures { Gives (λ x. x) result (bar_keys keys.now.path (table_view keys.now.table.now)) }
+    ensures { Gives (λ x. x) result (bar_keys keys.now.path.now (table_view keys.now.table.now)) }
 {
     keys.only(&["base", "pages", "attributes"])?;
     let base = keys.required("base", &Wide::within(0, GREATEST))?;
@@ -41,9 +41,8 @@ impl Reader for Bars {
 
     ghost reads = { λ _. table bar_keys };
 
-    fn read(&self, alloc: Global, path: &[u8], value: &Value) -> Result<BarPlan, PlanError> {
-        let table = table_of(Bytes::copied(alloc, path)?, value)?;
-        let path = key_path(alloc, path, ".")?;
+    fn read(&self, alloc: Global, path: &Path, value: &Value) -> Result<BarPlan, PlanError> {
+        let table = table_of(alloc, path, value)?;
         bar_of(&Keys { alloc, path, table })
     }
 }
@@ -57,7 +56,7 @@ impl Reader for Integer {
 
     ghost reads = { λ _. integer };
 
-    fn read(&self, alloc: Global, path: &[u8], value: &Value) -> Result<i64, PlanError> {
+    fn read(&self, alloc: Global, path: &Path, value: &Value) -> Result<i64, PlanError> {
         integer_of(alloc, path, value)
     }
 }
@@ -111,16 +110,11 @@ fn names_of(version: u8) -> &'static [&'static str]
     if version == 2 { NEWER_NAMES } else { NAMES }
 }
 
-// The keys of an interface's table.
-#[tactic(auto, unfolding(crate::specs::Tables::interface_keys))]
-fn interface_of(version: u8, keys: &Keys) -> Result<InterfaceDraft, PlanError>
-    ensures { Gives (λ x. x) result (interface_keys version keys.now.path (table_view keys.now.table.now)) }
+// The keys of an interface's table that are registers.
+#[tactic(auto, unfolding(crate::specs::Tables::register_keys))]
+fn registers_of(keys: &Keys) -> Result<RegisterDraft, PlanError>
+    ensures { Gives (λ x. x) result (register_keys keys.now.path.now (table_view keys.now.table.now)) }
 {
-    keys.only(names_of(version))?;
-    let requester = keys.required("rid", &Word::within(0, 65535))?;
-    let stream = keys.required("stream", &Integer)?;
-    let flags = keys.optional("flags", 0, &Word::within(0, 31))?;
-    let offset = keys.optional("offset", 0, &Wide::formed(0, Form::Pages))?;
     let command = keys.optional("command", 0, &Word::within(0, 65535))?;
     let msix = keys.optional("msix", 0, &Word::within(0, 65535))?;
     let lnr = keys.optional("lnr", 0, &Word::within(0, 65535))?;
@@ -128,6 +122,28 @@ fn interface_of(version: u8, keys: &Keys) -> Result<InterfaceDraft, PlanError>
     let tph = keys.optional("tph", 0, &Long::within(0, 4294967295))?;
     let pasid = keys.optional("pasid", 0, &Word::within(0, 65535))?;
     let ats = keys.optional("ats", 0, &Word::within(0, 65535))?;
+    Ok(RegisterDraft {
+        command,
+        msix,
+        lnr,
+        cache_line,
+        tph,
+        pasid,
+        ats,
+    })
+}
+
+// The keys of an interface's table.
+#[tactic(auto, unfolding(crate::specs::Tables::interface_keys))]
+fn interface_of(version: u8, keys: &Keys) -> Result<InterfaceDraft, PlanError>
+    ensures { Gives (λ x. x) result (interface_keys version keys.now.path.now (table_view keys.now.table.now)) }
+{
+    keys.only(names_of(version))?;
+    let requester = keys.required("rid", &Word::within(0, 65535))?;
+    let stream = keys.required("stream", &Integer)?;
+    let flags = keys.optional("flags", 0, &Word::within(0, 31))?;
+    let offset = keys.optional("offset", 0, &Wide::formed(0, Form::Pages))?;
+    let registers = registers_of(keys)?;
     let none = Bytes::new(Vec::new(keys.alloc));
     let info = keys.optional("info", none, &HexBytes { most: 1024 })?;
     let none = Items::new(Vec::new(keys.alloc));
@@ -139,13 +155,13 @@ fn interface_of(version: u8, keys: &Keys) -> Result<InterfaceDraft, PlanError>
             stream: id_in(stream),
             flags,
             offset,
-            command,
-            cache_line,
-            msix,
-            lnr,
-            tph,
-            pasid,
-            ats,
+            command: registers.command,
+            cache_line: registers.cache_line,
+            msix: registers.msix,
+            lnr: registers.lnr,
+            tph: registers.tph,
+            pasid: registers.pasid,
+            ats: registers.ats,
             info,
             bars,
         },
@@ -163,9 +179,8 @@ impl Reader for Interfaces {
 
     ghost reads = { λ r. table (interface_keys r.version) };
 
-    fn read(&self, alloc: Global, path: &[u8], value: &Value) -> Result<InterfaceDraft, PlanError> {
-        let table = table_of(Bytes::copied(alloc, path)?, value)?;
-        let path = key_path(alloc, path, ".")?;
+    fn read(&self, alloc: Global, path: &Path, value: &Value) -> Result<InterfaceDraft, PlanError> {
+        let table = table_of(alloc, path, value)?;
         interface_of(self.version, &Keys { alloc, path, table })
     }
 }

@@ -12,12 +12,12 @@ ghost use Rattle.topology.specs.Tables.{top_names, top_keys};
 use crate::draft::{LinkDraft, PlanDraft};
 use crate::interfaces::Interfaces;
 use crate::streams::Streams;
-use ide_types::{Bytes, Items, PeerPlan, Region};
+use ide_types::{Items, PeerPlan, Region};
 use std::alloc::Global;
 use toml::{Table, Value};
 use toml_walk::{
-    Byte, CountRange, Form, Given, KeyBytes, Keys, ListOf, PlanError, PlanFault, Reader, Wide,
-    Word, found, key_path, table_of,
+    Byte, CountRange, Form, Given, KeyBytes, KeyFault, Keys, ListOf, Path, PlanError, Reader, Wide,
+    Word, found, table_of,
 };
 
 // The keys of a link in version 1.
@@ -37,7 +37,7 @@ fn link_names_of(version: u8) -> &'static [&'static str]
 }
 
 fn hop_in(keys: &Keys) -> Result<Option<u8>, PlanError>
-    ensures { Gives (λ x. x) result (optional keys.now.path (table_view keys.now.table.now) (codes "hop") None
+    ensures { Gives (λ x. x) result (optional keys.now.path.now (table_view keys.now.table.now) (codes "hop") None
         (given_value (number (within 0 255)))) }
 {
     let id = Given {
@@ -47,7 +47,7 @@ fn hop_in(keys: &Keys) -> Result<Option<u8>, PlanError>
 }
 
 fn hop_classes_in(keys: &Keys) -> Result<Option<Items<u8>>, PlanError>
-    ensures { Gives (λ x. x) result (optional keys.now.path (table_view keys.now.table.now) (codes "hop_tcs") None
+    ensures { Gives (λ x. x) result (optional keys.now.path.now (table_view keys.now.table.now) (codes "hop_tcs") None
         (given_value (list any_number (number (within 0 7))))) }
 {
     let classes = Given {
@@ -62,7 +62,7 @@ fn hop_classes_in(keys: &Keys) -> Result<Option<Items<u8>>, PlanError>
 // The keys of a link's table.
 #[tactic(auto, unfolding(crate::specs::Tables::link_keys))]
 fn link_of(version: u8, keys: &Keys) -> Result<LinkDraft, PlanError>
-    ensures { Gives (λ x. x) result (link_keys version keys.now.path (table_view keys.now.table.now)) }
+    ensures { Gives (λ x. x) result (link_keys version keys.now.path.now (table_view keys.now.table.now)) }
 {
     keys.only(link_names_of(version))?;
     let none = Items::new(Vec::new(keys.alloc));
@@ -94,9 +94,8 @@ impl Reader for Links {
 
     ghost reads = { λ r. table (link_keys r.version) };
 
-    fn read(&self, alloc: Global, path: &[u8], value: &Value) -> Result<LinkDraft, PlanError> {
-        let table = table_of(Bytes::copied(alloc, path)?, value)?;
-        let path = key_path(alloc, path, ".")?;
+    fn read(&self, alloc: Global, path: &Path, value: &Value) -> Result<LinkDraft, PlanError> {
+        let table = table_of(alloc, path, value)?;
         link_of(self.version, &Keys { alloc, path, table })
     }
 }
@@ -105,19 +104,19 @@ impl Reader for Links {
 fn bounded_region(keys: &Keys, base: u64, size: u64) -> Result<Region, PlanError>
     requires base { base ≤ greatest }
     requires size { size ≤ greatest }
-    ensures { Gives (λ x. x) result (region_within keys.now.path base size) }
+    ensures { Gives (λ x. x) result (region_within keys.now.path.now base size) }
 {
     if base + size <= 9223372036854775808 {
         return Ok(Region { base, size });
     }
-    let path = key_path(keys.alloc, keys.path.as_slice(), "size")?;
-    Err(PlanError::Fault(PlanFault::Range(path, size as i64)))
+    let path = keys.path.key("size");
+    Err(path.refuse(keys.alloc, KeyFault::Range(size as i64)))
 }
 
 // The keys of a region's table.
 #[tactic(auto, unfolding(crate::specs::Tables::region_keys))]
 fn region_of(keys: &Keys) -> Result<Region, PlanError>
-    ensures { Gives (λ x. x) result (region_keys keys.now.path (table_view keys.now.table.now)) }
+    ensures { Gives (λ x. x) result (region_keys keys.now.path.now (table_view keys.now.table.now)) }
 {
     keys.only(&["base", "size"])?;
     let base = keys.required("base", &Wide::formed(0, Form::Pages))?;
@@ -133,9 +132,8 @@ impl Reader for Regions {
 
     ghost reads = { λ _. table region_keys };
 
-    fn read(&self, alloc: Global, path: &[u8], value: &Value) -> Result<Region, PlanError> {
-        let table = table_of(Bytes::copied(alloc, path)?, value)?;
-        let path = key_path(alloc, path, ".")?;
+    fn read(&self, alloc: Global, path: &Path, value: &Value) -> Result<Region, PlanError> {
+        let table = table_of(alloc, path, value)?;
         region_of(&Keys { alloc, path, table })
     }
 }
@@ -143,7 +141,7 @@ impl Reader for Regions {
 // The keys of the table of a stream between two devices.
 #[tactic(auto, unfolding(crate::specs::Tables::peer_keys))]
 fn peer_of(keys: &Keys) -> Result<PeerPlan, PlanError>
-    ensures { Gives (λ x. x) result (peer_keys keys.now.path (table_view keys.now.table.now)) }
+    ensures { Gives (λ x. x) result (peer_keys keys.now.path.now (table_view keys.now.table.now)) }
 {
     keys.only(&["id", "a", "b", "mode"])?;
     let id = keys.required("id", &Byte::within(0, 255))?;
@@ -166,15 +164,14 @@ impl Reader for Peers {
 
     ghost reads = { λ _. table peer_keys };
 
-    fn read(&self, alloc: Global, path: &[u8], value: &Value) -> Result<PeerPlan, PlanError> {
-        let table = table_of(Bytes::copied(alloc, path)?, value)?;
-        let path = key_path(alloc, path, ".")?;
+    fn read(&self, alloc: Global, path: &Path, value: &Value) -> Result<PeerPlan, PlanError> {
+        let table = table_of(alloc, path, value)?;
         peer_of(&Keys { alloc, path, table })
     }
 }
 
 fn units_in(keys: &Keys) -> Result<u64, PlanError>
-    ensures { Gives (λ n. n) result (optional keys.now.path (table_view keys.now.table.now) (codes "units_per_key")
+    ensures { Gives (λ n. n) result (optional keys.now.path.now (table_view keys.now.table.now) (codes "units_per_key")
         4294967296
         (number (within 1 4294967296))) }
 {
@@ -182,14 +179,14 @@ fn units_in(keys: &Keys) -> Result<u64, PlanError>
 }
 
 fn links_in(version: u8, keys: &Keys) -> Result<Items<LinkDraft>, PlanError>
-    ensures { Gives (λ xs. xs) result (required_value keys.now.path (table_view keys.now.table.now) (codes "link")
+    ensures { Gives (λ xs. xs) result (required_value keys.now.path.now (table_view keys.now.table.now) (codes "link")
         (list (count_between 1 8) (table (link_keys version)))) }
 {
     keys.required("link", &ListOf::between(1, 8, Links { version }))
 }
 
 fn memory_in(keys: &Keys) -> Result<Items<Region>, PlanError>
-    ensures { Gives (λ xs. xs) result (optional keys.now.path (table_view keys.now.table.now) (codes "memory") []
+    ensures { Gives (λ xs. xs) result (optional keys.now.path.now (table_view keys.now.table.now) (codes "memory") []
         (list (count_between 0 16) (table region_keys))) }
 {
     let none = Items::new(Vec::new(keys.alloc));
@@ -197,7 +194,7 @@ fn memory_in(keys: &Keys) -> Result<Items<Region>, PlanError>
 }
 
 fn peers_in(keys: &Keys) -> Result<Items<PeerPlan>, PlanError>
-    ensures { Gives (λ xs. xs) result (optional keys.now.path (table_view keys.now.table.now) (codes "p2p") []
+    ensures { Gives (λ xs. xs) result (optional keys.now.path.now (table_view keys.now.table.now) (codes "p2p") []
         (list (count_between 0 8) (table peer_keys))) }
 {
     let none = Items::new(Vec::new(keys.alloc));
@@ -248,7 +245,7 @@ fn top_names_of(table: &Table) -> &'static [&'static str]
 /// The keys of the table at the top.
 #[tactic(auto, unfolding(crate::specs::Tables::top_keys))]
 pub(crate) fn top_of(keys: &Keys) -> Result<PlanDraft, PlanError>
-    ensures { Gives (λ x. x) result (top_keys keys.now.path (table_view keys.now.table.now)) }
+    ensures { Gives (λ x. x) result (top_keys keys.now.path.now (table_view keys.now.table.now)) }
 {
     keys.only(top_names_of(keys.table))?;
     let version = keys.required("version", &Byte::within(1, 2))?;

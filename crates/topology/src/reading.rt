@@ -9,10 +9,10 @@ ghost use Rattle.topology.specs.Meaning.{hop_of, link_of, drafted_plan, table_pl
 use crate::draft::{LinkDraft, PlanDraft};
 use crate::links::top_of;
 use crate::rules::check;
-use ide_types::{Bytes, HopPlan, Items, LinkPlan, Plan};
+use ide_types::{HopPlan, Items, LinkPlan, Plan};
 use std::alloc::{AllocError, Global};
 use toml::Table;
-use toml_walk::{Keys, PlanError, PlanFault};
+use toml_walk::{Keys, Path, PlanError, PlanFault};
 
 // The hop that its keys say: without classes it takes none.
 fn drafted_hop(alloc: Global, hop: Option<u8>, classes: Option<Items<u8>>) -> Option<HopPlan>
@@ -85,7 +85,7 @@ fn plan_of_draft(alloc: Global, draft: PlanDraft) -> Result<Plan, AllocError>
 pub(crate) fn plan_of_table(alloc: Global, table: &Table) -> Result<Plan, PlanError>
     ensures { Gives (λ p. p) result (table_plan (table_view table.now)) }
 {
-    let path = Bytes::new(Vec::new(alloc));
+    let path = &Path::top();
     let draft = top_of(&Keys { alloc, path, table })?;
     check(alloc, &draft)?;
     Ok(plan_of_draft(alloc, draft)?)

@@ -1,10 +1,11 @@
 //! The rules over several values.
 
-ghost use Rattle.std.specs.Prelude.{◌≡◌, ◌++◌, ◌&&◌, ◌==◌, Ok, Err, Some, if◌then◌else◌, nat_le, codes, find, sum_by};
+ghost use Rattle.std.specs.Prelude.{◌≡◌, ◌&&◌, ◌==◌, ◌∷◌, [], Ok, Err, Some, if◌then◌else◌, nat_le, codes, find, sum_by};
 ghost use Rattle.std.specs.List.{list_any};
 ghost use Rattle.std.specs.Str.{bytes_eq};
-ghost use Rattle.toml_walk.specs.Fault.{Gives};
-ghost use Rattle.toml_walk.specs.declared.fault.PlanFault.TheVariants.{Limit};
+ghost use Rattle.toml_walk.specs.Fault.{Gives, refused};
+ghost use Rattle.toml_walk.specs.Paths.{Key};
+ghost use Rattle.toml_walk.specs.declared.fault.KeyFault.TheVariants.{Limit};
 ghost use Rattle.ide_types.specs.Plans.{interface_limit, is_selective, has_stream_id, lists_class};
 ghost use Rattle.topology.specs.Rules.{refused_pair, no_clash, in_sixes, is_id, is_bound, each_bound, link_rules};
 ghost use Rattle.topology.specs.Rules.{each_link, interface_count, allowed_or_range, link_has, is_id_taken, peer_rules};
@@ -16,30 +17,29 @@ use crate::pairs::{
     BothDefault, Clash, Overlap, SameId, SameRequester, ShareClass, classes, contains, equal_keys,
     first_pair,
 };
-use ide_types::{Bytes, Items, PeerPlan, Region, Selector, StreamPlan};
+use ide_types::{Items, PeerPlan, Region, Selector, StreamPlan};
 use std::alloc::Global;
-use toml_walk::{PlanError, PlanFault, key_path, place_path};
+use toml_walk::{KeyFault, Path, PlanError};
 
-fn refuse_pair(path: Bytes, pair: Option<(usize, usize)>) -> Result<(), PlanError>
-    ensures { Gives (λ u. u) result (refused_pair path pair) }
+fn refuse_pair(alloc: Global, path: &Path, pair: Option<(usize, usize)>) -> Result<(), PlanError>
+    ensures { Gives (λ u. u) result (refused_pair path.now pair) }
 {
     match pair {
         None => Ok(()),
-        Some((i, j)) => Err(PlanError::Fault(PlanFault::Repeated(path, i, j))),
+        Some((i, j)) => Err(path.refuse(alloc, KeyFault::Repeated(i, j))),
     }
 }
 
-// Refuses elements of the list `name` of a table that may not stand beside each other.
+// Refuses elements of the list at the path that may not stand beside each other.
 fn refuse_clash<C: Clash>(
     alloc: Global,
-    table: &[u8],
-    name: &str,
+    path: &Path,
     clash: &C,
     items: &[C::Item],
 ) -> Result<(), PlanError>
-    ensures { Gives (λ u. u) result (no_clash (table.now ++ name.now) (C.clashes clash.now) items.now) }
+    ensures { Gives (λ u. u) result (no_clash path.now (C.clashes clash.now) items.now) }
 {
-    refuse_pair(key_path(alloc, table, name)?, first_pair(clash, items))
+    refuse_pair(alloc, path, first_pair(clash, items))
 }
 
 // The pool has six keys for each draw.
@@ -49,16 +49,19 @@ fn check_sixes(alloc: Global, pool: &[[u8; 32]]) -> Result<(), PlanError>
     if pool.len() % 6 == 0 {
         Ok(())
     } else {
-        let path = Bytes::copied(alloc, b"pool")?;
-        Err(PlanError::Fault(PlanFault::Range(path, pool.len() as i64)))
+        let top = Path::top();
+        Err(
+            top.key("pool")
+                .refuse(alloc, KeyFault::Range(pool.len() as i64)),
+        )
     }
 }
 
 // The pool's keys are different.
 fn check_keys(alloc: Global, pool: &[[u8; 32]]) -> Result<(), PlanError>
-    ensures { Gives (λ u. u) result (no_clash (codes "pool") bytes_eq pool.now) }
+    ensures { Gives (λ u. u) result (no_clash (Key (codes "pool") ∷ []) bytes_eq pool.now) }
 {
-    refuse_pair(Bytes::copied(alloc, b"pool")?, equal_keys(alloc, pool)?)
+    refuse_pair(alloc, &Path::top().key("pool"), equal_keys(alloc, pool)?)
 }
 
 fn is_selective_stream(stream: &StreamPlan, number: i64) -> bool
@@ -81,7 +84,7 @@ fn names_selective(streams: &[StreamPlan], number: i64) -> bool
 // Each interface is bound to a selective stream of its link.
 fn check_bound(
     alloc: Global,
-    path: &[u8],
+    path: &Path,
     streams: &[StreamPlan],
     interfaces: &[InterfaceDraft],
 ) -> Result<(), PlanError>
@@ -89,9 +92,9 @@ fn check_bound(
 {
     for (i, interface) in interfaces.iter().enumerate() {
         if !names_selective(streams, interface.stream) {
-            let place = place_path(alloc, path, i)?;
-            let path = key_path(alloc, place.as_slice(), ".stream")?;
-            return Err(PlanError::Fault(PlanFault::Range(path, interface.stream)));
+            let place = path.place(i);
+            let path = place.key("stream");
+            return Err(path.refuse(alloc, KeyFault::Range(interface.stream)));
         }
     }
     Ok(())
@@ -99,26 +102,28 @@ fn check_bound(
 
 // The rules of one link.
 #[tactic(auto, unfolding(crate::specs::Rules::link_rules))]
-fn check_link(alloc: Global, path: &[u8], link: &LinkDraft) -> Result<(), PlanError>
+fn check_link(alloc: Global, path: &Path, link: &LinkDraft) -> Result<(), PlanError>
     ensures { Gives (λ u. u) result (link_rules path.now link.now) }
 {
     let streams = link.streams.as_slice();
     let interfaces = link.interfaces.as_slice();
-    refuse_clash(alloc, path, ".stream", &SameId, streams)?;
-    refuse_clash(alloc, path, ".stream", &BothDefault, streams)?;
-    refuse_clash(alloc, path, ".stream", &ShareClass, streams)?;
-    refuse_clash(alloc, path, ".interface", &SameRequester, interfaces)?;
-    let path = key_path(alloc, path, ".interface")?;
-    check_bound(alloc, path.as_slice(), streams, interfaces)
+    let at_streams = path.key("stream");
+    let at_interfaces = path.key("interface");
+    refuse_clash(alloc, &at_streams, &SameId, streams)?;
+    refuse_clash(alloc, &at_streams, &BothDefault, streams)?;
+    refuse_clash(alloc, &at_streams, &ShareClass, streams)?;
+    refuse_clash(alloc, &at_interfaces, &SameRequester, interfaces)?;
+    check_bound(alloc, &at_interfaces, streams, interfaces)
 }
 
 // The rules of each link.
 fn check_links(alloc: Global, links: &[LinkDraft]) -> Result<(), PlanError>
     ensures { Gives (λ u. u) result (each_link 0 links.now) }
 {
+    let top = Path::top();
+    let list = top.key("link");
     for (i, link) in links.iter().enumerate() {
-        let path = place_path(alloc, b"link", i)?;
-        check_link(alloc, path.as_slice(), link)?;
+        check_link(alloc, &list.place(i), link)?;
     }
     Ok(())
 }
@@ -160,31 +165,24 @@ fn are_small(regions: &[Region]) -> bool
 }
 
 // The total of a list is within its limit.
-fn refuse_past(alloc: Global, path: &[u8], within: bool) -> Result<(), PlanError>
-    ensures { Gives (λ u. u) result (if within then Ok tt else Err (Limit path.now)) }
+fn refuse_past(alloc: Global, path: &Path, within: bool) -> Result<(), PlanError>
+    ensures { Gives (λ u. u) result (if within then Ok tt else Err (refused path.now Limit)) }
 {
     if within {
         Ok(())
     } else {
-        Err(PlanError::Fault(PlanFault::Limit(Bytes::copied(alloc, path)?)))
+        Err(path.refuse(alloc, KeyFault::Limit))
     }
 }
 
-// A number at a key of a table may be there.
-fn refuse_number(
-    alloc: Global,
-    table: &[u8],
-    name: &str,
-    number: u8,
-    may: bool,
-) -> Result<(), PlanError>
-    ensures { Gives (λ u. u) result (allowed_or_range (table.now ++ name.now) number may) }
+// The number at the path may be there.
+fn refuse_number(alloc: Global, path: &Path, number: u8, may: bool) -> Result<(), PlanError>
+    ensures { Gives (λ u. u) result (allowed_or_range path.now number may) }
 {
     if may {
         Ok(())
     } else {
-        let path = key_path(alloc, table, name)?;
-        Err(PlanError::Fault(PlanFault::Range(path, i64::from(number))))
+        Err(path.refuse(alloc, KeyFault::Range(i64::from(number))))
     }
 }
 
@@ -221,7 +219,7 @@ fn has_taken_id(links: &[LinkDraft], earlier: &[PeerPlan], peer: &PeerPlan) -> b
 #[tactic(auto, unfolding(crate::specs::Rules::peer_rules))]
 fn check_peer(
     alloc: Global,
-    path: &[u8],
+    path: &Path,
     links: &[LinkDraft],
     earlier: &[PeerPlan],
     peer: &PeerPlan,
@@ -230,20 +228,21 @@ fn check_peer(
 {
     let count = links.len();
     let near = (peer.near as usize) < count;
-    refuse_number(alloc, path, ".a", peer.near, near)?;
+    refuse_number(alloc, &path.key("a"), peer.near, near)?;
     let far = (peer.far as usize) < count && peer.far != peer.near;
-    refuse_number(alloc, path, ".b", peer.far, far)?;
+    refuse_number(alloc, &path.key("b"), peer.far, far)?;
     let taken = has_taken_id(links, earlier, peer);
-    refuse_number(alloc, path, ".id", peer.id, !taken)
+    refuse_number(alloc, &path.key("id"), peer.id, !taken)
 }
 
 // The rules of each stream between devices.
 fn check_peers(alloc: Global, links: &[LinkDraft], peers: &[PeerPlan]) -> Result<(), PlanError>
     ensures { Gives (λ u. u) result (each_peer links.now peers.now 0 peers.now) }
 {
+    let top = Path::top();
+    let list = top.key("p2p");
     for (i, peer) in peers.iter().enumerate() {
-        let path = place_path(alloc, b"p2p", i)?;
-        check_peer(alloc, path.as_slice(), links, &peers[..i], peer)?;
+        check_peer(alloc, &list.place(i), links, &peers[..i], peer)?;
     }
     Ok(())
 }
@@ -280,25 +279,22 @@ fn first_taken(streams: &[StreamPlan], classes: &[u8]) -> Option<u8>
     None
 }
 
-fn refuse_class(alloc: Global, table: &[u8], class: Option<u8>) -> Result<(), PlanError>
-    ensures { Gives (λ u. u) result (refused_class (table.now ++ codes ".hop_tcs") class) }
+fn refuse_class(alloc: Global, path: &Path, class: Option<u8>) -> Result<(), PlanError>
+    ensures { Gives (λ u. u) result (refused_class path.now class) }
 {
     match class {
         None => Ok(()),
-        Some(class) => {
-            let path = key_path(alloc, table, ".hop_tcs")?;
-            Err(PlanError::Fault(PlanFault::Range(path, i64::from(class))))
-        }
+        Some(class) => Err(path.refuse(alloc, KeyFault::Range(i64::from(class)))),
     }
 }
 
 fn check_classes(
     alloc: Global,
-    path: &[u8],
+    path: &Path,
     streams: &[StreamPlan],
     classes: &Option<Items<u8>>,
 ) -> Result<(), PlanError>
-    ensures { Gives (λ u. u) result (classes_apart (path.now ++ codes ".hop_tcs") streams.now classes.now) }
+    ensures { Gives (λ u. u) result (classes_apart path.now streams.now classes.now) }
 {
     match classes {
         None => Ok(()),
@@ -309,7 +305,7 @@ fn check_classes(
 // The rules of a hop that has an ID.
 fn check_some_hop(
     alloc: Global,
-    path: &[u8],
+    path: &Path,
     peers: &[PeerPlan],
     link: usize,
     draft: &LinkDraft,
@@ -320,15 +316,15 @@ fn check_some_hop(
 {
     let streams = draft.streams.as_slice();
     let taken = has_id(streams, id) || any_ends_with(peers, link, id);
-    refuse_number(alloc, path, ".hop", id, !taken)?;
-    check_classes(alloc, path, streams, &draft.hop_classes)
+    refuse_number(alloc, &path.key("hop"), id, !taken)?;
+    check_classes(alloc, &path.key("hop_tcs"), streams, &draft.hop_classes)
 }
 
 // The rules of the hop of one link.
 #[tactic(auto, unfolding(crate::specs::Rules::hop_rules))]
 fn check_hop(
     alloc: Global,
-    path: &[u8],
+    path: &Path,
     peers: &[PeerPlan],
     link: usize,
     draft: &LinkDraft,
@@ -337,10 +333,7 @@ fn check_hop(
 {
     match (draft.hop, &draft.hop_classes) {
         (None, None) => Ok(()),
-        (None, Some(_)) => {
-            let path = key_path(alloc, path, ".hop")?;
-            Err(PlanError::Fault(PlanFault::Missing(path)))
-        }
+        (None, Some(_)) => Err(path.key("hop").refuse(alloc, KeyFault::Missing)),
         (Some(id), _) => check_some_hop(alloc, path, peers, link, draft, id),
     }
 }
@@ -349,9 +342,10 @@ fn check_hop(
 fn check_hops(alloc: Global, peers: &[PeerPlan], links: &[LinkDraft]) -> Result<(), PlanError>
     ensures { Gives (λ u. u) result (each_hop peers.now 0 links.now) }
 {
+    let top = Path::top();
+    let list = top.key("link");
     for (i, link) in links.iter().enumerate() {
-        let path = place_path(alloc, b"link", i)?;
-        check_hop(alloc, path.as_slice(), peers, i, link)?;
+        check_hop(alloc, &list.place(i), peers, i, link)?;
     }
     Ok(())
 }
@@ -368,9 +362,11 @@ pub(crate) fn check(alloc: Global, draft: &PlanDraft) -> Result<(), PlanError>
     check_keys(alloc, pool)?;
     check_links(alloc, links)?;
     let few = are_few(links, limit_of(draft.version));
-    refuse_past(alloc, b"interface", few)?;
-    refuse_past(alloc, b"memory", are_small(memory))?;
-    refuse_clash(alloc, b"", "memory", &Overlap, memory)?;
+    let top = Path::top();
+    refuse_past(alloc, &top.key("interface"), few)?;
+    let at_memory = top.key("memory");
+    refuse_past(alloc, &at_memory, are_small(memory))?;
+    refuse_clash(alloc, &at_memory, &Overlap, memory)?;
     let peers = draft.peers.as_slice();
     check_peers(alloc, links, peers)?;
     check_hops(alloc, peers, links)

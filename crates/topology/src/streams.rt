@@ -10,12 +10,12 @@ ghost use Rattle.topology.specs.Tables.{addresses_in_order, address_range, true_
 ghost use Rattle.topology.specs.Tables.{stream_keys};
 
 use crate::draft::StreamKind;
-use ide_types::{AddressRange, Bytes, IdRange, Items, Selector, StreamPlan};
+use ide_types::{AddressRange, IdRange, Items, Selector, StreamPlan};
 use std::alloc::Global;
 use toml::{Table, Value};
 use toml_walk::{
-    Bounds, Byte, CountRange, Form, GREATEST, Keys, ListOf, PlanError, PlanFault, Reader, Truth,
-    key_path, or_length, place_path, table_of, text_of, two_numbers,
+    Bounds, Byte, CountRange, Form, GREATEST, KeyFault, Keys, ListOf, Path, PlanError, Reader,
+    Truth, or_length, table_of, text_of, two_numbers,
 };
 
 fn kind_of(word: &str) -> Option<StreamKind>
@@ -37,7 +37,7 @@ impl Reader for Kind {
 
     ghost reads = { λ _. stream_kind };
 
-    fn read(&self, alloc: Global, path: &[u8], value: &Value) -> Result<StreamKind, PlanError> {
+    fn read(&self, alloc: Global, path: &Path, value: &Value) -> Result<StreamKind, PlanError> {
         let word = text_of(alloc, path, value)?;
         or_length(alloc, path, word, kind_of(word))
     }
@@ -58,13 +58,16 @@ struct Ids {
     allowed: bool,
 }
 
-fn ids_of(alloc: Global, path: &[u8], base: u16, limit: u16) -> Result<Option<IdRange>, PlanError>
+fn ids_of(alloc: Global, path: &Path, base: u16, limit: u16) -> Result<Option<IdRange>, PlanError>
     ensures { Gives (λ x. x) result (ids_in_order path.now (base, limit)) }
 {
     if base <= limit {
         Ok(Some(IdRange { base, limit }))
     } else {
-        Err(PlanError::Fault(PlanFault::Range(place_path(alloc, path, 1)?, i64::from(limit))))
+        Err(
+            path.place(1)
+                .refuse(alloc, KeyFault::Range(i64::from(limit))),
+        )
     }
 }
 
@@ -76,7 +79,7 @@ impl Reader for Ids {
     fn read(
         &self,
         alloc: Global,
-        path: &[u8],
+        path: &Path,
         value: &Value,
     ) -> Result<Option<IdRange>, PlanError> {
         let bounds = Bounds::within(0, 65535);
@@ -91,7 +94,7 @@ struct Addresses;
 
 fn addresses_of(
     alloc: Global,
-    path: &[u8],
+    path: &Path,
     base: u64,
     limit: u64,
 ) -> Result<AddressRange, PlanError>
@@ -101,7 +104,7 @@ fn addresses_of(
     if base < limit {
         Ok(AddressRange { base, limit })
     } else {
-        Err(PlanError::Fault(PlanFault::Range(place_path(alloc, path, 1)?, limit as i64)))
+        Err(path.place(1).refuse(alloc, KeyFault::Range(limit as i64)))
     }
 }
 
@@ -110,7 +113,7 @@ impl Reader for Addresses {
 
     ghost reads = { λ _. address_range };
 
-    fn read(&self, alloc: Global, path: &[u8], value: &Value) -> Result<AddressRange, PlanError> {
+    fn read(&self, alloc: Global, path: &Path, value: &Value) -> Result<AddressRange, PlanError> {
         let first = Bounds::formed(0, GREATEST, Form::Mebibytes);
         let last = Bounds::formed(0, GREATEST, Form::LastOfMebibyte);
         let (base, limit) = two_numbers(alloc, true, &first, &last, path, value)?;
@@ -124,11 +127,11 @@ struct TruthIf {
     allowed: bool,
 }
 
-fn truth_of(alloc: Global, allowed: bool, path: &[u8], b: bool) -> Result<bool, PlanError>
+fn truth_of(alloc: Global, allowed: bool, path: &Path, b: bool) -> Result<bool, PlanError>
     ensures { Gives (λ x. x) result (true_if allowed path.now b) }
 {
     if b && !allowed {
-        Err(PlanError::Fault(PlanFault::Range(Bytes::copied(alloc, path)?, 1)))
+        Err(path.refuse(alloc, KeyFault::Range(1)))
     } else {
         Ok(b)
     }
@@ -139,7 +142,7 @@ impl Reader for TruthIf {
 
     ghost reads = { λ r. truth_if r.allowed };
 
-    fn read(&self, alloc: Global, path: &[u8], value: &Value) -> Result<bool, PlanError> {
+    fn read(&self, alloc: Global, path: &Path, value: &Value) -> Result<bool, PlanError> {
         let b = Truth.read(alloc, path, value)?;
         truth_of(alloc, self.allowed, path, b)
     }
@@ -198,7 +201,7 @@ fn selector(
 // The keys of a stream's table.
 #[tactic(auto, unfolding(crate::specs::Tables::stream_keys))]
 fn stream_of(keys: &Keys) -> Result<StreamPlan, PlanError>
-    ensures { Gives (λ x. x) result (stream_keys keys.now.path (table_view keys.now.table.now)) }
+    ensures { Gives (λ x. x) result (stream_keys keys.now.path.now (table_view keys.now.table.now)) }
 {
     keys.only(&[
         "id", "kind", "mode", "rid", "ranges", "default", "tcs", "closed",
@@ -231,9 +234,8 @@ impl Reader for Streams {
 
     ghost reads = { λ _. table stream_keys };
 
-    fn read(&self, alloc: Global, path: &[u8], value: &Value) -> Result<StreamPlan, PlanError> {
-        let table = table_of(Bytes::copied(alloc, path)?, value)?;
-        let path = key_path(alloc, path, ".")?;
+    fn read(&self, alloc: Global, path: &Path, value: &Value) -> Result<StreamPlan, PlanError> {
+        let table = table_of(alloc, path, value)?;
         stream_of(&Keys { alloc, path, table })
     }
 }

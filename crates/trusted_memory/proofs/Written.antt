@@ -3,12 +3,13 @@
 -- from its first byte; one in another page is not reached, as the write crosses no 4 KiB boundary. Regions read the
 -- same, since one region has the whole write, and so each byte that it enables.
 use Rattle.std.proofs.Common.{◌≡◌, ◌≢◌, ℕ, ◌+◌, ◌-◌, ◌*◌, ◌/◌, ◌%◌, ◌<◌, ◌≤◌, Bool, true, false, cond, ◌&&◌, ◌||◌, eqb}
-use Rattle.std.proofs.Common.{leb, ltb, List, [], map, get_or, replicate, Option, Some, None, unwrap_or, is_some, refl}
-use Rattle.std.proofs.Common.{sym, ap, ◌∙◌, inl, inr, arith}
-use Rattle.std.specs.Map.{lookup}
+use Rattle.std.proofs.Common.{leb, ltb, List, [], length, map, get_or, replicate, Option, Some, None, unwrap_or}
+use Rattle.std.proofs.Common.{is_some, refl, sym, ap, ◌∙◌, inl, inr, arith}
+use Rattle.std.specs.Map.{lookup, keys_of}
 use Rattle.std.proofs.lemmas.Bool.{cases_Bool, true≢false, eqb-true, eqb-false}
 use Rattle.std.proofs.lemmas.Bool.Decides.{nat_tests}
 use Rattle.std.proofs.lemmas.List.{get_or-replicate}
+use Rattle.std.proofs.lemmas.Map.Entries.{length-keys_of}
 use Rattle.std.proofs.lemmas.Map.Made.{is_some-lookup}
 use Rattle.ide_types.specs.declared.plan.Region.{Region}
 use Rattle.trusted_memory.specs.declared.span.Span.{Span}
@@ -219,3 +220,11 @@ has_page-put rs es es' spare spare' n new puts q = elim (cases_Bool (eqb n q)) [
 pub no_page : (rs : List Region) (es : List (ℕ × List ℕ)) (spare n : ℕ) → has_page (memory_seen rs es spare) n ≡ false
     → page_bytes es n ≡ []
 no_page rs es spare n h = none_of (lookup (eqb n) es) (sym (has_page-lookup rs es spare n) ∙ h)
+
+-- ---- how many pages are there
+
+pub count-put : (rs : List Region) (es es' : List (ℕ × List ℕ)) (spare n : ℕ)
+    → length es' ≡ length es + cond (is_some (lookup (eqb n) es)) 0 1
+    → length (keys_of es') ≡ length (keys_of es) + cond (has_page (memory_seen rs es spare) n) 0 1
+count-put rs es es' spare n e =
+    length-keys_of es' ∙ e ∙ (λ i. sym (length-keys_of es) i + cond (sym (has_page-lookup rs es spare n) i) 0 1)

@@ -23,7 +23,8 @@ pub use Rattle.trusted_memory.specs.Causes.{grant_cause, place_cause, block_caus
 pub use Rattle.trusted_memory.specs.Causes.{write_effect}
 pub use Rattle.trusted_memory.specs.Admitted.{is_on_bound, is_placed, if_placed, admitted_write}
 pub use Rattle.trusted_memory.specs.Memory.{MemoryContents, TrustedMemory, new_contents, new_memory, byte_at}
-pub use Rattle.trusted_memory.specs.Memory.{bytes_from, has_page, takes_page, byte_after_effect, IsLeftBy, Leads}
+pub use Rattle.trusted_memory.specs.Memory.{bytes_from, has_page, takes_page, pages_taken, HasPagesOf}
+pub use Rattle.trusted_memory.specs.Memory.{byte_after_effect, IsLeftBy, Leads}
 pub use Rattle.trusted_memory.specs.Pages.{IsBlank}
 pub use Rattle.trusted_memory.specs.declared.read.MemReadView.{MemReadView}
 pub use Rattle.trusted_memory.specs.declared.queue.WaitingRead.{WaitingRead}

@@ -1,9 +1,8 @@
 -- Regions of trusted memory and what stands in them (this profile).
-use Rattle.std.specs.Prelude.{ℕ, zero, suc, ◌≡◌, ◌+◌, ◌-◌, ◌/◌, ◌==◌, not, Bool, false, if◌then◌else◌, List, [], ◌∷◌}
-use Rattle.std.specs.Prelude.{map, replicate, slice_index, Option, Some, None}
+use Rattle.std.specs.Prelude.{ℕ, zero, suc, ◌≡◌, ◌≤◌, ◌+◌, ◌-◌, ◌/◌, ◌==◌, not, Bool, false, if◌then◌else◌, List, []}
+use Rattle.std.specs.Prelude.{◌∷◌, length, map, replicate, slice_index, Option, Some}
 use Rattle.std.specs.List.{list_any}
 use Rattle.ide_types.specs.declared.plan.Region.{Region}
-use Rattle.event_verdicts.specs.declared.verdict.BlockCause.{BlockCause}
 use Rattle.event_verdicts.specs.declared.verdict.Effect.{Effect}
 use Rattle.event_verdicts.specs.declared.verdict.Effect.TheVariants.{Applied}
 use Rattle.trusted_memory.specs.declared.span.Span.{Span}
@@ -48,10 +47,19 @@ bytes_from byte at (suc n) = byte at ∷ bytes_from byte (at + 1) n
 abbrev pub has_page : TrustedMemory → ℕ → Bool
 has_page m n = list_any (λ k. n == k) m.pages
 
--- a write takes a spare page if it is applied and its page is not there
-abbrev pub takes_page : TrustedMemory → Span → Option BlockCause → Bool
-takes_page m s None = not (has_page m (s.address / 4096))
-takes_page m s (Some cause) = false
+-- a spare page is taken exactly if this effect is that of a memory write of these bytes, it is applied, and its page is
+-- not there
+abbrev pub takes_page : TrustedMemory → Option Span → Effect → Bool
+takes_page m (Some s) Applied = not (has_page m (s.address / 4096))
+takes_page m o effect = false
+
+-- how many pages that are
+abbrev pub pages_taken : TrustedMemory → Option Span → Effect → ℕ
+pages_taken m o effect = if takes_page m o effect then 1 else 0
+
+-- no more pages are there than writes were applied
+abbrev pub HasPagesOf : List Write → TrustedMemory → Type 0
+HasPagesOf writes m = length m.pages ≤ length writes
 
 -- ---- writes
 

@@ -1,6 +1,7 @@
 //! Pages that are not in use yet.
 
-ghost use Rattle.std.specs.Prelude.{◌≡◌, ◌+◌, ◌≤◌, ◌==◌, ◌++◌, ◌∷◌, [], ℕ, All, IsOk, OnOk, Some, is_ok, if◌then◌else◌};
+ghost use Rattle.std.specs.Prelude.{◌≡◌, ◌+◌, ◌≤◌, ◌==◌, ◌++◌, ◌∷◌, [], ℕ, All, IsOk, OnOk, Some, is_ok, is_some};
+ghost use Rattle.std.specs.Prelude.{if◌then◌else◌};
 ghost use Rattle.std.specs.Prelude.{length, max, nat_eq, replicate};
 ghost use Rattle.std.specs.HashMap as hash;
 ghost use Rattle.trusted_memory.specs.Pages.{IsBlank};
@@ -39,6 +40,8 @@ pub fn put(pages: &mut HashMap<u64, Page>, number: u64, page: Page)
     ensures there { (q : ℕ) → hash.get nat_eq pages.new q ≡ (if number == q then Some page else hash.get nat_eq
         pages.old q) }
     ensures room { hash.spare pages.old ≤ hash.spare pages.new + 1 }
+    ensures count { length pages.new.entries
+        ≡ length pages.old.entries + (if is_some (hash.get nat_eq pages.old number) then 0 else 1) }
 {
     let _ = pages.insert(number, page);
 }

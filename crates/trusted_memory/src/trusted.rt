@@ -50,13 +50,16 @@ impl Trusted {
     ghost use Rattle.trusted_memory.specs.Causes.{block_cause, block_effect, is_applied, write_effect};
     ghost use Rattle.trusted_memory.specs.Admitted.{admitted_write};
     ghost use Rattle.trusted_memory.specs.Memory.{MemoryContents, TrustedMemory, new_memory, byte_at, bytes_from};
-    ghost use Rattle.trusted_memory.specs.Memory.{has_page, takes_page, byte_after_effect, IsLeftBy, Leads};
+    ghost use Rattle.trusted_memory.specs.Memory.{has_page, takes_page, pages_taken, HasPagesOf, byte_after_effect};
+    ghost use Rattle.trusted_memory.specs.Memory.{IsLeftBy, Leads};
+    ghost use Rattle.trusted_memory.specs.Writes.{newest_first};
 
     /// The regions of a plan, with 0 in every byte, and no page.
     pub fn make(alloc: Global, regions: &[Region]) -> Result<Trusted, OutOfMemory>
         requires { All FitsRegion regions.now }
         ensures new { IfOk result (λ memory. memory ≡ new_memory regions.now) }
         ensures stands { IfOk result (λ memory. IsLeftBy memory.contents []) }
+        ensures count { IfOk result (HasPagesOf []) }
     {
         let regions = Vec::from_slice(alloc, regions)?;
         Ok(Trusted {
@@ -72,6 +75,7 @@ impl Trusted {
     pub fn spare(&mut self, pages: u8) -> Result<(), OutOfMemory>
         ensures contents { self.new.contents ≡ self.old.contents }
         ensures pages { (n : ℕ) → has_page self.new n ≡ has_page self.old n }
+        ensures count { length self.new.pages ≡ length self.old.pages }
         ensures ok { OnOk result (self.new.spare ≡ max self.old.spare pages) }
         // If as many are spare already it takes no memory.
         ensures enough { pages ≤ self.old.spare → IsOk result }
@@ -93,6 +97,7 @@ impl Trusted {
         requires { 1 ≤ self.old.spare }
         ensures contents { self.new.contents ≡ self.old.contents }
         ensures pages { (n : ℕ) → has_page self.new n ≡ (has_page self.old n || number == n) }
+        ensures count { length self.new.pages ≡ length self.old.pages + (if has_page self.old number then 0 else 1) }
         ensures spare { self.new.spare + (if has_page self.old number then 0 else 1) ≡ self.old.spare }
     {
         if self.has_page(number) {
@@ -142,13 +147,11 @@ impl Trusted {
         ensures leads { Leads self.old.contents
             (admitted_write self.old.contents.regions trusted grant (Some (write_of write.now)) ∷ [])
             self.new.contents }
-        ensures spare { self.new.spare
-            + (if takes_page self.old write.now.span
-            (block_cause self.old.contents.regions write.now.span trusted grant)
-            then 1 else 0) ≡ self.old.spare }
+        ensures spare { self.new.spare + pages_taken self.old (Some write.now.span) result ≡ self.old.spare }
+        ensures count { length self.new.pages
+            ≡ length self.old.pages + pages_taken self.old (Some write.now.span) result }
         ensures pages { (n : ℕ) → has_page self.new n ≡ (has_page self.old n
-            || (takes_page self.old write.now.span (block_cause self.old.contents.regions write.now.span trusted grant)
-            && write.now.span.address / 4096 == n)) }
+            || (takes_page self.old (Some write.now.span) result && write.now.span.address / 4096 == n)) }
     {
         match self.block_cause(write.span, trusted, grant) {
             Some(cause) => Effect::Blocked(cause),
@@ -161,7 +164,8 @@ impl Trusted {
     }
 
     /// Gives a TLP of a unit that was accepted at a host's port its effect: a memory write is applied or blocked, any
-    /// other TLP is delivered and changes nothing here. It takes no memory, and at most one spare page.
+    /// other TLP is delivered and changes nothing here. It takes no memory, and a spare page only if it is a write that
+    /// is applied and whose page is not there; so no more pages are there than writes were applied.
     pub fn deliver(&mut self, tlp: &TlpView<'_>, trusted: bool, grant: Grant) -> Effect
         requires { 1 ≤ self.old.spare }
         ensures effect { result ≡ write_effect self.old.contents.regions trusted grant (write_span tlp.now.head) }
@@ -170,7 +174,12 @@ impl Trusted {
             (admitted_write self.old.contents.regions trusted grant (write_of_tlp (viewed_tlp tlp.now)) ∷ [])
             self.new.contents }
         ensures as_before { is_applied result ≡ false → self.new ≡ self.old }
-        ensures spare { self.old.spare ≤ self.new.spare + 1 }
+        ensures spare { self.new.spare + pages_taken self.old (write_span tlp.now.head) result ≡ self.old.spare }
+        ensures count { length self.new.pages
+            ≡ length self.old.pages + pages_taken self.old (write_span tlp.now.head) result }
+        ensures few { (writes : List Write) → HasPagesOf writes self.old → HasPagesOf (newest_first
+            (admitted_write self.old.contents.regions trusted grant (write_of_tlp (viewed_tlp tlp.now)) ∷ []) writes)
+            self.new }
     {
         match MemWriteView::of(tlp) {
             Some(write) => self.apply(&write, trusted, grant),

@@ -113,10 +113,9 @@ impl WholeLinks {
         match incoming_bytes(alloc, plan, &self.links.packets, incoming)? {
             None => Ok(self.links.only(Verdict::Nothing)),
             Some((end, bytes)) => {
-                let keeper = &self.links.keeper.interfaces;
                 let arriving = Arriving {
                     plan,
-                    keeper,
+                    manager: self.links.keeper.interfaces.manager(),
                     end,
                     bytes: bytes.as_slice(),
                 };

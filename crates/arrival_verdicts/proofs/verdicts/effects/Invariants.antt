@@ -11,7 +11,7 @@ use Rattle.arrival_verdicts.proofs.verdicts.effects.Given as goal
 abbrev pub invariant-loop-i : goal.invariant-loop-i
 invariant-loop-i l =
     let regions = l.initial.memory.contents.regions in
-    let grants = grants_in l.at.keeper.now in
+    let grants = grants_in l.at.manager.now in
     let xs = device_statuses l.initial.access.floors l.at.interfaces.now in
     ((es : List Effect) (ws : List WaitingRead) (m : MemoryContents) (g : GuardedMemory)
     → UnitCame regions grants xs l.at.port l.unit (drop l.i l.packets) l.access.reads l.memory.contents

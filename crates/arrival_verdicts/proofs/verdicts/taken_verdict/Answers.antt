@@ -14,5 +14,5 @@ returns-clause-verdict c =
     ∙ ap (λ (es : List Effect). arrival_verdict end port c.args.arrival (λ (unit : UnitName). es))
     c.unit_effects-effects.ensures.effects
     ∙ with_unit end port c.args.arrival (λ (unit : UnitName). effects_from c.args.memory.now.contents.regions
-    (grants_in c.args.at.now.keeper.now) (device_statuses c.args.access.now.floors c.args.at.now.interfaces.now)
+    (grants_in c.args.at.now.manager.now) (device_statuses c.args.access.now.floors c.args.at.now.interfaces.now)
     (length c.args.access.now.reads) port unit c.args.packets.now)

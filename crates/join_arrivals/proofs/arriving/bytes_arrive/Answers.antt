@@ -23,7 +23,7 @@ arrive-requires-clause-pages c =
 
 pub returns-clause-brings : goal.returns-clause-brings
 returns-clause-brings c =
-    brings_spared c.args.keeper.now c.args.end c.args.port c.args.bytes.now c.arrive.result c.args.ends.now
+    brings_spared c.args.manager.now c.args.end c.args.port c.args.bytes.now c.arrive.result c.args.ends.now
     c.args.trusted.now.contents c.spare.new.self.contents c.args.accesses.now c.at_mut.result.now c.spare-2.new.self
     c.arrive.new.self c.arrive.new.memory.contents c.arrive.new.accesses c.in_ok-spare.ensures.contents
     c.at_mut.ensures.value

@@ -51,7 +51,7 @@ returns-clause-arrives c = λ e l a is at access.
     let here : slice_get c.take-arrival.new.self.links c.args.port.line ≡ Some l'.0 =
     ap (λ (v : EndsView). slice_get v.links c.args.port.line) t.new_is ∙ l'.1 in
     let regions = c.args.memory.now.contents.regions in
-    let grants = grants_in c.args.keeper.now in
+    let grants = grants_in c.args.manager.now in
     let alike : c.at_mut-access.result.now ≡ a =
     same_Some c.at_mut-access.result.now a (sym c.at_mut-access.ensures.value ∙ access) in
     record {

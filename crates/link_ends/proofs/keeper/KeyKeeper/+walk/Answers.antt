@@ -4,19 +4,19 @@ use Rattle.link_ends.proofs.Walks.{idle_walks, walks_on, walks_out}
 use Rattle.link_ends.proofs.keeper.KeyKeeper.+walk.Goals as goal
 
 pub returns-then-more-eq0-clause-units : goal.returns-then-more-eq0-clause-units
-returns-then-more-eq0-clause-units t c = units_same c.args.ends.now
+returns-then-more-eq0-clause-units g t c = units_same c.args.ends.now
 
 pub returns-then-not-is_asking-clause-units : goal.returns-then-not-is_asking-clause-units
-returns-then-not-is_asking-clause-units t c = units_same c.args.ends.now
+returns-then-not-is_asking-clause-units g t c = units_same c.args.ends.now
 
 pub returns-then-not-is_asking-clause-walk : goal.returns-then-not-is_asking-clause-walk
-returns-then-not-is_asking-clause-walk t c =
+returns-then-not-is_asking-clause-walk g t c =
     rw (← c.self.view_is)
     (idle_walks c.args.more c.args.loss c.self.inside.manager c.args.ends.now
     (sym c.is_asking.ensures ∙ c.if-not-is_asking.true))
 
 pub returns-in-Next-clause-walk : goal.returns-in-Next-clause-walk
-returns-in-Next-clause-walk t c =
+returns-in-Next-clause-walk g t c =
     let next : suc (c.args.more - 1) ≡ c.args.more = omega arith in
     let asks : is_some (current c.args.self.now.manager) ≡ true = rw (← c.self.view_is)
     (sym c.is_asking.ensures ∙ c.if-not-is_asking.false) in
@@ -25,11 +25,11 @@ returns-in-Next-clause-walk t c =
     (walks_on _ _ _ _ _ _ _ asks c.exchange.ensures.exchange _ _ _ c.in-Next.is c.walk.ensures.walk)
 
 pub returns-in-Next-clause-units : goal.returns-in-Next-clause-units
-returns-in-Next-clause-units t c = units_on c.args.ends.now c.exchange.new.ends c.walk.new.ends c.exchange.ensures.units
-    c.walk.ensures.units
+returns-in-Next-clause-units g t c = units_on c.args.ends.now c.exchange.new.ends c.walk.new.ends
+    c.exchange.ensures.units c.walk.ensures.units
 
 pub returns-in_default : goal.returns-in_default
-returns-in_default t c =
+returns-in_default g t c =
     let next : suc (c.args.more - 1) ≡ c.args.more = omega arith in
     let asks : is_some (current c.args.self.now.manager) ≡ true = rw (← c.self.view_is)
     (sym c.is_asking.ensures ∙ c.if-not-is_asking.false) in

@@ -13,7 +13,7 @@ use Rattle.ide_port.proofs.Units.{stays}
 use Rattle.link_ends.proofs.keeper.KeyKeeper.exchange.Goals as goal
 
 pub returns-in-None-clause-exchange : goal.returns-in-None-clause-exchange
-returns-in-None-clause-exchange c = λ m0 l0 place id host device e a on st asking asked within.
+returns-in-None-clause-exchange g c = λ m0 l0 place id host device e a on st asking asked within.
     let k : IsAsking m0 c.self.inside.manager l0 c.args.ends.now place id e a = is_asking _ _ _ _ _ _ _ _ host device _
     _ c.self.view_is on st asking asked in
     let number : c.exchange.result ≡ a.exchange = rw k.current_is at c.exchange.ensures in
@@ -39,7 +39,7 @@ returns-in-None-clause-exchange c = λ m0 l0 place id host device e a on st aski
     d.port d.requester
 
 pub returns-in-Some-Request-clause-exchange : goal.returns-in-Some-Request-clause-exchange
-returns-in-Some-Request-clause-exchange c = λ m0 l0 place id host device e a on st asking asked within.
+returns-in-Some-Request-clause-exchange g c = λ m0 l0 place id host device e a on st asking asked within.
     let k : IsAsking m0 c.self.inside.manager l0 c.args.ends.now place id e a = is_asking _ _ _ _ _ _ _ _ host device _
     _ c.self.view_is on st asking asked in
     let number : c.exchange.result ≡ a.exchange = rw k.current_is at c.exchange.ensures in
@@ -53,7 +53,7 @@ returns-in-Some-Request-clause-exchange c = λ m0 l0 place id host device e a on
     k.stands.device k.stands.requester
 
 pub returns-in-Some-Reply-clause-exchange : goal.returns-in-Some-Reply-clause-exchange
-returns-in-Some-Reply-clause-exchange c = λ m0 l0 place id host device e a on st asking asked within.
+returns-in-Some-Reply-clause-exchange g c = λ m0 l0 place id host device e a on st asking asked within.
     let k : IsAsking m0 c.self.inside.manager l0 c.args.ends.now place id e a = is_asking _ _ _ _ _ _ _ _ host device _
     _ c.self.view_is on st asking asked in
     let number : c.exchange.result ≡ a.exchange = rw k.current_is at c.exchange.ensures in
@@ -71,7 +71,7 @@ returns-in-Some-Reply-clause-exchange c = λ m0 l0 place id host device e a on s
     d.port d.requester
 
 pub returns-in-None-clause-units : goal.returns-in-None-clause-units
-returns-in-None-clause-units c =
+returns-in-None-clause-units g c =
     let there : IsSome (current c.self.inside.manager) = rw (← c.self.view_is) at c.requires in
     record {
       host = host_units _ (λ (a : Current). calls_taken a c.carried.result) _ _ there c.take.ensures.calls;
@@ -83,7 +83,7 @@ returns-in-None-clause-units c =
     }
 
 pub returns-in-Some-Request-clause-units : goal.returns-in-Some-Request-clause-units
-returns-in-Some-Request-clause-units c =
+returns-in-Some-Request-clause-units g c =
     let there : IsSome (current c.self.inside.manager) = rw (← c.self.view_is) at c.requires in
     record {
       host = host_units _ (λ (a : Current). calls_taken a carried.Lost) _ _ there
@@ -93,7 +93,7 @@ returns-in-Some-Request-clause-units c =
     }
 
 pub returns-in-Some-Reply-clause-units : goal.returns-in-Some-Reply-clause-units
-returns-in-Some-Reply-clause-units c =
+returns-in-Some-Reply-clause-units g c =
     let there : IsSome (current c.self.inside.manager) = rw (← c.self.view_is) at c.requires in
     record {
       host = host_units _ (λ (a : Current). calls_taken a carried.Lost) _ _ there c.take-in-Some-Reply.ensures.calls;

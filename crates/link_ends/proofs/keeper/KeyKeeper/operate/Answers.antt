@@ -5,7 +5,7 @@ use Rattle.link_ends.proofs.Operates.{host_port_view, operate_refused, operate_g
 use Rattle.link_ends.proofs.keeper.KeyKeeper.operate.Goals as goal
 
 pub returns-in-Err-clause-operates : goal.returns-in-Err-clause-operates
-returns-in-Err-clause-operates c = rw (← c.self.view_is)
+returns-in-Err-clause-operates g c = rw (← c.self.view_is)
     (λ n host device is hosted on asked.
     operate_refused (record { manager = c.self.inside.manager; pool = c.self.inside.pool }) c.begin.new.self
     c.begin.new.pool c.args.ends.now
@@ -14,7 +14,7 @@ returns-in-Err-clause-operates c = rw (← c.self.view_is)
     (sym c.in-Err.is ∙ (rw is at c.begin.ensures.answer)))
 
 pub returns-in-Ok-clause-operates : goal.returns-in-Ok-clause-operates
-returns-in-Ok-clause-operates c = rw (← c.self.view_is)
+returns-in-Ok-clause-operates g c = rw (← c.self.view_is)
     (λ n host device is hosted on asked.
     operate_goes (record { manager = c.self.inside.manager; pool = c.self.inside.pool }) c.begin.new.self
     c.begin.new.pool c.args.ends.now c.begin.new.port
@@ -25,7 +25,7 @@ returns-in-Ok-clause-operates c = rw (← c.self.view_is)
     c.walk.ensures.walk c.walk.ensures.pool)
 
 pub returns-in-Err-clause-units : goal.returns-in-Err-clause-units
-returns-in-Err-clause-units c =
+returns-in-Err-clause-units g c =
     let there : IsSome (named_stream c.self.inside.manager (op_name c.args.op).line (op_name c.args.op).stream) = rw
     (← c.self.view_is) at c.requires in
     let begins = host_units _
@@ -35,7 +35,7 @@ returns-in-Err-clause-units c =
     record { host = begins; device = stays 0 c.args.ends.now.device.port; interfaces = refl }
 
 pub returns-in-Ok-clause-units : goal.returns-in-Ok-clause-units
-returns-in-Ok-clause-units c =
+returns-in-Ok-clause-units g c =
     let there : IsSome (named_stream c.self.inside.manager (op_name c.args.op).line (op_name c.args.op).stream) = rw
     (← c.self.view_is) at c.requires in
     let begins = host_units _

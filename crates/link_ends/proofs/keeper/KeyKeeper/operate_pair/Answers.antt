@@ -1,4 +1,4 @@
-use Rattle.link_ends.proofs.Terms.{◌∙◌, ◌≡◌, sym, IsSome, op_name, Named, named_stream, calls_begun}
+use Rattle.link_ends.proofs.Terms.{◌∙◌, sym, IsSome, op_name, Named, named_stream, calls_begun}
 use Rattle.link_ends.proofs.Calls.{host_units}
 use Rattle.ide_port.specs.{UnitsGrow}
 use Rattle.ide_port.proofs.Units.{stays, grow-on}

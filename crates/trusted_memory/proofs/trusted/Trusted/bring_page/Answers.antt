@@ -3,7 +3,7 @@ use Rattle.std.specs.Map.{lookup}
 use Rattle.std.proofs.lemmas.List.Elements.{All-head, All-tail}
 use Rattle.trusted_memory.specs.Memory.{has_page}
 use Rattle.trusted_memory.specs.Pages.{IsBlank}
-use Rattle.trusted_memory.proofs.Written.{PutsPage, paged-new, contents-same, has_page-put, no_page}
+use Rattle.trusted_memory.proofs.Written.{PutsPage, paged-new, contents-same, has_page-put, no_page, count-put}
 use Rattle.trusted_memory.proofs.trusted.Trusted.bring_page.Goals as goal
 
 last_is_blank : (xs : List (List ℕ)) (p : List ℕ) → All IsBlank (xs ++ p ∷ []) → IsBlank p
@@ -30,3 +30,7 @@ returns-in-Some-clause-contents c =
 pub returns-in-Some-clause-pages : goal.returns-in-Some-clause-pages
 returns-in-Some-clause-pages c = rw (← c.self.view_is)
     (has_page-put c.self.inside.regions.items _ _ 0 0 c.args.number _ (puts c))
+
+pub returns-in-Some-clause-count : goal.returns-in-Some-clause-count
+returns-in-Some-clause-count c = rw (← c.self.view_is)
+    (count-put c.self.inside.regions.items _ _ 0 c.args.number c.put.ensures.count)

@@ -35,7 +35,7 @@ returns-in_ok-verdict-in-Some-clause-ends c =
     let came = arrived c.args.plan.now c.args.self.now event x.port x.bytes c.in_ok-verdict-in-Some.verdict
     c.land.new.ends c.land.new.trusted c.land.new.accesses
     (is_brought c.args.plan.now c.args.self.now.links c.args.incoming x is)
-    c.in_ok-verdict-in-Some.ensures.lands c.requires.bounded in
+    (rw c.manager.ensures at c.in_ok-verdict-in-Some.ensures.lands) c.requires.bounded in
     let IsSo = λ (s : WholeLinks). WholeEnds c.args.plan.now c.in_ok-verdict-in-Some.verdict c.args.self.now s event
     in
     elim c.match-bytes-2.branch [
@@ -53,7 +53,7 @@ returns-in_ok-verdict-in-Some-clause-sides c =
     let came = arrived_beside c.args.plan.now c.args.self.now event x.port x.bytes c.in_ok-verdict-in-Some.verdict
     c.land.new.ends c.land.new.trusted c.land.new.accesses
     (is_brought c.args.plan.now c.args.self.now.links c.args.incoming x is)
-    c.in_ok-verdict-in-Some.ensures.lands in
+    (rw c.manager.ensures at c.in_ok-verdict-in-Some.ensures.lands) in
     let IsSo = λ (s : WholeLinks). BesideBytes c.args.plan.now event c.in_ok-verdict-in-Some.verdict
     c.args.self.now.links s.links
     in
@@ -72,7 +72,7 @@ returns-in_ok-verdict-in-Some-clause-accesses c =
     let came = arrived_accesses c.args.plan.now c.args.self.now event x.port x.bytes c.in_ok-verdict-in-Some.verdict
     c.land.new.ends c.land.new.trusted c.land.new.accesses
     (is_brought c.args.plan.now c.args.self.now.links c.args.incoming x is)
-    c.in_ok-verdict-in-Some.ensures.lands in
+    (rw c.manager.ensures at c.in_ok-verdict-in-Some.ensures.lands) in
     let IsSo = λ (s : WholeLinks). AccessesArriveInState c.args.plan.now event c.in_ok-verdict-in-Some.verdict
     c.args.self.now s
     in

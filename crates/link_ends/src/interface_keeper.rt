@@ -1,17 +1,21 @@
-//! The manager of interfaces, and the exchanges that it asks.
+//! The host's manager of device interfaces, and the exchanges that it asks.
 
-ghost use Rattle.std.specs.Prelude.{◌≡◌, ◌+◌, ◌<◌, ◌≤◌, ℕ, [], Some, None, IfOk, IfSome, IsSome, is_some, length};
-ghost use Rattle.std.specs.Prelude.{slice_get, vec_len, vec_capacity};
+ghost use Rattle.std.specs.Prelude.{◌≡◌, ◌<◌, ◌≤◌, IfOk, IfSome, IsSome, length, slice_get, vec_capacity};
 ghost use Rattle.tdisp_codec.specs.Requests.{request_spelling};
 ghost use Rattle.interface_host.specs.Managers.{new_interface_manager, current_interface, interface_request};
 ghost use Rattle.interface_host.specs.Managers.{begun_interface_manager};
 ghost use Rattle.interface_host.specs.Views.{interface_refusal_of};
 ghost use Rattle.interface_ends.specs.Replies.{interfaces_after_answer, answer_bytes};
-ghost use Rattle.spec_keys.specs.Due.{lost_message};
-ghost use Rattle.interface_ends.specs.Keepers.{IsInterfaceExchanged, Ended, manager_walk, interface_operated};
+ghost use Rattle.interface_ends.specs.Keepers.{IsInterfaceExchanged, manager_walk, interface_operated};
+ghost use Rattle.interface_ends.specs.declared.said.StreamSaid.{StreamSaid};
+ghost use Rattle.link_ends.specs.DeviceEnds.{secure_at};
+ghost use Rattle.link_ends.specs.Hosts.{live_for_operation};
+ghost use Rattle.link_ends.specs.InterfaceKeepers.{said_at, ended_with, InterfaceWalks};
 
-use crate::{DeviceInterfaces, StreamSaid, TDISP_REPLY_ROOM};
+use crate::keeper::lost_at;
+use crate::{Device, PeerStreams};
 use ide_types::{Items, LinkPlan, OutOfMemory, StreamStatus};
+use interface_ends::TDISP_REPLY_ROOM;
 use interface_host::{InterfaceOperation, InterfaceOutcome, Interfaces};
 use key_host::ExchangeReply;
 use script_events::{Loss, Lost};
@@ -43,38 +47,31 @@ impl Model for InterfaceKeeper {
     ghost invariant = { λ k. (49 ≤ vec_capacity k.request) × (1200 ≤ vec_capacity k.reply) };
 }
 
-// What is lost of the exchange of this number.
-fn lost_at(loss: Option<Loss>, exchange: u32) -> Option<Lost>
-    ensures { result ≡ lost_message loss exchange }
-{
-    match loss {
-        Some(loss) if loss.exchange == exchange as u64 => Some(loss.lost),
-        _ => None,
-    }
-}
-
 // Gives the device the request of the exchange that is next; `reply` holds what it answers.
-fn deliver(
+fn deliver<P: PeerStreams>(
     manager: &Interfaces,
-    device: &mut DeviceInterfaces,
-    said: StreamSaid,
+    device: &mut Device,
+    peers: &P,
     request: &mut Vec<u8>,
     reply: &mut Vec<u8>,
 )
     requires asking { IsSome (current_interface manager.now) }
     requires request_room { 49 ≤ vec_capacity request.old }
     requires reply_room { 1200 ≤ vec_capacity reply.old }
-    ensures device { IfSome (current_interface manager.now) (λ c. device.new ≡ interfaces_after_answer device.old
-        (request_spelling (interface_request manager.now c)) said) }
-    ensures reply { IfSome (current_interface manager.now) (λ c. reply.new.items ≡ answer_bytes device.old
-        (request_spelling (interface_request manager.now c)) said) }
+    ensures device { IfSome (current_interface manager.now) (λ c. device.new ≡ record device.old {
+      interfaces = interfaces_after_answer device.old.interfaces (request_spelling (interface_request manager.now c))
+          (said_at (P.live peers.now) device.old.port c);
+    }) }
+    ensures reply { IfSome (current_interface manager.now) (λ c. reply.new.items ≡ answer_bytes device.old.interfaces
+        (request_spelling (interface_request manager.now c)) (said_at (P.live peers.now) device.old.port c)) }
     ensures request_room { 49 ≤ vec_capacity request.new }
     ensures reply_room { 1200 ≤ vec_capacity reply.new }
 {
     request.clear();
     manager.ask(request);
     reply.clear();
-    device.answer(request, said, reply);
+    // no key comes with it
+    device.answer(peers, request, 0, reply);
 }
 
 impl InterfaceKeeper {
@@ -136,22 +133,24 @@ impl InterfaceKeeper {
     }
 
     // Carries the exchange that is next, but for the message of it that `loss` loses, if any.
-    fn exchange(
+    fn exchange<P: PeerStreams>(
         &mut self,
-        device: &mut DeviceInterfaces,
-        said: StreamSaid,
+        device: &mut Device,
+        peers: &P,
         loss: Option<Loss>,
     ) -> InterfaceOutcome
         requires { IsSome (current_interface self.old) }
-        ensures { IfSome (current_interface self.old) (λ c. IsInterfaceExchanged said loss self.old device.old c
-            (let e : Ended = record { outcome = result; manager = self.new; device = device.new } in e)) }
+        ensures exchange { IfSome (current_interface self.old) (λ c. IsInterfaceExchanged
+            (said_at (P.live peers.now) device.old.port c) loss self.old device.old.interfaces c
+            (ended_with result self.new device.new.interfaces)) }
+        ensures device { device.new ≡ record device.old { interfaces = device.new.interfaces } }
     {
         match lost_at(loss, self.interfaces.exchange()) {
             None => {
                 deliver(
                     &self.interfaces,
                     device,
-                    said,
+                    peers,
                     &mut self.request,
                     &mut self.reply,
                 );
@@ -163,7 +162,7 @@ impl InterfaceKeeper {
                 deliver(
                     &self.interfaces,
                     device,
-                    said,
+                    peers,
                     &mut self.request,
                     &mut self.reply,
                 );
@@ -173,16 +172,16 @@ impl InterfaceKeeper {
     }
 
     // Up to so many exchanges of the operation that is asked.
-    #[tactic(auto, unfolding(crate::specs::Keepers::manager_walk))]
-    fn walk(
+    fn walk<P: PeerStreams>(
         &mut self,
         more: u16,
-        device: &mut DeviceInterfaces,
-        said: StreamSaid,
+        device: &mut Device,
+        peers: &P,
         loss: Option<Loss>,
     ) -> InterfaceOutcome
-        ensures { (let e : Ended = record { outcome = result; manager = self.new; device = device.new } in e)
-            ≡ manager_walk more said loss self.old device.old }
+        ensures walk { InterfaceWalks more loss (P.live peers.now) device.old.port self.old device.old.interfaces
+            (ended_with result self.new device.new.interfaces) }
+        ensures device { device.new ≡ record device.old { interfaces = device.new.interfaces } }
     {
         if more == 0 {
             return InterfaceOutcome::Next;
@@ -190,34 +189,39 @@ impl InterfaceKeeper {
         if !self.interfaces.is_asking() {
             return InterfaceOutcome::Next;
         }
-        match self.exchange(device, said, loss) {
-            InterfaceOutcome::Next => self.walk(more - 1, device, said, loss),
+        match self.exchange(device, peers, loss) {
+            InterfaceOutcome::Next => self.walk(more - 1, device, peers, loss),
             outcome => outcome,
         }
     }
 
     /// Begins an operation on an interface of the link with this device, and carries its exchanges until it is over, or
     /// `loss` loses one. `status` is that of its bound stream at the host's port, or of bind and unbind that of
-    /// the stream between devices as the manager of keys has it; `said` is what the device says of the stream that a
-    /// request names, and `draws` were made so far.
-    pub fn operate(
+    /// the stream between devices as the manager of keys has it; `peers` says what stands at the device's ends of
+    /// streams between it and others, and `draws` were made so far.
+    pub fn operate<P: PeerStreams>(
         &mut self,
-        device: &mut DeviceInterfaces,
+        device: &mut Device,
+        peers: &P,
         interface: usize,
         op: InterfaceOperation,
         status: StreamStatus,
-        said: StreamSaid,
         draws: u32,
         loss: Option<Loss>,
     ) -> InterfaceOutcome
         requires { interface < length self.old.interfaces }
-        ensures { IfSome (slice_get self.old.interfaces interface) (λ i.
-            (let e : Ended = record { outcome = result; manager = self.new; device = device.new } in e)
-            ≡ interface_operated interface op status draws said loss self.old device.old i) }
+        ensures operated { IfSome (slice_get self.old.interfaces interface) (λ i.
+            let said : StreamSaid = record {
+              secure = secure_at device.old.port i.stream;
+              live = live_for_operation (P.live peers.now) op;
+            } in
+            ended_with result self.new device.new.interfaces
+            ≡ interface_operated interface op status draws said loss self.old device.old.interfaces i) }
+        ensures device { device.new ≡ record device.old { interfaces = device.new.interfaces } }
     {
         match self.interfaces.begin(interface, op, status, draws) {
             Err(refusal) => InterfaceOutcome::Refused(refusal),
-            Ok(()) => self.walk(MOST_EXCHANGES, device, said, loss),
+            Ok(()) => self.walk(MOST_EXCHANGES, device, peers, loss),
         }
     }
 }

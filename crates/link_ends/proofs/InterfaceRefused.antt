@@ -8,9 +8,12 @@ use Rattle.interface_host.specs.declared.operation.InterfaceOutcome.TheVariants 
 use Rattle.interface_host.specs.declared.operation.InterfaceRefusal.{InterfaceRefusal}
 use Rattle.interface_host.specs.Views.{HostTdi, interface_refusal_of, interface_ok_unless, interface_unless}
 use Rattle.interface_host.specs.Managers.{InterfaceManagerView, begun_interface_manager}
-use Rattle.interface_ends.specs.declared.said.StreamSaid.{StreamSaid}
 use Rattle.interface_ends.specs.Replies.{DeviceTdis}
 use Rattle.interface_ends.specs.Keepers.{Ended, unless_refused, interface_operated}
+use Rattle.ide_port.specs.{PortEnd}
+use Rattle.link_ends.specs.DeviceEnds.{secure_at}
+use Rattle.link_ends.specs.Hosts.{live_for_operation}
+use Rattle.link_ends.specs.InterfaceKeepers.{ended_with}
 
 refused_by : (x : Option InterfaceRefusal) (r : InterfaceRefusal) (m begun new : InterfaceManagerView) (d : DeviceTdis)
     (rest : Ended)
@@ -23,12 +26,12 @@ refused_by (Some y) r m begun new d rest answer is =
     rw (same, is) refl
 
 pub begin_refused : (o : Option HostTdi) (place draws : ℕ) (op : InterfaceOperation) (status : StreamStatus)
-    (said : StreamSaid)
-    (loss : Option Loss) (m new : InterfaceManagerView) (d : DeviceTdis) (r : InterfaceRefusal)
-    → IfSome o (λ i. Err r ≡ interface_ok_unless (interface_refusal_of op status i))
+    (live : ℕ → Option ℕ) (port : PortEnd) (loss : Option Loss) (m new : InterfaceManagerView) (d : DeviceTdis)
+    (r : InterfaceRefusal) → IfSome o (λ i. Err r ≡ interface_ok_unless (interface_refusal_of op status i))
     → IfSome o (λ i. new ≡ begun_interface_manager m place op status draws i)
-    → IfSome o (λ i. (let e : Ended = record { outcome = outcome.Refused r; manager = new; device = d } in e)
-    ≡ interface_operated place op status draws said loss m d i)
-begin_refused None place draws op status said loss m new d r answer is = tt
-begin_refused (Some i) place draws op status said loss m new d r answer is =
+    → IfSome o (λ i. ended_with (outcome.Refused r) new d
+    ≡ interface_operated place op status draws
+    (record { secure = secure_at port i.stream; live = live_for_operation live op }) loss m d i)
+begin_refused None place draws op status live port loss m new d r answer is = tt
+begin_refused (Some i) place draws op status live port loss m new d r answer is =
     refused_by (interface_refusal_of op status i) r m _ new d _ answer is
