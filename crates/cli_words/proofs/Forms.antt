@@ -4,8 +4,8 @@ use Rattle.std.proofs.Common.{if◌then◌else◌}
 use Rattle.clap.specs.Words.{Text, fault_of, subcommand_of}
 use Rattle.clap.proofs.OnLiterals.{clap_on_literals}
 use Rattle.cli_words.specs.Ide.{ide_app}
-use Rattle.cli_words.specs.Words.{CommandRequest, IsName, command_asked, subcommand_asked, asks_both, run, judge, check}
-use Rattle.cli_words.specs.Words.{migrate, show}
+use Rattle.cli_words.specs.Words.{CommandRequest, IsName, command_asked, subcommand_asked, asks_both, check, migrate}
+use Rattle.cli_words.specs.Words.{show}
 
 -- what the words ask for if `clap` takes them, and whether they ask for two texts
 abbrev pub words_reading : List Text → CommandRequest × Bool
@@ -23,42 +23,6 @@ pub refused_anyway : (words : List Text) (taken both : Bool) → both ≡ true
     → (if if taken then both else true then None else Some (subcommand_asked (subcommand_of ide_app words))) ≡ None
 refused_anyway words true both two = rw two refl
 refused_anyway words false both two = refl
-
-run_passes : (p : Text) (x y : ℕ) (xs ys : Text) → (x == 45) ≡ false → (y == 45) ≡ false
-    → fault_of ide_app (p ∷ codes "run" ∷ (x ∷ xs) ∷ (y ∷ ys) ∷ []) ≡ []
-unfolding clap_on_literals
-run_passes p x y xs ys e f = simp (e, f)
-
-run_reads : (p : Text) (x y : ℕ) (xs ys : Text) → (x == 45) ≡ false → (y == 45) ≡ false
-    → words_reading (p ∷ codes "run" ∷ (x ∷ xs) ∷ (y ∷ ys) ∷ []) ≡ (run (x ∷ xs) (y ∷ ys), false)
-unfolding clap_on_literals
-run_reads p x y xs ys e f = simp (e, f)
-
-pub run_form : (p a b : Text) → IsName a → IsName b → command_asked (p ∷ codes "run" ∷ a ∷ b ∷ []) ≡ Some (run a b)
-run_form p [] b h i = absurd h
-run_form p (x ∷ xs) [] h i = absurd i
-run_form p (x ∷ xs) (y ∷ ys) e f = taken (p ∷ codes "run" ∷ (x ∷ xs) ∷ (y ∷ ys) ∷ []) _ (run_passes p x y xs ys e f)
-    (run_reads p x y xs ys e f)
-
-judge_passes : (p : Text) (x y z : ℕ) (xs ys zs : Text) → (x == 45) ≡ false → (y == 45) ≡ false → (z == 45) ≡ false
-    → fault_of ide_app (p ∷ codes "judge" ∷ (x ∷ xs) ∷ (y ∷ ys) ∷ (z ∷ zs) ∷ []) ≡ []
-unfolding clap_on_literals
-judge_passes p x y z xs ys zs e f g = simp (e, f, g)
-
-judge_reads : (p : Text) (x y z : ℕ) (xs ys zs : Text) → (x == 45) ≡ false → (y == 45) ≡ false → (z == 45) ≡ false
-    → words_reading (p ∷ codes "judge" ∷ (x ∷ xs) ∷ (y ∷ ys) ∷ (z ∷ zs) ∷ [])
-    ≡ (judge (x ∷ xs) (y ∷ ys) (z ∷ zs), false)
-unfolding clap_on_literals
-judge_reads p x y z xs ys zs e f g = simp (e, f, g)
-
-pub judge_form : (p a b c : Text) → IsName a → IsName b → IsName c
-    → command_asked (p ∷ codes "judge" ∷ a ∷ b ∷ c ∷ []) ≡ Some (judge a b c)
-judge_form p [] b c h i j = absurd h
-judge_form p (x ∷ xs) [] c h i j = absurd i
-judge_form p (x ∷ xs) (y ∷ ys) [] h i j = absurd j
-judge_form p (x ∷ xs) (y ∷ ys) (z ∷ zs) e f g =
-    taken (p ∷ codes "judge" ∷ (x ∷ xs) ∷ (y ∷ ys) ∷ (z ∷ zs) ∷ []) _ (judge_passes p x y z xs ys zs e f g)
-    (judge_reads p x y z xs ys zs e f g)
 
 check_passes : (p : Text) (x : ℕ) (xs : Text) → (x == 45) ≡ false → fault_of ide_app (p ∷ codes "check" ∷ (x ∷ xs) ∷ [])
     ≡ []

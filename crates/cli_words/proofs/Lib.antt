@@ -4,4 +4,5 @@ pub mod Forms
 pub mod Generate
 pub mod Numbers
 pub mod Rounds
+mod ScriptForms
 pub mod Why

@@ -9,9 +9,9 @@ use Rattle.clap.specs.ValueTests.{is_unsigned_in}
 use Rattle.clap.specs.declared.builder.value_parser.ValueParser.TheVariants as vp
 use Rattle.clap.proofs.ValueTestLemmas.{accepts-Accepts}
 use Rattle.cli_words.specs.Ide.{ide_app}
-use Rattle.cli_words.specs.Words.{CommandRequest, command_asked, asked_by_name, subcommand_asked, check, generate}
+use Rattle.cli_words.specs.Words.{CommandRequest, command_asked, asked_by_name, subcommand_asked, generate}
 use Rattle.cli_words.specs.Words.{generate_script, generate_topology, generation_asked, is_refused, is_flag_given}
-use Rattle.cli_words.specs.Words.{migrate, number_of, why, text_of}
+use Rattle.cli_words.specs.Words.{number_of, why, text_of}
 
 Within : (most n : ℕ) → Type 0
 Within most n = (1 ≤ n) × (n ≤ most)
@@ -36,11 +36,6 @@ by_test most text false some passes = (lit≤ tt, some)
 number_within : (most : ℕ) (text : Text) → 1 ≤ most → Within most (number_of 1 most text)
 number_within most text some = by_test most text (is_unsigned_in 1 most text) some refl
 
-few_checked : (set : Bool) (topology : Text) → FewIn (if set then migrate topology else check topology)
-unfolding FewIn
-few_checked true topology = tt
-few_checked false topology = tt
-
 few_choice : (b : Bool) (x y : CommandRequest) → FewIn x → FewIn y → FewIn (if b then x else y)
 few_choice true x y first second = first
 few_choice false x y first second = second
@@ -55,12 +50,12 @@ few_generation rows =
 few_by : (name : Text) (rows : List Row) → FewIn (asked_by_name name rows)
 unfolding FewIn
 few_by name rows =
-    few_choice (bytes_eq name (codes "run")) _ _ tt
-    (few_choice (bytes_eq name (codes "judge")) _ _ tt
+    few_choice (bytes_eq name (codes "run")) _ _ (few_choice (is_flag_given (codes "packets") rows) _ _ tt tt)
+    (few_choice (bytes_eq name (codes "judge")) _ _ (few_choice (is_flag_given (codes "all") rows) _ _ tt tt)
     (few_choice (bytes_eq name (codes "why")) _ _ (number_within 67108864 (text_of (codes "N") rows) (lit≤ tt))
-    (few_choice (bytes_eq name (codes "check")) _ _
-    (few_checked (is_flag_given (codes "migrate") rows) (text_of (codes "TOPOLOGY") rows))
-    (few_choice (bytes_eq name (codes "generate")) _ _ (few_generation rows) tt))))
+    (few_choice (bytes_eq name (codes "cover")) _ _ (few_choice (is_flag_given (codes "events") rows) _ _ tt tt)
+    (few_choice (bytes_eq name (codes "check")) _ _ (few_choice (is_flag_given (codes "migrate") rows) _ _ tt tt)
+    (few_choice (bytes_eq name (codes "generate")) _ _ (few_generation rows) tt)))))
 
 few_of : (met : Option (Text × List Row)) → FewIn (subcommand_asked met)
 unfolding FewIn

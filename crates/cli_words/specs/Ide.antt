@@ -9,13 +9,19 @@ use Rattle.clap.specs.declared.builder.value_parser.ValueParser.TheVariants.{Uns
 abbrev pub name_rule : Text → Rule
 name_rule id = record (new_rule id) { required = true }
 
-abbrev pub run_app : App
-run_app = with_rule (with_rule (new_app (codes "run")) (name_rule (codes "TOPOLOGY"))) (name_rule (codes "SCRIPT"))
+-- a flag by its long name, which is `true` if it is given
+abbrev pub flag_rule : Text → Rule
+flag_rule id = record (new_rule id) { long = Some id; action = Some SetTrue }
 
--- the topology, the script, and the lines that are to be judged
+-- the topology and the script, and whether packets are shown
+abbrev pub run_app : App
+run_app = with_rule (with_rule (with_rule (new_app (codes "run")) (name_rule (codes "TOPOLOGY")))
+    (name_rule (codes "SCRIPT"))) (flag_rule (codes "packets"))
+
+-- the topology, the script, the lines that are to be judged, and whether all that differ are named
 abbrev pub judge_app : App
-judge_app = with_rule (with_rule (with_rule (new_app (codes "judge")) (name_rule (codes "TOPOLOGY")))
-    (name_rule (codes "SCRIPT"))) (name_rule (codes "VERDICTS"))
+judge_app = with_rule (with_rule (with_rule (with_rule (new_app (codes "judge")) (name_rule (codes "TOPOLOGY")))
+    (name_rule (codes "SCRIPT"))) (name_rule (codes "VERDICTS"))) (flag_rule (codes "all"))
 
 -- a required number between these, in decimal digits
 abbrev pub number_rule : Text → (least most : ℕ) → Rule
@@ -26,9 +32,10 @@ abbrev pub why_app : App
 why_app = with_rule (with_rule (with_rule (new_app (codes "why")) (name_rule (codes "TOPOLOGY")))
     (name_rule (codes "SCRIPT"))) (number_rule (codes "N") 1 67108864)
 
--- a flag by its long name, which is `true` if it is given
-abbrev pub flag_rule : Text → Rule
-flag_rule id = record (new_rule id) { long = Some id; action = Some SetTrue }
+-- the topology and the script, and whether the rule of each event is told
+abbrev pub cover_app : App
+cover_app = with_rule (with_rule (with_rule (new_app (codes "cover")) (name_rule (codes "TOPOLOGY")))
+    (name_rule (codes "SCRIPT"))) (flag_rule (codes "events"))
 
 abbrev pub check_app : App
 check_app = with_rule (with_rule (new_app (codes "check")) (name_rule (codes "TOPOLOGY"))) (flag_rule (codes "migrate"))
@@ -53,13 +60,13 @@ top_app = on_top (λ s. record s {
   subcommand_required = true;
 }) (new_app (codes "ide"))
 
--- the program with the subcommands that read a script
+-- the program with the subcommands that tell verdicts of a script
 abbrev pub scripts_app : App
 scripts_app = with_subcommand (with_subcommand (with_subcommand top_app run_app.top) judge_app.top) why_app.top
 
--- the program with the subcommands that read a topology
+-- the program with all subcommands that read a topology
 abbrev pub topologies_app : App
-topologies_app = with_subcommand scripts_app check_app.top
+topologies_app = with_subcommand (with_subcommand scripts_app cover_app.top) check_app.top
 
 abbrev pub ide_app : App
 ide_app = with_subcommand (with_subcommand topologies_app show_app.top) generate_app.top

@@ -8,16 +8,21 @@ use Rattle.clap.specs.ValueTests.{is_unsigned_in}
 use Rattle.clap.specs.Walk.{is_empty}
 use Rattle.cli_words.specs.Ide.{ide_app}
 use Rattle.cli_words.specs.declared.Request.{Request}
-use Rattle.cli_words.specs.declared.Request.TheVariants.{Run, Judge, Why, Check, Migrate, Show, Generate}
-use Rattle.cli_words.specs.declared.Request.TheVariants.{GenerateScript, GenerateTopology}
+use Rattle.cli_words.specs.declared.Request.TheVariants.{Run, RunPackets, Judge, JudgeAll, Why, Cover}
+use Rattle.cli_words.specs.declared.Request.TheVariants.{CoverEvents, Check, Migrate, Show, Generate, GenerateScript}
+use Rattle.cli_words.specs.declared.Request.TheVariants.{GenerateTopology}
 use Rattle.cli_words.specs.declared.WordsError.{WordsError}
 use Rattle.cli_words.specs.declared.WordsError.TheVariants.{Usage, Memory}
 
 -- a request by the bytes of its names, and by its numbers
 pub data CommandRequest : Type 0 where
   run : (topology script : Text) → CommandRequest
+  run_packets : (topology script : Text) → CommandRequest
   judge : (topology script verdicts : Text) → CommandRequest
+  judge_all : (topology script verdicts : Text) → CommandRequest
   why : (topology script : Text) (n : ℕ) → CommandRequest
+  cover : (topology script : Text) → CommandRequest
+  cover_events : (topology script : Text) → CommandRequest
   check : (topology : Text) → CommandRequest
   migrate : (topology : Text) → CommandRequest
   show : (packets : Text) → CommandRequest
@@ -32,6 +37,27 @@ text_of id rows = unwrap_or (first_of id rows) []
 -- the flag is given
 abbrev pub is_flag_given : Text → List Row → Bool
 is_flag_given id rows = bytes_eq (text_of id rows) (codes "true")
+
+-- a script is run; its packets are shown if the flag is given
+abbrev pub run_asked : List Row → CommandRequest
+run_asked rows =
+    if is_flag_given (codes "packets") rows
+    then run_packets (text_of (codes "TOPOLOGY") rows) (text_of (codes "SCRIPT") rows)
+    else run (text_of (codes "TOPOLOGY") rows) (text_of (codes "SCRIPT") rows)
+
+-- a text is judged; all lines that differ are named if the flag is given
+abbrev pub judge_asked : List Row → CommandRequest
+judge_asked rows =
+    if is_flag_given (codes "all") rows
+    then judge_all (text_of (codes "TOPOLOGY") rows) (text_of (codes "SCRIPT") rows) (text_of (codes "VERDICTS") rows)
+    else judge (text_of (codes "TOPOLOGY") rows) (text_of (codes "SCRIPT") rows) (text_of (codes "VERDICTS") rows)
+
+-- rules are counted; the rule of each event is told if the flag is given
+abbrev pub cover_asked : List Row → CommandRequest
+cover_asked rows =
+    if is_flag_given (codes "events") rows
+    then cover_events (text_of (codes "TOPOLOGY") rows) (text_of (codes "SCRIPT") rows)
+    else cover (text_of (codes "TOPOLOGY") rows) (text_of (codes "SCRIPT") rows)
 
 -- a topology is checked, or migrated if the flag is given
 abbrev pub check_asked : List Row → CommandRequest
@@ -65,10 +91,10 @@ why_asked rows = why (text_of (codes "TOPOLOGY") rows) (text_of (codes "SCRIPT")
 
 abbrev pub asked_by_name : Text → List Row → CommandRequest
 asked_by_name name rows =
-    if bytes_eq name (codes "run") then run (text_of (codes "TOPOLOGY") rows) (text_of (codes "SCRIPT") rows)
-    else if bytes_eq name (codes "judge") then
-    judge (text_of (codes "TOPOLOGY") rows) (text_of (codes "SCRIPT") rows) (text_of (codes "VERDICTS") rows)
+    if bytes_eq name (codes "run") then run_asked rows
+    else if bytes_eq name (codes "judge") then judge_asked rows
     else if bytes_eq name (codes "why") then why_asked rows
+    else if bytes_eq name (codes "cover") then cover_asked rows
     else if bytes_eq name (codes "check") then check_asked rows
     else if bytes_eq name (codes "generate") then generation_asked rows
     else show (text_of (codes "PACKETS") rows)
@@ -93,8 +119,12 @@ command_asked words = if is_refused words then None else Some (subcommand_asked 
 
 abbrev pub view : Request → CommandRequest
 view (Run topology script) = run topology.now script.now
+view (RunPackets topology script) = run_packets topology.now script.now
 view (Judge topology script verdicts) = judge topology.now script.now verdicts.now
+view (JudgeAll topology script verdicts) = judge_all topology.now script.now verdicts.now
 view (Why topology script n) = why topology.now script.now n
+view (Cover topology script) = cover topology.now script.now
+view (CoverEvents topology script) = cover_events topology.now script.now
 view (Check topology) = check topology.now
 view (Migrate topology) = migrate topology.now
 view (Show packets) = show packets.now

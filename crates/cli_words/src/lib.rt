@@ -7,28 +7,38 @@ ghost use Rattle.std.specs.Fmt.{decimal};
 ghost use Rattle.clap.specs.Words.{app_of, found_of, new_app, rows_of, rule_of, subcommand_rows_of, with_rule};
 ghost use Rattle.clap.specs.Words.{with_subcommand};
 ghost use Rattle.clap.specs.declared.builder.command.Command.TheViews.{out-Command};
-ghost use Rattle.cli_words.specs.Ide.{check_app, flag_rule, generate_app, ide_app, judge_app, name_rule, number_rule};
-ghost use Rattle.cli_words.specs.Ide.{numbers_app, run_app, scripts_app, show_app, top_app, topologies_app, why_app};
+ghost use Rattle.cli_words.specs.Ide.{check_app, cover_app, flag_rule, generate_app, ide_app, judge_app, name_rule};
+ghost use Rattle.cli_words.specs.Ide.{number_rule, numbers_app, run_app, scripts_app, show_app, top_app, topologies_app};
+ghost use Rattle.cli_words.specs.Ide.{why_app};
 ghost use Rattle.cli_words.specs.Words.{HasFewRounds, IsName, NamesEvent, Refuses, command_asked, asked_by_name};
-ghost use Rattle.cli_words.specs.Words.{subcommand_asked, asks_both, check, check_asked, generate, generate_script};
-ghost use Rattle.cli_words.specs.Words.{generate_topology, generation_asked, is_flag_given, judge, migrate, number_of};
-ghost use Rattle.cli_words.specs.Words.{run, show, text_of, view, why, why_asked};
+ghost use Rattle.cli_words.specs.Words.{subcommand_asked, asks_both, check, check_asked, cover, cover_asked};
+ghost use Rattle.cli_words.specs.Words.{cover_events, generate, generate_script, generate_topology, generation_asked};
+ghost use Rattle.cli_words.specs.Words.{is_flag_given, judge, judge_all, judge_asked, migrate, number_of, run};
+ghost use Rattle.cli_words.specs.Words.{run_asked, run_packets, show, text_of, view, why, why_asked};
 
 use clap::builder::ValueParser;
 use clap::error::ErrorKind;
 use clap::{Arg, ArgAction, ArgMatches, Command, Error};
 use std::alloc::{AllocError, Global};
 
-/// What the words ask for, by the names of its files or by its numbers (this profile).
+/// What the words ask for, by the names of its files or by its numbers.
 #[derive(Clone, Copy)]
 pub enum Request<'a> {
     /// To run a script on a topology.
     Run(&'a str, &'a str),
+    /// To run a script on a topology, and show the bytes of each packet that is sealed.
+    RunPackets(&'a str, &'a str),
     /// To run a script on a topology, and compare the lines of a file with those that are due.
     Judge(&'a str, &'a str, &'a str),
+    /// The same, and to name all lines that differ.
+    JudgeAll(&'a str, &'a str, &'a str),
     /// To run a script on a topology up to the event of this number, 1 to 67,108,864, and tell what its verdict came
     /// from.
     Why(&'a str, &'a str, u32),
+    /// To run a script on a topology, and count the events that each rule answers.
+    Cover(&'a str, &'a str),
+    /// To run a script on a topology, and tell the rule of each event.
+    CoverEvents(&'a str, &'a str),
     /// To check a topology.
     Check(&'a str),
     /// To write a topology as one of version 2.
@@ -58,7 +68,15 @@ fn name_arg<'a>(alloc: Global, id: &'static str) -> Arg<'a>
     Arg::new(alloc, id).required(true)
 }
 
-// `run TOPOLOGY SCRIPT`
+// A flag by its long name.
+fn flag_arg<'a>(alloc: Global, id: &'static str) -> Arg<'a>
+    ensures rule { rule_of result ≡ flag_rule id.entry.now }
+    ensures local { result.global ≡ false }
+{
+    Arg::new(alloc, id).long(id).action(ArgAction::SetTrue)
+}
+
+// `run TOPOLOGY SCRIPT [--packets]`
 #[inline(never)]
 fn run_command<'a>(alloc: Global) -> Result<Command<'a>, AllocError>
     ensures app { IfOk result (λ c. app_of c ≡ run_app) }
@@ -66,10 +84,14 @@ fn run_command<'a>(alloc: Global) -> Result<Command<'a>, AllocError>
 {
     let topology = name_arg(alloc, "TOPOLOGY");
     let script = name_arg(alloc, "SCRIPT");
-    Command::new(alloc, "run").arg(topology)?.arg(script)
+    let packets = flag_arg(alloc, "packets");
+    Command::new(alloc, "run")
+        .arg(topology)?
+        .arg(script)?
+        .arg(packets)
 }
 
-// `judge TOPOLOGY SCRIPT VERDICTS`
+// `judge TOPOLOGY SCRIPT VERDICTS [--all]`
 #[inline(never)]
 fn judge_command<'a>(alloc: Global) -> Result<Command<'a>, AllocError>
     ensures app { IfOk result (λ c. app_of c ≡ judge_app) }
@@ -78,10 +100,12 @@ fn judge_command<'a>(alloc: Global) -> Result<Command<'a>, AllocError>
     let topology = name_arg(alloc, "TOPOLOGY");
     let script = name_arg(alloc, "SCRIPT");
     let verdicts = name_arg(alloc, "VERDICTS");
+    let all = flag_arg(alloc, "all");
     Command::new(alloc, "judge")
         .arg(topology)?
         .arg(script)?
-        .arg(verdicts)
+        .arg(verdicts)?
+        .arg(all)
 }
 
 // A required number within bounds.
@@ -109,12 +133,19 @@ fn why_command<'a>(alloc: Global) -> Result<Command<'a>, AllocError>
         .arg(number)
 }
 
-// A flag by its long name.
-fn flag_arg<'a>(alloc: Global, id: &'static str) -> Arg<'a>
-    ensures rule { rule_of result ≡ flag_rule id.entry.now }
-    ensures local { result.global ≡ false }
+// `cover TOPOLOGY SCRIPT [--events]`
+#[inline(never)]
+fn cover_command<'a>(alloc: Global) -> Result<Command<'a>, AllocError>
+    ensures app { IfOk result (λ c. app_of c ≡ cover_app) }
+    ensures local { IfOk result (λ c. (out-Command c).has_globals ≡ false) }
 {
-    Arg::new(alloc, id).long(id).action(ArgAction::SetTrue)
+    let topology = name_arg(alloc, "TOPOLOGY");
+    let script = name_arg(alloc, "SCRIPT");
+    let events = flag_arg(alloc, "events");
+    Command::new(alloc, "cover")
+        .arg(topology)?
+        .arg(script)?
+        .arg(events)
 }
 
 // `check TOPOLOGY [--migrate]`
@@ -176,7 +207,7 @@ fn with_command<'a>(command: Command<'a>, other: Command<'a>) -> Result<Command<
     command.subcommand(other)
 }
 
-// The program with the subcommands that read a script.
+// The program with the subcommands that tell verdicts of a script.
 #[inline(never)]
 fn of_scripts<'a>(alloc: Global) -> Result<Command<'a>, AllocError>
     ensures { IfOk result (λ c. app_of c ≡ scripts_app) }
@@ -186,12 +217,13 @@ fn of_scripts<'a>(alloc: Global) -> Result<Command<'a>, AllocError>
     with_command(with_judge, why_command(alloc)?)
 }
 
-// The program with the subcommands that read a topology.
+// The program with all subcommands that read a topology.
 #[inline(never)]
 fn of_topologies<'a>(alloc: Global) -> Result<Command<'a>, AllocError>
     ensures { IfOk result (λ c. app_of c ≡ topologies_app) }
 {
-    with_command(of_scripts(alloc)?, check_command(alloc)?)
+    let with_cover = with_command(of_scripts(alloc)?, cover_command(alloc)?)?;
+    with_command(with_cover, check_command(alloc)?)
 }
 
 // The program with its subcommands.
@@ -265,17 +297,44 @@ fn generated<'a>(matches: &ArgMatches<'a>) -> Request<'a>
     }
 }
 
+// What `run` asks for.
+fn ran<'a>(matches: &ArgMatches<'a>) -> Request<'a>
+    ensures { view result ≡ run_asked (rows_of (found_of matches.now)) }
+{
+    let topology = text_in(matches, "TOPOLOGY");
+    let script = text_in(matches, "SCRIPT");
+    if is_set(matches, "packets") {
+        Request::RunPackets(topology, script)
+    } else {
+        Request::Run(topology, script)
+    }
+}
+
 // What `judge` asks for.
 fn judged<'a>(matches: &ArgMatches<'a>) -> Request<'a>
-    ensures { view result ≡ judge (text_of (codes "TOPOLOGY") (rows_of (found_of matches.now)))
-        (text_of (codes "SCRIPT") (rows_of (found_of matches.now)))
-        (text_of (codes "VERDICTS") (rows_of (found_of matches.now))) }
+    ensures { view result ≡ judge_asked (rows_of (found_of matches.now)) }
 {
-    Request::Judge(
-        text_in(matches, "TOPOLOGY"),
-        text_in(matches, "SCRIPT"),
-        text_in(matches, "VERDICTS"),
-    )
+    let topology = text_in(matches, "TOPOLOGY");
+    let script = text_in(matches, "SCRIPT");
+    let verdicts = text_in(matches, "VERDICTS");
+    if is_set(matches, "all") {
+        Request::JudgeAll(topology, script, verdicts)
+    } else {
+        Request::Judge(topology, script, verdicts)
+    }
+}
+
+// What `cover` asks for.
+fn covered<'a>(matches: &ArgMatches<'a>) -> Request<'a>
+    ensures { view result ≡ cover_asked (rows_of (found_of matches.now)) }
+{
+    let topology = text_in(matches, "TOPOLOGY");
+    let script = text_in(matches, "SCRIPT");
+    if is_set(matches, "events") {
+        Request::CoverEvents(topology, script)
+    } else {
+        Request::Cover(topology, script)
+    }
 }
 
 // What `why` asks for.
@@ -298,9 +357,10 @@ fn named_request<'a>(name: &str, matches: &ArgMatches<'a>) -> Request<'a>
     ensures asks { view result ≡ asked_by_name name.now (rows_of (found_of matches.now)) }
 {
     match name {
-        "run" => Request::Run(text_in(matches, "TOPOLOGY"), text_in(matches, "SCRIPT")),
+        "run" => ran(matches),
         "judge" => judged(matches),
         "why" => explained(matches),
+        "cover" => covered(matches),
         "check" => checked(matches),
         "generate" => generated(matches),
         _ => Request::Show(text_in(matches, "PACKETS")),
@@ -328,10 +388,10 @@ fn asks_both(matches: &ArgMatches) -> bool
     }
 }
 
-/// What the words ask for (this profile). The first word is the program's name; then come `run TOPOLOGY SCRIPT`,
-/// `judge TOPOLOGY SCRIPT VERDICTS`, `why TOPOLOGY SCRIPT N`, `check TOPOLOGY [--migrate]`, `show PACKETS` or
-/// `generate SEED COUNT [--script | --topology]`. Returns `Usage` exactly if `clap` refuses the words for another cause
-/// than memory, or both flags of `generate` are given.
+/// What the words ask for (this profile). The first word is the program's name; then come `run TOPOLOGY SCRIPT
+/// [--packets]`, `judge TOPOLOGY SCRIPT VERDICTS [--all]`, `why TOPOLOGY SCRIPT N`, `cover TOPOLOGY SCRIPT [--events]`,
+/// `check TOPOLOGY [--migrate]`, `show PACKETS` or `generate SEED COUNT [--script | --topology]`. Returns `Usage`
+/// exactly if `clap` refuses the words for another cause than memory, or both flags of `generate` are given.
 #[tactic(auto, using(crate::proofs::App::ide_is_simple))]
 #[inline(never)]
 pub fn read_words<'a>(alloc: Global, words: &'a [String]) -> Result<Request<'a>, WordsError>
@@ -398,10 +458,18 @@ pub fn refusal(alloc: Global, words: &[String]) -> Result<Option<String>, AllocE
 pub fn forms_are_taken()
     ensures run { (program a b : List ℕ) → IsName a → IsName b
         → command_asked (program ∷ codes "run" ∷ a ∷ b ∷ []) ≡ Some (run a b) }
+    ensures packets { (program a b : List ℕ) → IsName a → IsName b
+        → command_asked (program ∷ codes "run" ∷ a ∷ b ∷ codes "--packets" ∷ []) ≡ Some (run_packets a b) }
     ensures judge { (program a b c : List ℕ) → IsName a → IsName b → IsName c
         → command_asked (program ∷ codes "judge" ∷ a ∷ b ∷ c ∷ []) ≡ Some (judge a b c) }
+    ensures all_lines { (program a b c : List ℕ) → IsName a → IsName b → IsName c
+        → command_asked (program ∷ codes "judge" ∷ a ∷ b ∷ c ∷ codes "--all" ∷ []) ≡ Some (judge_all a b c) }
     ensures why { (program a b : List ℕ) (n : ℕ) → IsName a → IsName b → 1 ≤ n → n ≤ 67108864
         → command_asked (program ∷ codes "why" ∷ a ∷ b ∷ decimal n ∷ []) ≡ Some (why a b n) }
+    ensures cover { (program a b : List ℕ) → IsName a → IsName b
+        → command_asked (program ∷ codes "cover" ∷ a ∷ b ∷ []) ≡ Some (cover a b) }
+    ensures events { (program a b : List ℕ) → IsName a → IsName b
+        → command_asked (program ∷ codes "cover" ∷ a ∷ b ∷ codes "--events" ∷ []) ≡ Some (cover_events a b) }
     ensures check { (program a : List ℕ) → IsName a → command_asked (program ∷ codes "check" ∷ a ∷ [])
         ≡ Some (check a) }
     ensures migrate { (program a : List ℕ) → IsName a

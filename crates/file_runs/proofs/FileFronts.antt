@@ -25,7 +25,7 @@ use Rattle.file_runs.specs.Outcome.{Due, EndsDue, EndsToldOrBlind, Quiet, IsWhol
 use Rattle.file_runs.specs.Lines.{after, bytes_for_lines, cut_text, file_due, file_limit, go_on, is_over, process}
 use Rattle.file_runs.specs.Lines.{refusal, unended_due}
 use Rattle.file_runs.specs.Gathering.{HasGainedAtFault, IsPartGathered, GoesOn, NoFurther, ReadAsFar}
-use Rattle.file_runs.specs.Gathering.{ReadAsFarOfContents, SoFar, WroteEnded, WroteEndedInFile, WroteEndedIfTold}
+use Rattle.file_runs.specs.Gathering.{ReadAsFarOfContents, SoFar, WroteByLines, WroteEnded, WroteEndedIfTold}
 use Rattle.file_runs.specs.Gathering.{pieces_after, due_behind, ended_text, last_piece, limit_due, open_line}
 use Rattle.file_runs.specs.Gathering.{waiting_at}
 use Rattle.file_runs.proofs.Cuttings.{cut_short}
@@ -365,11 +365,14 @@ gained_ended advance closing first told name at n s before o0 o1 f short =
     subst P (text_is advance closing first told name at n s before o0 o1 f short)
     (all_gained o0 o1 f.so_far.text f.so_far.gained)
 
+abbrev WroteIn : Fault → (Text → Text) → Text → ShelfSeen → ShelfSeen → SinkSeen → SinkSeen → Type 0
+WroteIn e text file s0 s1 o0 o1 = WroteByLines e (length file) (λ n. text (take n file)) (λ n. take n file) s0 s1 o0 o1
+
 wrote_all : (e : Fault) (text : Text → Text) (file front piece : Text) (s0 s1 : ShelfSeen) (o0 o1 : SinkSeen)
     → IsFront (front ++ piece) file → Gave s0.given (length front + length piece) s1.given
-    → length piece ≤ waiting_at e s1 → length (open_line front) ≤ 20000
-    → HasGainedAtFault e o0.held o1.held (text front) → WroteEndedInFile e text file s0 s1 o0 o1
-wrote_all e text file front piece s0 s1 o0 o1 (rest, is) gave few short gained =
+    → length piece ≤ waiting_at e s1 → length piece ≤ 4096 → length (open_line front) ≤ 20000
+    → HasGainedAtFault e o0.held o1.held (text front) → WroteIn e text file s0 s1 o0 o1
+wrote_all e text file front piece s0 s1 o0 o1 (rest, is) gave few ahead short gained =
     let same : front ≡ take (length front) file = sym (take-append_seam front (piece ++ rest)) ∙ ap
     (take (length front)) (sym (append_assoc front piece rest) ∙ is) in
     record {
@@ -379,19 +382,19 @@ wrote_all e text file front piece s0 s1 o0 o1 (rest, is) gave few short gained =
       gave = gave;
       most = omega arith;
       all_but = omega (arith, few);
+      ahead = omega (arith, ahead);
       short = subst (λ (t : Text). length (open_line t) ≤ 20000) same short;
       gained = subst (λ (t : Text). HasGainedAtFault e o0.held o1.held (text t)) same gained;
     }
 
 wrote_in : (e : Fault) (text : Text → Text) (file : Option Text) (front piece : Text) (s0 s1 : ShelfSeen)
     (o0 o1 : SinkSeen) → IsReadIn file (front ++ piece) → Gave s0.given (length front + length piece) s1.given
-    → length piece ≤ waiting_at e s1 → length (open_line front) ≤ 20000
-    → HasGainedAtFault e o0.held o1.held (text front)
-    → WroteEndedInFile e text (bytes_of file) s0 s1 o0 o1
-wrote_in e text None front piece s0 s1 o0 o1 read gave few short gained = wrote_all e text [] front piece s0 s1 o0 o1
-    ([], append-nil (front ++ piece) ∙ read) gave few short gained
-wrote_in e text (Some file) front piece s0 s1 o0 o1 read gave few short gained = wrote_all e text file front piece s0 s1
-    o0 o1 read gave few short gained
+    → length piece ≤ waiting_at e s1 → length piece ≤ 4096 → length (open_line front) ≤ 20000
+    → HasGainedAtFault e o0.held o1.held (text front) → WroteIn e text (bytes_of file) s0 s1 o0 o1
+wrote_in e text None front piece s0 s1 o0 o1 read gave few ahead short gained =
+    wrote_all e text [] front piece s0 s1 o0 o1 ([], append-nil (front ++ piece) ∙ read) gave few ahead short gained
+wrote_in e text (Some file) front piece s0 s1 o0 o1 read gave few ahead short gained =
+    wrote_all e text file front piece s0 s1 o0 o1 read gave few ahead short gained
 
 -- ---- an end
 
@@ -447,10 +450,10 @@ pub fault_wrote : {S : Type 0} (advance : S → ℕ → Text → Result (S × Te
     (e : Fault) (name : Text) (at n : ℕ) (s : S) (before piece : Text) (s0 s1 : ShelfSeen) (o0 o1 o2 : SinkSeen)
     → (f : FileSoFar advance closing first s0.contents name at n s before o0 o1)
     → IsReadIfTold s0.contents name (f.front ++ piece) → length before ≤ 20000 → length piece ≤ waiting_at e s1
-    → Gave s0.given (at + length piece) s1.given
+    → length piece ≤ 4096 → Gave s0.given (at + length piece) s1.given
     → ((text : Text) → HasGained o0.held o1.held text → HasGainedAtFault e o0.held o2.held text)
     → WroteEnded e (ended_text advance closing first) name s0 s1 o0 o2
-fault_wrote advance closing first e name at n s before piece s0 s1 o0 o1 o2 f read short few gave more = by_told
+fault_wrote advance closing first e name at n s before piece s0 s1 o0 o1 o2 f read short few ahead gave more = by_told
     s0.contents read
   where
     given : Gave s0.given (length f.front + length piece) s1.given
@@ -460,7 +463,7 @@ fault_wrote advance closing first e name at n s before piece s0 s1 o0 o1 o2 f re
         → WroteEndedIfTold e (ended_text advance closing first) told name s0 s1 o0 o2
     by_told None read = tt
     by_told (Some contents) read =
-        wrote_in e (ended_text advance closing first) (contents name) f.front piece s0 s1 o0 o2 read given few
+        wrote_in e (ended_text advance closing first) (contents name) f.front piece s0 s1 o0 o2 read given few ahead
         (open_line_short advance closing first s0.contents name at n s before o0 o1 f short)
         (more (ended_text advance closing first f.front)
         (gained_ended advance closing first s0.contents name at n s before o0 o1 f short))
@@ -478,18 +481,18 @@ pub cut_wrote : {S : Type 0} (advance : S → ℕ → Text → Result (S × Text
     (name : Text) (at n : ℕ) (s : S) (before piece : Text) (s0 s1 : ShelfSeen) (o0 o1 o2 : SinkSeen) (last : Due)
     (r : Result End Fault) → (f : FileSoFar advance closing first s0.contents name at n s before o0 o1)
     → IsReadIfTold s0.contents name (f.front ++ piece) → length before ≤ 20000 → length piece ≤ s1.latest
-    → Gave s0.given (at + length piece) s1.given → Ran last o1 o2 r
+    → length piece ≤ 4096 → Gave s0.given (at + length piece) s1.given → Ran last o1 o2 r
     → IfErr r (λ e. WroteEnded e (ended_text advance closing first) name s0 s1 o0 o2)
-cut_wrote advance closing first name at n s before piece s0 s1 o0 o1 o2 last (Ok e) f read short few gave ran = tt
-cut_wrote advance closing first name at n s before piece s0 s1 o0 o1 o2 last (Err fault.Read) f read short few gave ran
-    = absurd ran.0
-cut_wrote advance closing first name at n s before piece s0 s1 o0 o1 o2 last (Err fault.Write) f read short few gave ran
-    =
-    fault_wrote advance closing first fault.Write name at n s before piece s0 s1 o0 o1 o2 f read short few gave
+cut_wrote advance closing first name at n s before piece s0 s1 o0 o1 o2 last (Ok e) f read short few ahead gave ran = tt
+cut_wrote advance closing first name at n s before piece s0 s1 o0 o1 o2 last (Err fault.Read) f read short few ahead
+    gave ran = absurd ran.0
+cut_wrote advance closing first name at n s before piece s0 s1 o0 o1 o2 last (Err fault.Write) f read short few ahead
+    gave ran =
+    fault_wrote advance closing first fault.Write name at n s before piece s0 s1 o0 o1 o2 f read short few ahead gave
     (λ text was. more_gained o0.held o1.held o2.held text last.1 was ran.1)
-cut_wrote advance closing first name at n s before piece s0 s1 o0 o1 o2 last (Err fault.Memory) f read short few gave
-    ran =
-    fault_wrote advance closing first fault.Memory name at n s before piece s0 s1 o0 o1 o2 f read short few gave
+cut_wrote advance closing first name at n s before piece s0 s1 o0 o1 o2 last (Err fault.Memory) f read short few ahead
+    gave ran =
+    fault_wrote advance closing first fault.Memory name at n s before piece s0 s1 o0 o1 o2 f read short few ahead gave
     (λ text was. more_gained o0.held o1.held o2.held text last.1 was ran)
 
 -- memory is wanting before the first read
@@ -500,7 +503,7 @@ unfolding file_begins
 nothing_wrote advance closing first name shelf sink =
     fault_wrote advance closing first fault.Memory name 0 1 first [] [] shelf shelf sink sink sink
     (file_begins advance closing first shelf.contents name 1 [] sink refl refl) (start shelf.contents name)
-    (omega arith) (omega arith)
+    (omega arith) (omega arith) (omega arith)
     (omega arith, omega arith) (λ text was. ([], rw append-nil was))
 
 -- the cause of a fault, and the whole lines that were written

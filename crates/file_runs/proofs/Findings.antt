@@ -13,9 +13,12 @@ use Rattle.file_runs.specs.declared.ends.End.{End}
 use Rattle.file_runs.specs.declared.ends.End.TheVariants as end
 use Rattle.file_runs.specs.Gain.{Text}
 use Rattle.file_runs.proofs.Cuts.{HasFirst, some}
+use Rattle.file_runs.proofs.Differences.{all_are_told}
+use Rattle.file_runs.specs.Outcome.{Due}
 use Rattle.file_runs.specs.Judging.{ClaimsOther, DiffersAt, DueThere, Finding, Same, Differs, LacksLine, Tells}
-use Rattle.file_runs.specs.Judging.{finding_at_end, first_finding, finding_due, found_after, begins_with_line}
-use Rattle.file_runs.specs.Judging.{judgement_due, last_line_of, last_text_piece, verdicts_limit}
+use Rattle.file_runs.specs.Judging.{TellsDiffering, finding_at_end, first_finding, finding_due, found_after}
+use Rattle.file_runs.specs.Judging.{begins_with_line, judgement_due, last_line_of, last_text_piece, other_text}
+use Rattle.file_runs.specs.Judging.{verdicts_limit}
 
 -- ---- pieces and texts
 
@@ -113,12 +116,12 @@ not_equal a b apart same =
     cc
 
 -- what is told of a finding
-pub told_by : {V E : Type 0} (items : V → Text) (r : Result (End × V) E) (e : End) (text : Text) (found : Finding)
-    → IfOk r (λ told. told.0 ≡ e) → IfOk r (λ told. items told.1 ≡ text) → (e, text) ≡ finding_due found
-    → IfOk r (λ told. (told.0, items told.1) ≡ finding_due found)
-told_by items (Ok told) e text found end_is text_is due =
+pub told_by : {V E : Type 0} (items : V → Text) (r : Result (End × V) E) (e : End) (text : Text) (last : Due)
+    → IfOk r (λ told. told.0 ≡ e) → IfOk r (λ told. items told.1 ≡ text) → (e, text) ≡ last
+    → IfOk r (λ told. (told.0, items told.1) ≡ last)
+told_by items (Ok told) e text last end_is text_is due =
     ap (λ (x : End). (x, items told.1)) end_is ∙ ap (λ (t : Text). (e, t)) text_is ∙ due
-told_by items (Err f) e text found end_is text_is due = tt
+told_by items (Err f) e text last end_is text_is due = tt
 
 -- ---- what is found
 
@@ -243,23 +246,32 @@ differs_apart due claimed number line d same =
 
 -- ---- what is told
 
-found_tells : (due claimed : Text) (found : Finding) → Means due claimed found
-    → Tells due claimed (finding_due found).0 (finding_due found).1
-found_tells due claimed (Same lines) means = record
-    { lines = lines; lines_are = means.1; same = means.0; told_is = refl }
-found_tells due claimed (Differs number line) means = record {
+differing_tells : (all : Bool) (due claimed : Text) (number : ℕ) (line : Option Text)
+    → DiffersAt due claimed number line → TellsDiffering all due claimed (other_text all due claimed number line)
+differing_tells false due claimed number line means = record {
   number = number;
   line = line;
   differs = means;
   other = differs_apart due claimed number line means;
   told_is = refl;
 }
+differing_tells true due claimed number line means =
+    all_are_told due claimed (differs_apart due claimed number line means)
 
-by_length : (due claimed : Text) (b : Bool) → nat_lt verdicts_limit (length claimed) ≡ b
-    → Tells due claimed (if b then (end.TooLong, []) else finding_due (first_finding due claimed)).0
-    (if b then (end.TooLong, []) else finding_due (first_finding due claimed)).1
-by_length due claimed true is = (grind (arith, nat_tests), refl)
-by_length due claimed false is = found_tells due claimed (first_finding due claimed) (finding_means due claimed)
+found_tells : (all : Bool) (due claimed : Text) (found : Finding) → Means due claimed found
+    → Tells all due claimed (finding_due all due claimed found).0 (finding_due all due claimed found).1
+found_tells all due claimed (Same lines) means = record
+    { lines = lines; lines_are = means.1; same = means.0; told_is = refl }
+found_tells all due claimed (Differs number line) means = differing_tells all due claimed number line means
 
-pub judged_tells : (due claimed : Text) → Tells due claimed (judgement_due due claimed).0 (judgement_due due claimed).1
-judged_tells due claimed = by_length due claimed (nat_lt verdicts_limit (length claimed)) refl
+by_length : (all : Bool) (due claimed : Text) (b : Bool) → nat_lt verdicts_limit (length claimed) ≡ b
+    → Tells all due claimed
+    (if b then (end.TooLong, []) else finding_due all due claimed (first_finding due claimed)).0
+    (if b then (end.TooLong, []) else finding_due all due claimed (first_finding due claimed)).1
+by_length all due claimed true is = (grind (arith, nat_tests), refl)
+by_length all due claimed false is =
+    found_tells all due claimed (first_finding due claimed) (finding_means due claimed)
+
+pub judged_tells : (all : Bool) (due claimed : Text)
+    → Tells all due claimed (judgement_due all due claimed).0 (judgement_due all due claimed).1
+judged_tells all due claimed = by_length all due claimed (nat_lt verdicts_limit (length claimed)) refl

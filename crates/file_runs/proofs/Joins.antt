@@ -1,5 +1,5 @@
 -- One file after another, and what is due of a file in other words.
-use Rattle.std.proofs.Common.{◌≡◌, ◌≤◌, ◌+◌, ◌++◌, ◌∙◌, ℕ, [], length, length-take, take, Option, Some, None, Result}
+use Rattle.std.proofs.Common.{◌≡◌, ◌≤◌, ◌+◌, ◌++◌, ◌∙◌, ℕ, [], length, length-take, Option, Some, None, Result}
 use Rattle.std.proofs.Common.{Ok, Err, refl, sym, ap, subst, arith, append_assoc, option_map}
 use Rattle.std.specs.Prelude.{IfErr, IfOk}
 use Rattle.std.proofs.lemmas.List.{append-nil, append_cancel_left}
@@ -10,7 +10,7 @@ use Rattle.file_runs.specs.declared.ends.Fault.TheVariants as fault
 use Rattle.file_runs.specs.Front.{FrontIn, FrontIfTold, Gave, GaveIfTold, bytes_of}
 use Rattle.file_runs.specs.Gain.{Text, HasGained, GainedMore, IsFront}
 use Rattle.file_runs.specs.Gathering.{HasGainedAtFault, NoFurther, ReadAsFar, ReadAsFarOfContents, WroteEnded}
-use Rattle.file_runs.specs.Gathering.{WroteEndedInFile, WroteEndedIfTold}
+use Rattle.file_runs.specs.Gathering.{WroteEndedIfTold, first_of}
 use Rattle.file_runs.specs.Outcome.{Due, EndsBy, EndsToldOrBlind, Quiet, SomeFront}
 use Rattle.file_runs.proofs.WholeFiles.{SameDue, gained_nothing}
 
@@ -59,22 +59,6 @@ pub some_gained : (h0 h1 : Option Text) (last : Text) → SomeFront (HasGained h
 some_gained h0 h1 last (front, is, gained) = (front, gained)
 
 -- the same text in other words
-same_ended_in : (e : Fault) (f g : Text → Text) (file : Text) (s0 s1 : ShelfSeen) (o0 o1 : SinkSeen)
-    → ((t : Text) → f t ≡ g t) → WroteEndedInFile e f file s0 s1 o0 o1 → WroteEndedInFile e g file s0 s1 o0 o1
-same_ended_in e f g file s0 s1 o0 o1 same wrote =
-    let gained = subst (λ (t : Text). HasGainedAtFault e o0.held o1.held t) (same (take wrote.ran file)) wrote.gained in
-    record {
-      given = wrote.given;
-      ran = wrote.ran;
-      within = wrote.within;
-      gave = wrote.gave;
-      most = wrote.most;
-      all_but
-          = wrote.all_but;
-      short = wrote.short;
-      gained = gained;
-    }
-
 pub same_ended : (e : Fault) (f g : Text → Text) (name : Text) (s0 s1 : ShelfSeen) (o0 o1 : SinkSeen)
     → ((t : Text) → f t ≡ g t) → WroteEnded e f name s0 s1 o0 o1 → WroteEnded e g name s0 s1 o0 o1
 same_ended e f g name s0 s1 o0 o1 same wrote = by_told s0.contents wrote
@@ -82,7 +66,18 @@ same_ended e f g name s0 s1 o0 o1 same wrote = by_told s0.contents wrote
     by_told : (told : Option Contents) → WroteEndedIfTold e f told name s0 s1 o0 o1
         → WroteEndedIfTold e g told name s0 s1 o0 o1
     by_told None wrote = tt
-    by_told (Some contents) wrote = same_ended_in e f g (bytes_of (contents name)) s0 s1 o0 o1 same wrote
+    by_told (Some contents) wrote = record {
+      given = wrote.given;
+      ran = wrote.ran;
+      within = wrote.within;
+      gave = wrote.gave;
+      most = wrote.most;
+      all_but = wrote.all_but;
+      ahead = wrote.ahead;
+      short = wrote.short;
+      gained = subst (λ (t : Text). HasGainedAtFault e o0.held o1.held t) (same (first_of name contents wrote.ran))
+          wrote.gained;
+    }
 
 pub ended_same : (f g : Text → Text) (name : Text) (s0 s1 : ShelfSeen) (o0 o1 : SinkSeen) (r : Result End Fault)
     → ((t : Text) → f t ≡ g t) → IfErr r (λ e. WroteEnded e f name s0 s1 o0 o1)

@@ -10,5 +10,7 @@ pub mod FileFronts
 pub mod Joins
 pub mod Shows
 mod Words
+pub mod Differences
 pub mod Findings
+pub mod FileRuns
 mod JudgedFiles

@@ -5,8 +5,6 @@ use Rattle.cli_files.specs.Outside.{Contents, Rose}
 use Rattle.file_runs.specs.declared.ends.End.{End}
 use Rattle.file_runs.specs.declared.ends.Fault.{Fault}
 use Rattle.file_runs.specs.declared.ends.Fault.TheVariants as fault
-use Rattle.file_runs.specs.declared.front.Unread.{Unread}
-use Rattle.file_runs.specs.declared.front.Unread.TheVariants as unread
 use Rattle.file_runs.specs.Front.{UnreadCause}
 use Rattle.file_runs.specs.Gain.{Text, HasGained}
 use Rattle.file_runs.specs.Outcome.{Due, Quiet, EndsBy, EndsBlind, EndsDue, EndsToldOrBlind}
@@ -27,27 +25,24 @@ gained_nothing (Some held) = ap (λ (t : Text). Some t) (sym (append-nil held))
 some_none : {A : Type 0} {x : A} → Some x ≡ None → ⊥
 some_none e = cc
 
-abbrev pub fault_of : Unread → Fault
-fault_of unread.Fault = fault.Read
-fault_of unread.Memory = fault.Memory
-
 -- a file could not be read
 stopped_told : (contents : Contents) (due : Option Due) (name : Text) (s0 s1 : ℕ) (write quiet : Type 0)
-    (h : Option Text) (e : Unread) → (contents name ≡ None → due ≡ None)
-    → UnreadCause s0 s1 (Some contents) name e → EndsDue due (Rose s0 s1) write quiet (HasGained h h) (Err (fault_of e))
-stopped_told contents None name s0 s1 write quiet h unread.Fault lacks c = gained_nothing h
-stopped_told contents None name s0 s1 write quiet h unread.Memory lacks c = gained_nothing h
-stopped_told contents (Some due) name s0 s1 write quiet h unread.Fault lacks c =
+    (h : Option Text) (e : Fault) → (contents name ≡ None → due ≡ None)
+    → UnreadCause s0 s1 (Some contents) name e → EndsDue due (Rose s0 s1) write quiet (HasGained h h) (Err e)
+stopped_told contents due name s0 s1 write quiet h fault.Write lacks c = absurd c
+stopped_told contents None name s0 s1 write quiet h fault.Read lacks c = gained_nothing h
+stopped_told contents None name s0 s1 write quiet h fault.Memory lacks c = gained_nothing h
+stopped_told contents (Some due) name s0 s1 write quiet h fault.Read lacks c =
     let rose : Rose s0 s1 = elim c.1 [ inl r ↦ r | inr none ↦ absurd (some_none (lacks none)) ] in
     (rose, ([], (due.1, refl), inl refl, gained_nothing h))
-stopped_told contents (Some due) name s0 s1 write quiet h unread.Memory lacks c = ([], (due.1, refl), gained_nothing h)
+stopped_told contents (Some due) name s0 s1 write quiet h fault.Memory lacks c = ([], (due.1, refl), gained_nothing h)
 
 pub stopped : (told : Option Contents) (due : Contents → Option Due) (name : Text) (s0 s1 : ℕ) (write quiet : Type 0)
-    (h : Option Text) (e : Unread) → ((contents : Contents) → contents name ≡ None → due contents ≡ None)
-    → UnreadCause s0 s1 told name e → EndsToldOrBlind told due (Rose s0 s1) write quiet (HasGained h h)
-    (Err (fault_of e))
-stopped None due name s0 s1 write quiet h unread.Fault lacks c = elim c.1 [ inl r ↦ r | inr none ↦ absurd none ]
-stopped None due name s0 s1 write quiet h unread.Memory lacks c = tt
+    (h : Option Text) (e : Fault) → ((contents : Contents) → contents name ≡ None → due contents ≡ None)
+    → UnreadCause s0 s1 told name e → EndsToldOrBlind told due (Rose s0 s1) write quiet (HasGained h h) (Err e)
+stopped None due name s0 s1 write quiet h fault.Read lacks c = elim c.1 [ inl r ↦ r | inr none ↦ absurd none ]
+stopped None due name s0 s1 write quiet h fault.Write lacks c = absurd c
+stopped None due name s0 s1 write quiet h fault.Memory lacks c = tt
 stopped (Some contents) due name s0 s1 write quiet h e lacks c = stopped_told contents (due contents) name s0 s1 write
     quiet h e (lacks contents) c
 

@@ -2,8 +2,8 @@
 use Rattle.std.specs.Prelude.{ℕ, ◌+◌, ◌≤◌, ◌≡◌, ◌⊎◌, [], length, max, take, unwrap_or, Option, Some, None, Result, Ok}
 use Rattle.std.specs.Prelude.{Err}
 use Rattle.cli_files.specs.Outside.{Contents, Rose, Lacks, capped_count}
-use Rattle.file_runs.specs.declared.front.Unread.{Unread}
-use Rattle.file_runs.specs.declared.front.Unread.TheVariants as unread
+use Rattle.file_runs.specs.declared.ends.Fault.{Fault}
+use Rattle.file_runs.specs.declared.ends.Fault.TheVariants as fault
 use Rattle.file_runs.specs.Gain.{Text, IsFront}
 
 -- so many bytes of the file, or all if it has no more
@@ -16,12 +16,13 @@ abbrev pub FrontIfTold : Option Contents → Text → ℕ → Text → Type 0
 FrontIfTold None name most read = Unit {0}
 FrontIfTold (Some contents) name most read = FrontIn most (contents name) read
 
--- a fault was counted, or the told contents lack the name; want of memory counts nothing
-abbrev pub UnreadCause : ℕ → ℕ → Option Contents → Text → Unread → Type 0
-UnreadCause before now told name unread.Fault = (before ≤ now) × (Rose before now ⊎ Lacks told name)
-UnreadCause before now told name unread.Memory = now ≡ before
+-- a fault was counted, or the told contents lack the name; nothing is written, and want of memory counts nothing
+abbrev pub UnreadCause : ℕ → ℕ → Option Contents → Text → Fault → Type 0
+UnreadCause before now told name fault.Read = (before ≤ now) × (Rose before now ⊎ Lacks told name)
+UnreadCause before now told name fault.Write = ⊥
+UnreadCause before now told name fault.Memory = now ≡ before
 
-abbrev pub ReadCause : {A : Type 0} → ℕ → ℕ → Option Contents → Text → Result A Unread → Type 0
+abbrev pub ReadCause : {A : Type 0} → ℕ → ℕ → Option Contents → Text → Result A Fault → Type 0
 ReadCause before now told name (Ok x) = now ≡ before
 ReadCause before now told name (Err e) = UnreadCause before now told name e
 

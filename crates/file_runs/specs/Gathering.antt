@@ -105,30 +105,50 @@ HasGainedAtFault fault.Read before now text = HasGained before now text
 HasGainedAtFault fault.Write before now text = GainedMore before now text
 HasGainedAtFault fault.Memory before now text = GainedMore before now text
 
--- So many bytes of the file were given, and all but those that may wait were run: the line that has begun in these is
--- within its limit, and the sink gained the text that is due of them. A file that is not there has no bytes.
-pub record WroteEndedInFile (e : Fault) (text : Text → Text) (file : Text) (shelf shelf_now : ShelfSeen)
+-- Of some files so many bytes were given, no more than they have, and all but those that may wait were run, at most
+-- 4,096 of them: the line that has begun in those that were run, and that lines are cut from, is within its limit, and
+-- the sink gained the text that is due of them.
+pub record WroteByLines (e : Fault) (size : ℕ) (text lines : ℕ → Text) (shelf shelf_now : ShelfSeen)
     (sink sink_now : SinkSeen) : Type 0 where
   pub given : ℕ
   pub ran : ℕ
-  pub within : given ≤ length file
+  pub within : given ≤ size
   pub gave : Gave shelf.given given shelf_now.given
   pub most : ran ≤ given
   pub all_but : given ≤ ran + waiting_at e shelf_now
-  pub short : length (open_line (take ran file)) ≤ line_limit
-  pub gained : HasGainedAtFault e sink.held sink_now.held (text (take ran file))
+  pub ahead : given ≤ ran + 4096
+  pub short : length (open_line (lines ran)) ≤ line_limit
+  pub gained : HasGainedAtFault e sink.held sink_now.held (text ran)
 
-abbrev pub WroteEndedIfTold : Fault → (Text → Text) → Option Contents → Text → ShelfSeen → ShelfSeen → SinkSeen
-    → SinkSeen → Type 0
-WroteEndedIfTold e text None name shelf shelf_now sink sink_now = Unit {0}
-WroteEndedIfTold e text (Some contents) name shelf shelf_now sink sink_now = WroteEndedInFile e text
-    (bytes_of (contents name))
-    shelf shelf_now sink sink_now
+abbrev pub WroteByIfTold : Fault → (size : Contents → ℕ) → (text lines : Contents → ℕ → Text) → Option Contents
+    → ShelfSeen → ShelfSeen → SinkSeen → SinkSeen → Type 0
+WroteByIfTold e size text lines None shelf shelf_now sink sink_now = Unit {0}
+WroteByIfTold e size text lines (Some contents) shelf shelf_now sink sink_now =
+    WroteByLines e (size contents) (text contents) (lines contents) shelf shelf_now sink sink_now
 
 -- if the shelf tells its contents
+abbrev pub WroteBy : Fault → (size : Contents → ℕ) → (text lines : Contents → ℕ → Text) → ShelfSeen → ShelfSeen
+    → SinkSeen → SinkSeen → Type 0
+WroteBy e size text lines shelf shelf_now sink sink_now =
+    WroteByIfTold e size text lines shelf.contents shelf shelf_now sink sink_now
+
+-- how many bytes the file of this name has, none if it is not there, and its first ones
+abbrev pub size_of : Text → Contents → ℕ
+size_of name contents = length (bytes_of (contents name))
+
+abbrev pub first_of : Text → Contents → ℕ → Text
+first_of name contents n = take n (bytes_of (contents name))
+
+-- of one file, of whose bytes this text is due
+abbrev pub WroteEndedIfTold : Fault → (Text → Text) → Option Contents → Text → ShelfSeen → ShelfSeen → SinkSeen
+    → SinkSeen → Type 0
+WroteEndedIfTold e text told name shelf shelf_now sink sink_now =
+    WroteByIfTold e (size_of name) (λ contents n. text (first_of name contents n)) (first_of name) told shelf shelf_now
+    sink sink_now
+
 abbrev pub WroteEnded : Fault → (Text → Text) → Text → ShelfSeen → ShelfSeen → SinkSeen → SinkSeen → Type 0
-WroteEnded e text name shelf shelf_now sink sink_now = WroteEndedIfTold e text shelf.contents name shelf shelf_now sink
-    sink_now
+WroteEnded e text name shelf shelf_now sink sink_now =
+    WroteEndedIfTold e text shelf.contents name shelf shelf_now sink sink_now
 
 -- ---- how the run ends
 

@@ -1,9 +1,10 @@
 -- A text that is claimed, judged by the one that is due.
-use Rattle.std.specs.Prelude.{ℕ, ◌≡◌, ◌≢◌, ◌+◌, ◌<◌, ◌==◌, nat_lt, Bool, false, List, [], ◌∷◌, ◌++◌, drop, length}
-use Rattle.std.specs.Prelude.{Option, Some, None, codes, if◌then◌else◌, unwrap_or}
+use Rattle.std.specs.Prelude.{ℕ, ◌≡◌, ◌≢◌, ◌+◌, ◌<◌, ◌==◌, nat_lt, Bool, true, false, List, [], ◌∷◌, ◌++◌, drop}
+use Rattle.std.specs.Prelude.{length, Option, Some, None, codes, if◌then◌else◌}
 use Rattle.std.specs.Fmt.{decimal}
 use Rattle.std.specs.Str.{bytes_eq}
 use Rattle.file_runs.specs.Pieces.{pieces}
+use Rattle.file_runs.specs.Differing.{TellsAll, all_text, differing, differs_text, shown_due}
 use Rattle.file_runs.specs.declared.ends.End.{End}
 use Rattle.file_runs.specs.declared.ends.End.TheVariants as end
 use Rattle.file_runs.specs.Gain.{Text}
@@ -52,21 +53,19 @@ first_finding due claimed = found_after 0 (pieces due) (pieces claimed)
 abbrev pub same_text : ℕ → Text
 same_text lines = codes "same " ++ decimal lines ++ codes "\n"
 
-abbrev pub differs_text : ℕ → Text → Text
-differs_text number due = codes "differs " ++ decimal number ++ codes "\ndue " ++ due ++ codes "\n"
+-- if they are not the same: the first line that differs, or all that do
+abbrev pub other_text : (all : Bool) → (due claimed : Text) → ℕ → Option Text → Text
+other_text false due claimed number line = differs_text number (shown_due line)
+other_text true due claimed number line = all_text (differing due claimed)
 
--- the line that is due, as it is told
-abbrev pub shown_due : Option Text → Text
-shown_due line = unwrap_or line (codes "end")
-
-abbrev pub finding_due : Finding → Due
-finding_due (Same lines) = (end.Done, same_text lines)
-finding_due (Differs number line) = (end.Differs, differs_text number (shown_due line))
+abbrev pub finding_due : (all : Bool) → (due claimed : Text) → Finding → Due
+finding_due all due claimed (Same lines) = (end.Done, same_text lines)
+finding_due all due claimed (Differs number line) = (end.Differs, other_text all due claimed number line)
 
 -- the end and the text of a file that is judged
-abbrev pub judgement_due : (due file : Text) → Due
-judgement_due due file = if nat_lt verdicts_limit (length file) then (end.TooLong, [])
-    else finding_due (first_finding due file)
+abbrev pub judgement_due : (all : Bool) → (due file : Text) → Due
+judgement_due all due file = if nat_lt verdicts_limit (length file) then (end.TooLong, [])
+    else finding_due all due file (first_finding due file)
 
 -- ---- what it means
 
@@ -108,15 +107,20 @@ pub record TellsOther (due claimed told : Text) : Type 0 where
   pub other : claimed ≢ due
   pub told_is : told ≡ differs_text number (shown_due line)
 
+-- the first line that differs, or all that do
+abbrev pub TellsDiffering : (all : Bool) → (due claimed told : Text) → Type 0
+TellsDiffering false due claimed told = TellsOther due claimed told
+TellsDiffering true due claimed told = TellsAll due claimed told
+
 -- what the end and the text of a comparison tell
-abbrev pub Tells : (due claimed : Text) → End → (told : Text) → Type 0
-Tells due claimed end.Done told = TellsSame due claimed told
-Tells due claimed end.Differs told = TellsOther due claimed told
-Tells due claimed end.Usage told = ⊥
-Tells due claimed end.Topology told = ⊥
-Tells due claimed end.Script told = ⊥
-Tells due claimed end.NoEvent told = ⊥
-Tells due claimed end.TooLong told = (verdicts_limit < length claimed) × (told ≡ [])
+abbrev pub Tells : (all : Bool) → (due claimed : Text) → End → (told : Text) → Type 0
+Tells all due claimed end.Done told = TellsSame due claimed told
+Tells all due claimed end.Differs told = TellsDiffering all due claimed told
+Tells all due claimed end.Usage told = ⊥
+Tells all due claimed end.Topology told = ⊥
+Tells all due claimed end.Script told = ⊥
+Tells all due claimed end.NoEvent told = ⊥
+Tells all due claimed end.TooLong told = (verdicts_limit < length claimed) × (told ≡ [])
 
 -- ---- the last line
 

@@ -6,7 +6,9 @@ pub mod Lines
 pub mod Gathering
 pub mod Reading
 pub mod Showing
+pub mod Differing
 pub mod Judging
+pub mod FileRuns
 -- what clauses and crates above cite
 pub use Rattle.ide_types.specs.Names.{Text}
 pub use Rattle.script_events.specs.Parse.{IsLineAnswer}

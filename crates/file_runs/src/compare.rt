@@ -1,7 +1,8 @@
 //! The first line in which two texts differ.
-ghost use Rattle.std.specs.Prelude.{◌≡◌, ◌∷◌, ◌<◌, ◌^◌, IfOk, MatchOption, None, Some, length};
+ghost use Rattle.std.specs.Prelude.{◌≡◌, ◌∷◌, ◌<◌, ◌^◌, IfOk, MatchOption, None, Some, false, length};
+ghost use Rattle.file_runs.specs.Differing.{differs_text};
 ghost use Rattle.file_runs.specs.Pieces.{pieces};
-ghost use Rattle.file_runs.specs.Judging.{differs_text, first_finding, finding_due, same_text, LacksLine};
+ghost use Rattle.file_runs.specs.Judging.{first_finding, finding_due, same_text, LacksLine};
 
 use crate::End;
 use ide_types::OutOfMemory;
@@ -45,7 +46,8 @@ pub(crate) fn compare(
     due: &[u8],
     claimed: &[u8],
 ) -> Result<(End, Vec<u8>), OutOfMemory>
-    ensures { IfOk result (λ told. (told.0, told.1.items) ≡ finding_due (first_finding due.now claimed.now)) }
+    ensures { IfOk result (λ told. (told.0, told.1.items) ≡ finding_due false due.now claimed.now
+        (first_finding due.now claimed.now)) }
 {
     let mut due = due;
     let mut claimed = claimed;

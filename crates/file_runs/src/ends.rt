@@ -1,6 +1,6 @@
-//! How a part of the program ends.
+//! How a part of the program ends (this profile).
 
-/// How the program ends if nothing cuts it off (this profile).
+/// How the program ends if nothing cuts it off.
 #[derive(Clone, Copy, Debug, PartialEq, Eq)]
 pub enum End {
     /// All input was read, and all lines were written.
@@ -19,7 +19,7 @@ pub enum End {
     TooLong,
 }
 
-/// What cuts the program off (this profile).
+/// What cuts the program off.
 #[derive(Clone, Copy, Debug, PartialEq, Eq)]
 pub enum Fault {
     /// A file could not be read.

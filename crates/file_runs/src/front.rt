@@ -4,17 +4,9 @@ ghost use Rattle.cli_files.specs.Outside.{AsksFor, capped_count};
 ghost use Rattle.file_runs.specs.Front.{AskedPieces, FrontIfTold, Gave, GaveRestIfTold, GaveIfTold, IsReadIfTold};
 ghost use Rattle.file_runs.specs.Front.{ReadCause, ReadsOn};
 
+use crate::Fault;
 use cli_files::Shelf;
 use std::alloc::Global;
-
-/// Why a file was not read.
-#[derive(Clone, Copy, PartialEq, Eq)]
-pub enum Unread {
-    /// The shelf answered a fault.
-    Fault,
-    /// Want of memory.
-    Memory,
-}
 
 /// How much of a file is read at once, in bytes (this profile).
 pub(crate) const PIECE: usize = 4096;
@@ -25,7 +17,7 @@ fn read_on<S: Shelf>(
     name: &str,
     bytes: &mut Vec<u8>,
     piece: &mut [u8],
-) -> Result<usize, Unread>
+) -> Result<usize, Fault>
     requires room { 0 < length piece.old }
     requires piece { length piece.old ≤ 4096 }
     ensures same { (S.seen shelf.new).contents ≡ (S.seen shelf.old).contents }
@@ -45,22 +37,22 @@ fn read_on<S: Shelf>(
         result }
 {
     match shelf.read(name, bytes.len() as u64, piece) {
-        Err(_) => Err(Unread::Fault),
+        Err(_) => Err(Fault::Read),
         Ok(n) => match bytes.extend_from_slice(&piece[..n]) {
             Ok(()) => Ok(n),
-            Err(_) => Err(Unread::Memory),
+            Err(_) => Err(Fault::Memory),
         },
     }
 }
 
 /// Reads the first bytes of a file, at most `most` of them, and all if it has no more. No byte after them is asked for.
-/// Returns a `Unread` if a read failed or there was no memory.
+/// Returns a `Fault` if a read failed or there was no memory.
 pub fn read_front<S: Shelf>(
     alloc: Global,
     shelf: &mut S,
     name: &str,
     most: usize,
-) -> Result<Vec<u8>, Unread>
+) -> Result<Vec<u8>, Fault>
     requires some { 0 < most }
     requires size { most < 2 ^ 32 }
     ensures same { (S.seen shelf.new).contents ≡ (S.seen shelf.old).contents }

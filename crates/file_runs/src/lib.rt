@@ -4,6 +4,7 @@
 #![tactic(auto)]
 
 mod compare;
+mod differing;
 mod ends;
 mod files;
 mod front;
@@ -16,8 +17,8 @@ mod showing;
 mod writing;
 
 pub use ends::{End, Fault};
-pub use files::run_file;
-pub use front::{Unread, read_front};
+pub use files::{Gathered, Lines, run_file};
+pub use front::read_front;
 pub use judge::judge_file;
 pub use last::last_line;
 pub use lines::{FILE_LIMIT, LineWork};

@@ -1,4 +1,4 @@
-//! What is written for the lines of a file, and how a run over them ends.
+//! What is written for the lines of a file, and how a run over them ends (this profile).
 ghost use Rattle.std.specs.Prelude.{◌≡◌, ◌≢◌, ◌∷◌, [], ◌+◌, ◌<◌, ◌^◌, ℕ, List, Result, Err, IfOk, IfSome, OnOk, length};
 ghost use Rattle.std.specs.Prelude.{nat_lt, true, false};
 ghost use Rattle.script_events.specs.declared.fault.LineFault.{LineFault};
@@ -15,10 +15,10 @@ use ide_types::{Bytes, OutOfMemory};
 use script_events::{LineError, LineFault, fault_line};
 use std::alloc::Global;
 
-/// How many bytes of a file count (this profile).
+/// How many bytes of a file count.
 pub const FILE_LIMIT: usize = 16_777_216;
 
-/// What is written for the lines of a file, line by line (this profile).
+/// What is written for the lines of a file, line by line.
 pub trait LineWork {
     /// What is known of the lines so far.
     ghost Past: { Type 0 };

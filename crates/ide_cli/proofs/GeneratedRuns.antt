@@ -27,7 +27,7 @@ use Rattle.ide_runs.specs.declared.topologies.Loaded.TheVariants.{Sound}
 use Rattle.ide_runs.specs.Script.{AtEnd, Script, run_due, script_of_pieces, script_of, with_line}
 use Rattle.ide_runs.specs.Topologies.{loaded_topology}
 use Rattle.ide_cli.specs.GeneratedRuns.{RunsGenerated, generated_run_due}
-use Rattle.ide_cli.specs.Meaning.{CallIsAnswered, command_due}
+use Rattle.ide_cli.specs.Meaning.{CallRan, command_task}
 use Rattle.ide_cli.specs.Seen.{CallSeen}
 
 -- ---- the script
@@ -96,10 +96,12 @@ ends_by (Some c) contents due other read write quiet gained r is same ends =
     let here : due c ≡ other c = subst (λ (x : Contents). due x ≡ other x) (sym at) same in
     subst (λ (d : Option Due). EndsDue d read write quiet gained r) here ends
 
-pub runs_generated : (call : CallSeen) → CallIsAnswered call → RunsGenerated call
-runs_generated call answered contents topology script seed count told asks is_topology is_script few =
-    let same : command_due answered.migrated (command_asked call.words) contents ≡ Some (generated_run_due seed count) =
-    ap (λ (a : Option CommandRequest). command_due answered.migrated a contents) asks
+pub runs_generated : (call : CallSeen) → CallRan call → RunsGenerated call
+runs_generated call ran contents topology script seed count told asks is_topology is_script few =
+    let answered = ran.due_outcome in
+    let due = (command_task (command_asked call.words)).due answered.written in
+    let same : due contents ≡ Some (generated_run_due seed count) =
+    ap (λ (a : Option CommandRequest). (command_task a).due answered.written contents) asks
     ∙ (ap₂ run_due is_topology is_script ∙ generated_runs seed count few) in
-    ends_by call.shelf_before.contents contents (command_due answered.migrated (command_asked call.words))
-    (λ c. Some (generated_run_due seed count)) _ _ _ _ call.outcome told same answered.ran
+    ends_by call.shelf_before.contents contents due (λ c. Some (generated_run_due seed count)) _ _ _ _ call.outcome told
+    same answered.ran

@@ -1,7 +1,8 @@
+mod PacketLines
 pub mod Written
-mod Stops
-mod Furthers
+mod SoFar
 mod Requests
 mod GeneratedRuns
 mod Judging
 mod Telling
+mod Covering

@@ -13,27 +13,28 @@ use Rattle.ide_runs.specs.Why.{told_event_due, why_due}
 use Rattle.ide_runs.proofs.Whys.{told_event, told_none}
 use Rattle.cli_words.specs.Words.{command_asked}
 use Rattle.ide_cli.specs.Headline.{ToldUpToEvent}
-use Rattle.ide_cli.specs.Meaning.{CallIsAnswered, command_due}
+use Rattle.ide_cli.specs.Meaning.{CallRan, command_task}
 use Rattle.ide_cli.specs.Seen.{CallSeen}
 use Rattle.ide_cli.specs.Went.{AsksWhy, CameToEnd, IsExplained}
-use Rattle.ide_cli.proofs.Judging.{at_this_end, ends_told, there}
-use Rattle.ide_cli.proofs.Written.{at_end}
+use Rattle.ide_cli.proofs.Judging.{at_this_end, there}
+use Rattle.ide_cli.proofs.Written.{at_end, ends_told}
 
 why_is : (n : ℕ) (topology bytes : Text) (plan : Plan) (script : Script) → loaded_topology topology ≡ Sound plan
     → script ≡ script_of bytes → why_due n (Some topology) (Some bytes) ≡ Some (told_event_due n plan [] script)
 why_is n topology bytes plan script plan_is read = rw (plan_is, read) refl
 
-asked_is : (migrated : Text) (call : CallSeen) (plan : Plan) (script : Script) (n : ℕ) (a : AsksWhy call plan script n)
-    → command_due migrated (command_asked call.words) a.contents ≡ why_due n (Some a.topology) (Some a.bytes)
-asked_is migrated call plan script n a = rw (a.asks, a.topology_is, a.script_is) refl
+asked_is : (written : Text) (call : CallSeen) (plan : Plan) (script : Script) (n : ℕ) (a : AsksWhy n call plan script)
+    → (command_task (command_asked call.words)).due written a.contents ≡ why_due n (Some a.topology) (Some a.bytes)
+asked_is written call plan script n a = rw (a.asks, a.topology_is, a.script_is) refl
 
-pub is_explained : (call : CallSeen) → CallIsAnswered call → IsExplained call
-is_explained call answered = at_this_end call.outcome (λ e ended plan script n held a held_before.
+pub is_explained : (call : CallSeen) → CallRan call → IsExplained call
+is_explained call ran = at_this_end call.outcome (λ e ended plan script n held a held_before.
+    let answered = ran.due_outcome in
     let due = told_event_due n plan [] script in
-    let is = asked_is answered.migrated call plan script n a
+    let is = asked_is answered.written call plan script n a
     ∙ why_is n a.topology a.bytes plan script a.plan_is a.read in
     let came = there _ _ _ (HasGained call.sink_before.held call.sink_after.held) call.outcome e due ended
-    (ends_told call a.contents (command_due answered.migrated (command_asked call.words)) due _ _ _
+    (ends_told call a.contents ((command_task (command_asked call.words)).due answered.written) due _ _ _
     (HasGained call.sink_before.held call.sink_after.held) a.are_told is answered.ran) in
     let holds = came.1 ∙ ap (option_map (λ (t : Text). t ++ due.1)) held_before in
     record {
@@ -47,13 +48,15 @@ is_explained call answered = at_this_end call.outcome (λ e ended plan script n 
 
 pub told_up_to_event : (call : CallSeen) → ToldUpToEvent call
 told_up_to_event call = at_end call.outcome (λ e ended plan script n a. record {
-  script = script;
   number = n;
-  asks_why = a;
-  first = take n (events_on plan script);
-  later = drop n (events_on plan script);
-  events_are = take-append-drop n (events_on plan script);
+  over = record {
+    script = script;
+    asks_for = a;
+    first = take n (events_on plan script);
+    later = drop n (events_on plan script);
+    events_are = take-append-drop n (events_on plan script);
+    history_is = refl;
+    went = inl (subst CameToEnd (sym ended) tt);
+  };
   up_to = omega (arith, length-take n (events_on plan script));
-  history_is = refl;
-  went = inl (subst CameToEnd (sym ended) tt);
 })

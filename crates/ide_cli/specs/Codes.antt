@@ -1,17 +1,18 @@
--- The exit code of each status.
-use Rattle.std.specs.Prelude.{ℕ}
-use Rattle.ide_cli.specs.declared.status.Status.{Status}
-use Rattle.ide_cli.specs.declared.status.Status.TheVariants.{Done, Differs, Usage, Topology, Script}
-use Rattle.ide_cli.specs.declared.status.Status.TheVariants.{ReadFault, WriteFault, Memory, TooLong, NoEvent}
+-- The exit code of each end and each fault.
+use Rattle.std.specs.Prelude.{ℕ, Result, Ok, Err}
+use Rattle.file_runs.specs.declared.ends.End.{End}
+use Rattle.file_runs.specs.declared.ends.End.TheVariants as end
+use Rattle.file_runs.specs.declared.ends.Fault.{Fault}
+use Rattle.file_runs.specs.declared.ends.Fault.TheVariants as fault
 
-abbrev pub code_of : Status → ℕ
-code_of Done = 0
-code_of Differs = 1
-code_of Usage = 2
-code_of Topology = 3
-code_of Script = 4
-code_of ReadFault = 5
-code_of WriteFault = 6
-code_of Memory = 7
-code_of TooLong = 8
-code_of NoEvent = 9
+abbrev pub code_of : Result End Fault → ℕ
+code_of (Ok end.Done) = 0
+code_of (Ok end.Differs) = 1
+code_of (Ok end.Usage) = 2
+code_of (Ok end.Topology) = 3
+code_of (Ok end.Script) = 4
+code_of (Err fault.Read) = 5
+code_of (Err fault.Write) = 6
+code_of (Err fault.Memory) = 7
+code_of (Ok end.TooLong) = 8
+code_of (Ok end.NoEvent) = 9

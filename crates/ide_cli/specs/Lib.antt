@@ -6,5 +6,3 @@ pub mod GeneratedRuns
 pub mod Went
 pub mod Headline
 pub mod Laws
-pub mod Reads
-pub mod SoFar

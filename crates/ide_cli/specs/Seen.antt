@@ -1,14 +1,10 @@
 -- What is seen of a call from outside: its words, what its shelf and its sink show before and after, and how it ends.
-use Rattle.std.specs.Prelude.{List, map, Result, Ok, Err, String, Vec, string_bytes}
+use Rattle.std.specs.Prelude.{List, map, Result, String, Vec, string_bytes}
 use Rattle.std.proofs.Common.{Global}
 use Rattle.cli_files.specs.Outside.{ShelfSeen, SinkSeen}
 use Rattle.file_runs.specs.Gain.{Text}
 use Rattle.file_runs.specs.declared.ends.End.{End}
-use Rattle.file_runs.specs.declared.ends.End.TheVariants as end
 use Rattle.file_runs.specs.declared.ends.Fault.{Fault}
-use Rattle.file_runs.specs.declared.ends.Fault.TheVariants as fault
-use Rattle.ide_cli.specs.declared.status.Status.{Status}
-use Rattle.ide_cli.specs.declared.status.Status.TheVariants as status
 
 pub record CallSeen : Type 0 where
   pub words : List Text
@@ -30,24 +26,11 @@ call_seen of_shelf of_sink words shelf shelf_now sink sink_now outcome = record 
   outcome = outcome;
 }
 
--- what a status says of how the program ended
-abbrev pub outcome_of_status : Status → Result End Fault
-outcome_of_status status.Done = Ok end.Done
-outcome_of_status status.Differs = Ok end.Differs
-outcome_of_status status.Usage = Ok end.Usage
-outcome_of_status status.Topology = Ok end.Topology
-outcome_of_status status.Script = Ok end.Script
-outcome_of_status status.TooLong = Ok end.TooLong
-outcome_of_status status.NoEvent = Ok end.NoEvent
-outcome_of_status status.ReadFault = Err fault.Read
-outcome_of_status status.WriteFault = Err fault.Write
-outcome_of_status status.Memory = Err fault.Memory
-
--- of the program, which ends with a status
+-- of the program
 abbrev pub run_seen : {S O : Type 0} → (S → ShelfSeen) → (O → SinkSeen) → Vec (String Global) Global
-    → (shelf shelf_now : S) → (sink sink_now : O) → Status → CallSeen
-run_seen of_shelf of_sink words shelf shelf_now sink sink_now status =
-    call_seen of_shelf of_sink words.items shelf shelf_now sink sink_now (outcome_of_status status)
+    → (shelf shelf_now : S) → (sink sink_now : O) → Result End Fault → CallSeen
+run_seen of_shelf of_sink words shelf shelf_now sink sink_now outcome =
+    call_seen of_shelf of_sink words.items shelf shelf_now sink sink_now outcome
 
 -- the bytes of the words
 abbrev pub said_words : Vec (String Global) Global → List Text

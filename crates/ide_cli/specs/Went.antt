@@ -1,12 +1,16 @@
 -- The histories that a call goes over and does not write.
-use Rattle.std.specs.Prelude.{ℕ, ◌≡◌, ◌≢◌, ◌⊎◌, ◌+◌, ◌<◌, ◌≤◌, List, [], ◌∷◌, ◌++◌, length, Some, Result, Ok, Err, IfOk}
+use Rattle.std.specs.Prelude.{ℕ, ◌≡◌, ◌≢◌, ◌⊎◌, ◌+◌, ◌<◌, ◌≤◌, Bool, true, false, List, [], ◌∷◌, ◌++◌, length, Some}
+use Rattle.std.specs.Prelude.{Result, Ok, Err, IfOk, ◌↔◌}
 use Rattle.cli_files.specs.Outside.{Contents}
-use Rattle.cli_words.specs.Words.{command_asked, generate, judge, why}
+use Rattle.cli_words.specs.Words.{CommandRequest, command_asked, cover, cover_events, generate, judge, judge_all, run}
+use Rattle.cli_words.specs.Words.{run_packets, why}
 use Rattle.ide_types.specs.declared.plan.Plan.{Plan}
 use Rattle.history_events.specs.GeneratedEvents.{generated_events}
 use Rattle.history_events.specs.GeneratedTopology.{the_plan}
 use Rattle.script_events.specs.declared.event.Event.{Event}
 use Rattle.spec_keys.specs.History.{History}
+use Rattle.spec_links.specs.Laws.{NoForgery}
+use Rattle.rule_counts.specs.Forged.{forged_count}
 use Rattle.law_text.specs.Runs.{history_on}
 use Rattle.file_runs.specs.declared.ends.End.{End}
 use Rattle.file_runs.specs.declared.ends.End.TheVariants as end
@@ -14,6 +18,7 @@ use Rattle.file_runs.specs.declared.ends.Fault.{Fault}
 use Rattle.file_runs.specs.Gain.{Text}
 use Rattle.ide_runs.specs.{Tells}
 use Rattle.ide_runs.specs.declared.topologies.Loaded.TheVariants.{Sound}
+use Rattle.ide_runs.specs.Cover.{counts_text, events_rules}
 use Rattle.ide_runs.specs.Generated.{generated_history, generated_line}
 use Rattle.ide_runs.specs.Script.{AtEnd, Script, due_after, run_end, events_on, script_of}
 use Rattle.ide_runs.specs.Topologies.{loaded_topology}
@@ -37,23 +42,51 @@ pub record WentOverGenerated (call : CallSeen) (plan : Plan) (h : History) : Typ
   pub held_before : call.sink_before.held ≡ Some held
   pub holds_now : call.sink_after.held ≡ Some (held ++ generated_line (generated_history seed count))
 
--- ---- a text that is judged
+-- ---- a topology and a script
 
--- The words ask to judge a text: the shelf tells its contents, in which the names that the words give are a sound
--- topology of this plan, and this script.
-pub record NamesPlanAndScript (call : CallSeen) (plan : Plan) (script : Script) : Type 0 where
+-- The words ask for something of a topology and a script: the shelf tells its contents, in which the names that the
+-- words give are a sound topology of this plan, and this script.
+pub record Asks (request : (topology script : Text) → CommandRequest) (call : CallSeen) (plan : Plan) (script : Script)
+    : Type 0 where
   pub contents : Contents
   pub are_told : call.shelf_before.contents ≡ Some contents
   pub topology_name : Text
   pub script_name : Text
-  pub verdicts_name : Text
-  pub asks : command_asked call.words ≡ Some (judge topology_name script_name verdicts_name)
+  pub asks : command_asked call.words ≡ Some (request topology_name script_name)
   pub topology : Text
   pub topology_is : contents topology_name ≡ Some topology
   pub plan_is : loaded_topology topology ≡ Sound plan
   pub bytes : Text
   pub script_is : contents script_name ≡ Some bytes
   pub read : script ≡ script_of bytes
+
+-- for a run of the script, in which the packets that are sealed are shown or not
+abbrev pub run_request : (packets : Bool) → (topology script : Text) → CommandRequest
+run_request false topology script = run topology script
+run_request true topology script = run_packets topology script
+
+abbrev pub AsksRun : (packets : Bool) → CallSeen → Plan → Script → Type 0
+AsksRun packets call plan script = Asks (run_request packets) call plan script
+
+-- to judge a text of this name, of which the first line that differs is named, or all that do
+abbrev pub judge_request : (all : Bool) → (verdicts topology script : Text) → CommandRequest
+judge_request false verdicts topology script = judge topology script verdicts
+judge_request true verdicts topology script = judge_all topology script verdicts
+
+abbrev pub AsksToJudge : (all : Bool) → Text → CallSeen → Plan → Script → Type 0
+AsksToJudge all verdicts call plan script = Asks (judge_request all verdicts) call plan script
+
+-- to tell the event of this number
+abbrev pub AsksWhy : ℕ → CallSeen → Plan → Script → Type 0
+AsksWhy n call plan script = Asks (λ topology script. why topology script n) call plan script
+
+-- to count the events that each rule answers, and to tell the rule of each event or not
+abbrev pub cover_request : (events : Bool) → (topology script : Text) → CommandRequest
+cover_request false topology script = cover topology script
+cover_request true topology script = cover_events topology script
+
+abbrev pub AsksCover : (events : Bool) → CallSeen → Plan → Script → Type 0
+AsksCover events call plan script = Asks (cover_request events) call plan script
 
 -- the call came to an end of its own
 abbrev pub CameToEnd : Result End Fault → Type 0
@@ -68,61 +101,52 @@ pub record WroteSome (call : CallSeen) : Type 0 where
   pub holds_now : call.sink_after.held ≡ Some (held ++ gained)
   pub some : gained ≢ []
 
--- The call judged a text by the history of a script: this is the history of the first of its events, up to some event,
+-- The call went over events of a script for such a request: this is the history of the first of them, up to some event,
 -- and the call came to an end of its own, or wrote.
-pub record WentOverJudged (call : CallSeen) (plan : Plan) (h : History) : Type 0 where
+pub record WentOver (request : (topology script : Text) → CommandRequest) (call : CallSeen) (plan : Plan) (h : History)
+    : Type 0 where
   pub script : Script
-  pub asks_judge : NamesPlanAndScript call plan script
+  pub asks_for : Asks request call plan script
   pub first : List Event
   pub later : List Event
   pub events_are : first ++ later ≡ events_on plan script
   pub history_is : h ≡ history_on plan [] first
   pub went : CameToEnd call.outcome ⊎ WroteSome call
+
+-- it judged a text by them
+pub record WentOverJudged (call : CallSeen) (plan : Plan) (h : History) : Type 0 where
+  pub all : Bool
+  pub verdicts : Text
+  pub over : WentOver (judge_request all verdicts) call plan h
+
+-- it told an event, up to which they are at most
+pub record WentUpTo (call : CallSeen) (plan : Plan) (h : History) : Type 0 where
+  pub number : ℕ
+  pub over : WentOver (λ topology script. why topology script number) call plan h
+  pub up_to : length over.first ≤ number
+
+-- it counted rules
+pub record WentOverCovered (call : CallSeen) (plan : Plan) (h : History) : Type 0 where
+  pub events : Bool
+  pub over : WentOver (cover_request events) call plan h
 
 -- ---- what is said of the text
 
 -- The sink gained a text, which tells of the claimed text whether it is the one that is due, or which line is the first
--- that differs; it gained nothing if the claimed text is too long.
-pub record HasSaid (due claimed held : Text) (call : CallSeen) (e : End) : Type 0 where
+-- that differs, or all that do; it gained nothing if the claimed text is too long.
+pub record HasSaid (all : Bool) (due claimed held : Text) (call : CallSeen) (e : End) : Type 0 where
   pub told : Text
   pub holds_now : call.sink_after.held ≡ Some (held ++ told)
-  pub tells : Tells due claimed e told
+  pub tells : Tells all due claimed e told
 
 -- if a call that judges a text comes to an end of its own, on a script that was read to its end
 abbrev pub JudgedCall : CallSeen → Type 0
-JudgedCall call = IfOk call.outcome (λ e. (plan : Plan) (script : Script) (a : NamesPlanAndScript call plan script)
-    (claimed held : Text) → script.ending ≡ AtEnd → a.contents a.verdicts_name ≡ Some claimed
-    → call.sink_before.held ≡ Some held → HasSaid (due_after plan [] script).1 claimed held call e)
+JudgedCall call = IfOk call.outcome (λ e. (all : Bool) (plan : Plan) (script : Script) (verdicts : Text)
+    (a : AsksToJudge all verdicts call plan script) (claimed held : Text) → script.ending ≡ AtEnd
+    → a.contents verdicts ≡ Some claimed → call.sink_before.held ≡ Some held
+    → HasSaid all (due_after plan [] script).1 claimed held call e)
 
 -- ---- an event that is told
-
--- The words ask why the event of this number got its verdict: the shelf tells its contents, in which the names that the
--- words give are a sound topology of this plan, and this script.
-pub record AsksWhy (call : CallSeen) (plan : Plan) (script : Script) (n : ℕ) : Type 0 where
-  pub contents : Contents
-  pub are_told : call.shelf_before.contents ≡ Some contents
-  pub topology_name : Text
-  pub script_name : Text
-  pub asks : command_asked call.words ≡ Some (why topology_name script_name n)
-  pub topology : Text
-  pub topology_is : contents topology_name ≡ Some topology
-  pub plan_is : loaded_topology topology ≡ Sound plan
-  pub bytes : Text
-  pub script_is : contents script_name ≡ Some bytes
-  pub read : script ≡ script_of bytes
-
--- The call told an event of a script: this is the history of the first of its events, up to that event at most, and the
--- call came to an end of its own, or wrote.
-pub record WentUpTo (call : CallSeen) (plan : Plan) (h : History) : Type 0 where
-  pub script : Script
-  pub number : ℕ
-  pub asks_why : AsksWhy call plan script number
-  pub first : List Event
-  pub later : List Event
-  pub events_are : first ++ later ≡ events_on plan script
-  pub up_to : length first ≤ number
-  pub history_is : h ≡ history_on plan [] first
-  pub went : CameToEnd call.outcome ⊎ WroteSome call
 
 -- this is the event of a script that has this number, from 1, and this the history of the events before it
 pub record IsEventAt (plan : Plan) (script : Script) (n : ℕ) (h : History) (e : Event) : Type 0 where
@@ -143,4 +167,25 @@ pub record ToldWhy (plan : Plan) (script : Script) (n : ℕ) (held : Text) (call
 -- if a call that is asked why an event got its verdict comes to an end of its own
 abbrev pub IsExplained : CallSeen → Type 0
 IsExplained call = IfOk call.outcome (λ e. (plan : Plan) (script : Script) (n : ℕ) (held : Text)
-    → AsksWhy call plan script n → call.sink_before.held ≡ Some held → ToldWhy plan script n held call e)
+    → AsksWhy n call plan script → call.sink_before.held ≡ Some held → ToldWhy plan script n held call e)
+
+-- ---- rules that are counted
+
+-- The sink gained what is due of the rules: of each event, in order, those that are told of it, if they are asked for;
+-- then of each rule that can answer the count of the events, and effects of their packets, that it answers in the
+-- history of all events; and at last at how many arrivals a tag was forged there: at none exactly if no forgery was made.
+pub record HasCounted (events : Bool) (plan : Plan) (script : Script) (held : Text) (call : CallSeen) (e : End) :
+    Type 0
+  where
+    pub ends : e ≡ end.Done
+    pub holds_now : call.sink_after.held ≡ Some (held
+        ++ (events_rules events plan [] (events_on plan script)
+        ++ counts_text plan (history_on plan [] (events_on plan script))))
+    pub forged : (forged_count plan (history_on plan [] (events_on plan script)) ≡ 0)
+        ↔ NoForgery plan (history_on plan [] (events_on plan script))
+
+-- if a call that counts rules comes to an end of its own, on a script that was read to its end
+abbrev pub CountedRules : CallSeen → Type 0
+CountedRules call = IfOk call.outcome (λ e. (events : Bool) (plan : Plan) (script : Script) (held : Text)
+    → AsksCover events call plan script → script.ending ≡ AtEnd → call.sink_before.held ≡ Some held
+    → HasCounted events plan script held call e)

@@ -1,15 +1,9 @@
 //! The command `show`: the lines of a packet file.
 
-ghost use Rattle.std.specs.Prelude.{◌≡◌, ◌≢◌, ◌+◌, ◌≤◌, IfErr, IfOk, option_map, take};
-ghost use Rattle.cli_files.specs.Outside.{AsksFor};
-ghost use Rattle.file_runs.specs.Front.{AskedPieces, Gave, bytes_of};
-ghost use Rattle.file_runs.specs.Gathering.{GoesOn, NoFurther, ReadAsFar};
-ghost use Rattle.file_runs.specs.Lines.{file_limit};
-ghost use Rattle.file_runs.specs.Outcome.{RanOnShelf};
-ghost use Rattle.ide_cli.specs.Meaning.{show_due};
+ghost use Rattle.std.specs.Prelude.{◌≡◌, ◌≢◌};
+ghost use Rattle.file_runs.specs.FileRuns.{FileRun};
+ghost use Rattle.ide_cli.specs.Meaning.{show_task};
 ghost use Rattle.ide_cli.specs.Packets.{long_packet, nothing_due, shown_line, whole_packet};
-ghost use Rattle.ide_cli.specs.SoFar.{shown_so_far};
-ghost use Rattle.ide_runs.specs.SoFar.{WroteBy};
 
 use cli_files::{Shelf, Sink};
 use file_runs::{End, Fault, LineWork, parse_packet, run_file, show};
@@ -81,23 +75,8 @@ pub(crate) fn show_packets<S: Shelf, O: Sink>(
     shelf: &mut S,
     out: &mut O,
 ) -> Result<End, Fault>
-    ensures end { IfOk result (λ e. e ≢ End.Usage) }
-    ensures unjudged { IfOk result (λ e. e ≢ End.Differs) }
-    ensures present { IfOk result (λ e. e ≢ End.NoEvent) }
-    ensures due_outcome { RanOnShelf (λ contents. option_map show_due (contents packets.now)) (S.seen shelf.old)
-        (S.seen shelf.new) (O.seen out.old) (O.seen out.new) result }
-    ensures output_so_far { IfErr result (λ e. WroteBy e (λ contents n. shown_so_far
-        (take n (bytes_of (contents packets.now)))) (λ contents n. take n (bytes_of (contents packets.now)))
-        (S.seen shelf.old) (S.seen shelf.new) (O.seen out.old) (O.seen out.new)) }
-    ensures reads_no_further { IfOk result (λ e. ReadAsFar (λ contents. NoFurther (GoesOn shown_line nothing_due tt)
-        (bytes_of (contents packets.now))) (S.seen shelf.old) (S.seen shelf.new)) }
-    ensures file_names { AsksFor packets.now (S.seen shelf.old).asked (S.seen shelf.new).asked }
-    ensures read_limit { (S.seen shelf.new).given ≤ (S.seen shelf.old).given + (file_limit + 1) }
-    ensures read_pieces { AskedPieces (S.seen shelf.old).longest (S.seen shelf.new).longest }
-    ensures files_too_long { IfOk result (λ e. e ≡ End.TooLong → Gave (S.seen shelf.old).given (file_limit + 1)
-        (S.seen shelf.new).given) }
-    ensures whole_files { IfOk result (λ e. e ≡ End.Done → (S.seen shelf.new).given
-        ≤ (S.seen shelf.old).given + file_limit) }
+    ensures { FileRun (show_task packets.now) (S.seen shelf.old) (S.seen shelf.new) (O.seen out.old) (O.seen out.new)
+        result }
 {
     let mut work = PacketWork::new(alloc);
     run_file(alloc, &mut work, packets, shelf, out)

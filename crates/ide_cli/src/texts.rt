@@ -1,6 +1,5 @@
 //! The script and the topology of generated events, as texts.
 
-ghost use Rattle.std.specs.Prelude.{◌≡◌, ◌≤◌, IfOk};
 ghost use Rattle.file_runs.specs.Outcome.{Ran};
 ghost use Rattle.ide_cli.specs.Meaning.{script_text_due, topology_text_due};
 
@@ -17,8 +16,7 @@ pub(crate) fn generate_script<O: Sink>(
     count: u32,
     out: &mut O,
 ) -> Result<End, Fault>
-    ensures end { IfOk result (λ e. e ≡ End.Done) }
-    ensures ran { Ran (script_text_due seed count) (O.seen out.old) (O.seen out.new) result }
+    ensures { Ran (script_text_due seed count) (O.seen out.old) (O.seen out.new) result }
 {
     match script_text(alloc, seed, count) {
         Ok(text) => finish(out, End::Done, &text),
@@ -29,8 +27,7 @@ pub(crate) fn generate_script<O: Sink>(
 /// `generate SEED COUNT --topology`: the topology that they run on, which is the same for all.
 #[inline(never)]
 pub(crate) fn generate_topology<O: Sink>(alloc: Global, out: &mut O) -> Result<End, Fault>
-    ensures end { IfOk result (λ e. e ≡ End.Done) }
-    ensures ran { Ran topology_text_due (O.seen out.old) (O.seen out.new) result }
+    ensures { Ran topology_text_due (O.seen out.old) (O.seen out.new) result }
 {
     match topology_text(alloc) {
         Ok(text) => finish(out, End::Done, &text),

@@ -1,7 +1,7 @@
 -- A topology that is migrated: its first bytes give what the whole file gives.
-use Rattle.std.proofs.Common.{◌≡◌, ◌≢◌, ◌≤◌, ◌+◌, ◌⊎◌, ℕ, [], length, take, true, false, Bool, Option, Some, None}
+use Rattle.std.proofs.Common.{◌≡◌, ◌≤◌, ◌⊎◌, [], length, take, true, false, Bool, Option, Some, None}
 use Rattle.std.proofs.Common.{Result, Ok, Err, refl, ap, inr, subst, ◌∙◌, arith, option_map}
-use Rattle.std.specs.Prelude.{IfOk, nat_lt, if◌then◌else◌}
+use Rattle.std.specs.Prelude.{nat_lt, if◌then◌else◌}
 use Rattle.std.proofs.lemmas.Bool.Decides.{nat_tests}
 use Rattle.std.proofs.lemmas.List.{take_all}
 use Rattle.cli_files.specs.Outside.{Contents, ShelfSeen, SinkSeen}
@@ -9,18 +9,19 @@ use Rattle.ide_types.specs.declared.plan.Plan.{Plan}
 use Rattle.topology.specs.Meaning.{plan_of}
 use Rattle.topology.specs.Migration.{IsMigrated}
 use Rattle.file_runs.specs.declared.ends.End.{End}
-use Rattle.file_runs.specs.declared.ends.End.TheVariants as end
 use Rattle.file_runs.specs.declared.ends.Fault.{Fault}
 use Rattle.file_runs.specs.declared.ends.Fault.TheVariants as fault
-use Rattle.file_runs.specs.declared.front.Unread.{Unread}
+use Rattle.file_runs.specs.FileRuns.{FileRun}
 use Rattle.file_runs.specs.Front.{FrontIfTold, Gave, UnreadCause}
 use Rattle.file_runs.specs.Gain.{Text, HasGained}
-use Rattle.file_runs.proofs.WholeFiles.{fault_of, gained_nothing, ran_after, stopped}
+use Rattle.file_runs.proofs.FileRuns.{IsRead, front_cut, front_first, front_ran, within_file}
+use Rattle.file_runs.proofs.WholeFiles.{gained_nothing, ran_after, stopped}
 use Rattle.ide_runs.specs.declared.topologies.Loaded.TheVariants.{Sound, Long}
 use Rattle.ide_runs.specs.Loading.{topology_limit}
-use Rattle.ide_runs.specs.Migrating.{IsFailure, IsFileMigrated, MigratesFile, WritesMigrated}
+use Rattle.ide_runs.specs.Migrating.{IsFailure, MigratesFile, WritesMigrated}
+use Rattle.ide_runs.specs.Tasks.{migrate_task}
 use Rattle.ide_runs.specs.Topologies.{by_plan, loaded_topology, migrate_due, migrated_as_text}
-use Rattle.ide_runs.proofs.Loads.{due_loaded, loads_front}
+use Rattle.ide_runs.proofs.Loads.{due_loaded, loads_front, migrated_ends}
 
 sound_long : (plan : Plan) → Long ≡ Sound plan → ⊥
 sound_long plan is = cc
@@ -64,19 +65,23 @@ by_told None name front text r read migrates = tt
 by_told (Some contents) name front text r read migrates = migrates_file contents name front text r read migrates
 
 pub migrated_file : (name front : Text) (s0 s1 : ShelfSeen) (o0 o1 : SinkSeen) (r : Result End Fault)
-    → FrontIfTold s0.contents name 1048577 front → s1.faults ≡ s0.faults → WritesMigrated front o0 o1 r
-    → IsFileMigrated name s0 s1 o0 o1 r
-migrated_file name front s0 s1 o0 o1 r read quiet w =
+    → FrontIfTold s0.contents name 1048577 front → s1.faults ≡ s0.faults → length front ≤ 1048577
+    → Gave s0.given (length front) s1.given → IsRead 1048577 name s0 s1 → WritesMigrated front o0 o1 r
+    → FileRun (migrate_task name) s0 s1 o0 o1 r
+migrated_file name front s0 s1 o0 o1 r read quiet most gave is_read w =
     let text = w.migrated in
     let is = loads_front Long (λ b. by_plan (plan_of b)) s0.contents name front (Ok (loaded_topology front)) read refl
     in
     let due_is = due_loaded loaded_topology (migrated_as_text text) s0.contents name (loaded_topology front) is in
-    record {
-      migrated = text;
-      migrates = by_told s0.contents name front text r read w.migrates;
+    front_ran (migrate_task name) 1048577 name (front_first _ _ _ _ name) s0 s1 o0 o1 (migrate_due text front) r is_read
+    (record {
+      written = text;
+      may_write = by_told s0.contents name front text r read w.migrates;
       ran = ran_after s0.contents (λ contents. option_map (migrate_due text) (contents name)) (migrate_due text front)
           s0.faults s1.faults o0.faults o1.faults (HasGained o0.held o1.held) r due_is quiet w.ran;
-    }
+      alone = tt;
+    }) (within_file s0 s1 name is_read.within)
+    (migrated_ends (migrate_task name) text front s0.given s1.given refl (λ past. past) most gave) w.ran
 
 -- ---- a file that could not be read
 
@@ -84,23 +89,14 @@ pub failed_migration : (told : Option Contents) (name : Text) (f : Fault) → Mi
 failed_migration None name f = tt
 failed_migration (Some contents) name f = λ bytes plan is sound. inr (refl, tt)
 
-pub stopped_migration : (name : Text) (s0 s1 : ShelfSeen) (o : SinkSeen) (e : Unread)
-    → UnreadCause s0.faults s1.faults s0.contents name e → IsFileMigrated name s0 s1 o o (Err (fault_of e))
-stopped_migration name s0 s1 o e cause = record {
-  migrated = [];
-  migrates = failed_migration s0.contents name (fault_of e);
-  ran = stopped s0.contents (λ contents. option_map (migrate_due []) (contents name)) name s0.faults s1.faults _ _
-      o.held
-      e (λ contents lacks. ap (option_map (migrate_due [])) lacks) cause;
-}
-
--- ---- how much was given
-
-done_is_short : (e : End) → e ≡ end.Done → e ≢ end.TooLong
-done_is_short e is bad = cc
-
-pub whole_given : (r : Result End Fault) (n before now : ℕ) → Gave before n now
-    → IfOk r (λ e. e ≢ end.TooLong → n ≤ 1048576) → IfOk r (λ e. e ≡ end.Done → now ≤ before + 1048576)
-whole_given (Ok e) n before now gave few = λ is. let least : n ≤ 1048576 = few (done_is_short e is) in omega
-    (arith, gave.1, least)
-whole_given (Err f) n before now gave few = few
+pub stopped_migration : (name : Text) (s0 s1 : ShelfSeen) (o : SinkSeen) (e : Fault) → IsRead 1048577 name s0 s1
+    → UnreadCause s0.faults s1.faults s0.contents name e → FileRun (migrate_task name) s0 s1 o o (Err e)
+stopped_migration name s0 s1 o e is_read cause =
+    front_cut (migrate_task name) 1048577 name (front_first _ _ _ _ name) s0 s1 o e is_read
+    (record {
+      written = [];
+      may_write = failed_migration s0.contents name e;
+      ran = stopped s0.contents (λ contents. option_map (migrate_due []) (contents name)) name s0.faults s1.faults _ _
+          o.held e (λ contents lacks. ap (option_map (migrate_due [])) lacks) cause;
+      alone = tt;
+    })

@@ -2,7 +2,7 @@
 -- same verdict, the one that is due, and write the same line. The world follows that past, since each of its steps
 -- gives the verdict that is due.
 use Rattle.std.proofs.Common.{◌≡◌, ℕ, ◌+◌, ◌==◌, Bool, true, false, List, [], ◌∷◌, length, Option, Some, None, Result}
-use Rattle.std.proofs.Common.{Ok, Err, refl, sym, ap, ◌∙◌, subst, arith, append_assoc}
+use Rattle.std.proofs.Common.{Ok, Err, refl, sym, ap, ◌∙◌, ◌++◌, subst, arith, append_assoc}
 use Rattle.std.specs.Prelude.{nat_lt, sum_by}
 use Rattle.std.proofs.lemmas.List.Sums.{sum_by-cons}
 use Rattle.ide_types.specs.declared.plan.Plan.{Plan}
@@ -25,12 +25,13 @@ use Rattle.file_runs.specs.Outcome.{Due}
 use Rattle.file_runs.specs.Pieces.{pieces}
 use Rattle.file_runs.specs.Lines.{after, cut_text, file_due, go_on, is_over, process, unended_due}
 use Rattle.ide_runs.specs.Script.{Script, AtEnd, script_ended, with_line, unended_line, script_of_pieces, run_end}
-use Rattle.ide_runs.specs.Script.{last_line, due_after, events_on, script_due}
+use Rattle.ide_runs.specs.Script.{last_line, due_after, events_on, script_due, script_of}
 use Rattle.file_runs.specs.Gathering.{GoesOn, ended_text}
 use Rattle.ide_runs.specs.Reads.{ScriptGoesOn}
 use Rattle.ide_runs.specs.SoFar.{script_so_far}
-use Rattle.ide_runs.specs.Works.{RunningView, ScriptPast, Follows, EventCame, VerdictCame, totals_with, ran_event}
-use Rattle.ide_runs.specs.Works.{by_meaning, closing_due, ran_line}
+use Rattle.ide_runs.specs.Texts.{texts_after, texts_due, texts_on, texts_so_far}
+use Rattle.ide_runs.specs.Works.{EventText, RunningView, ScriptPast, Follows, EventCame, VerdictCame, totals_with}
+use Rattle.ide_runs.specs.Works.{closing_due, line_ran, meaning_ran, ran_event, ran_line, verdict_line}
 
 -- ---- the world follows the past
 
@@ -113,57 +114,98 @@ past_of : Plan → History → ScriptPast
 past_of plan h = record { plan = plan; history = h }
 
 -- a line before what comes later
-one_line : (plan : Plan) (n : ℕ) (h : History) (m : Result (Option ScriptEvent) LineFault) (later : ScriptPast → Due)
-    (script : Script) → ((g : History) → later (past_of plan g) ≡ due_after plan g script)
-    → go_on n (by_meaning (past_of plan h) m) later ≡ due_after plan h (with_line n m script)
+one_line : (text : EventText) (plan : Plan) (n : ℕ) (h : History) (m : Result (Option ScriptEvent) LineFault)
+    (later : ScriptPast → Due) (script : Script)
+    → ((g : History) → later (past_of plan g) ≡ texts_after text plan g script)
+    → go_on n (meaning_ran text (past_of plan h) m) later ≡ texts_after text plan h (with_line n m script)
 unfolding past_of
-one_line plan n h (Err fault) later script rest = refl
-one_line plan n h (Ok None) later script rest = rest h
-one_line plan n h (Ok (Some e)) later script rest =
+one_line text plan n h (Err fault) later script rest = refl
+one_line text plan n h (Ok None) later script rest = rest h
+one_line text plan n h (Ok (Some e)) later script rest =
     let x = event_of plan e in
     let g = history_with_event plan h x in
-    let text = line_of (length h + 1) (verdict_by_ports plan.peers (due plan h x)) in
-    ap (after text) (rest g) ∙ ap (λ (t : Text). (run_end script.ending, t))
-    (sym (append_assoc text (text_on plan g (events_on plan script))
+    let first = text plan h (x, due plan h x) in
+    ap (after first) (rest g) ∙ ap (λ (t : Text). (run_end script.ending, t))
+    (sym (append_assoc first (texts_on text plan g (events_on plan script))
     (last_line script.ending (history_on plan g (events_on plan script)))))
 
-unended_is : (plan : Plan) (n : ℕ) (piece : Text) (h : History) (b : Bool) → nat_lt 20000 (length piece) ≡ b
-    → unended_due n piece ≡ due_after plan h (unended_line n piece)
-unended_is plan n piece h true is = rw is refl
-unended_is plan n piece h false is = rw is refl
+unended_is : (text : EventText) (plan : Plan) (n : ℕ) (piece : Text) (h : History) (b : Bool)
+    → nat_lt 20000 (length piece) ≡ b → unended_due n piece ≡ texts_after text plan h (unended_line n piece)
+unended_is text plan n piece h true is = rw is refl
+unended_is text plan n piece h false is = rw is refl
 
-last_piece : (plan : Plan) (over : Bool) (n : ℕ) (h : History) (piece : Text) (b : Bool) → (length piece == 0) ≡ b
-    → process ran_line closing_due over n (past_of plan h) (piece ∷ [])
-    ≡ due_after plan h (script_of_pieces over n (piece ∷ []))
+last_piece : (text : EventText) (plan : Plan) (over : Bool) (n : ℕ) (h : History) (piece : Text) (b : Bool)
+    → (length piece == 0) ≡ b → process (line_ran text) closing_due over n (past_of plan h) (piece ∷ [])
+    ≡ texts_after text plan h (script_of_pieces over n (piece ∷ []))
 unfolding past_of
-last_piece plan true n h piece b is = unended_is plan n piece h (nat_lt 20000 (length piece)) refl
-last_piece plan false n h piece true is = rw is refl
-last_piece plan false n h piece false is =
-    rw is (one_line plan n h (line_meaning piece) closing_due (script_ended AtEnd) (λ g. refl))
+last_piece text plan true n h piece b is = unended_is text plan n piece h (nat_lt 20000 (length piece)) refl
+last_piece text plan false n h piece true is = rw is refl
+last_piece text plan false n h piece false is =
+    rw is (one_line text plan n h (line_meaning piece) closing_due (script_ended AtEnd) (λ g. refl))
 
-script_runs : (plan : Plan) (over : Bool) (n : ℕ) (h : History) (pieces : List Text)
-    → process ran_line closing_due over n (past_of plan h) pieces ≡ due_after plan h (script_of_pieces over n pieces)
+texts_run : (text : EventText) (plan : Plan) (over : Bool) (n : ℕ) (h : History) (pieces : List Text)
+    → process (line_ran text) closing_due over n (past_of plan h) pieces
+    ≡ texts_after text plan h (script_of_pieces over n pieces)
 unfolding past_of
-script_runs plan over n h [] = refl
-script_runs plan over n h (piece ∷ []) = last_piece plan over n h piece (length piece == 0) refl
-script_runs plan over n h (piece ∷ next ∷ rest) =
-    one_line plan n h (line_meaning piece) (λ t. process ran_line closing_due over (n + 1) t (next ∷ rest))
-    (script_of_pieces over (n + 1) (next ∷ rest)) (λ g. script_runs plan over (n + 1) g (next ∷ rest))
+texts_run text plan over n h [] = refl
+texts_run text plan over n h (piece ∷ []) = last_piece text plan over n h piece (length piece == 0) refl
+texts_run text plan over n h (piece ∷ next ∷ rest) =
+    one_line text plan n h (line_meaning piece)
+    (λ t. process (line_ran text) closing_due over (n + 1) t (next ∷ rest))
+    (script_of_pieces over (n + 1) (next ∷ rest)) (λ g. texts_run text plan over (n + 1) g (next ∷ rest))
+
+-- a script's file by such texts
+pub texts_of_file : (text : EventText) (plan : Plan) (file : Text)
+    → file_due (line_ran text) closing_due (record { plan = plan; history = [] }) file ≡ texts_due text plan file
+unfolding past_of
+texts_of_file text plan file = texts_run text plan (is_over file) 1 [] (pieces (cut_text file))
+
+-- the lines of it that ended in some bytes
+pub texts_of_ended : (text : EventText) (plan : Plan) (bytes : Text)
+    → ended_text (line_ran text) closing_due (record { plan = plan; history = [] }) bytes
+    ≡ texts_so_far text plan bytes
+unfolding past_of
+texts_of_ended text plan bytes = ap (λ (d : Due). d.1) (texts_run text plan true 1 [] (pieces bytes))
+
+-- if no line ends the run of those bytes, none ends the script
+pub texts_go_on : (text : EventText) (plan : Plan) (bytes : Text)
+    → GoesOn (line_ran text) closing_due (record { plan = plan; history = [] }) bytes → ScriptGoesOn plan bytes
+unfolding past_of
+texts_go_on text plan bytes goes_on =
+    sym (ap (λ (d : Due). d.0) (texts_run text plan true 1 [] (pieces bytes))) ∙ goes_on
+
+-- ---- by the lines of verdicts alone
+
+pub lines_are_texts : (plan : Plan) (h : History) (events : List Event)
+    → texts_on verdict_line plan h events ≡ text_on plan h events
+lines_are_texts plan h [] = refl
+lines_are_texts plan h (e ∷ events) =
+    ap (λ (t : Text). verdict_line plan h (e, due plan h e) ++ t)
+    (lines_are_texts plan (history_with_event plan h e) events)
+
+pub lines_after : (plan : Plan) (h : History) (script : Script) → texts_after verdict_line plan h script
+    ≡ due_after plan h script
+lines_after plan h script =
+    ap (λ (t : Text). (
+      run_end script.ending,
+      t
+          ++ last_line script.ending (history_on plan h (events_on plan script)),
+    ))
+    (lines_are_texts plan h (events_on plan script))
 
 -- a script's file run on the world of a plan
 pub file_is_run : (plan : Plan) (file : Text)
     → file_due ran_line closing_due (record { plan = plan; history = [] }) file ≡ script_due plan file
-unfolding past_of
-file_is_run plan file = script_runs plan (is_over file) 1 [] (pieces (cut_text file))
+file_is_run plan file = texts_of_file verdict_line plan file ∙ lines_after plan [] (script_of file)
 
 -- the lines of it that ended in some bytes
 pub ended_runs : (plan : Plan) (bytes : Text)
     → ended_text ran_line closing_due (record { plan = plan; history = [] }) bytes ≡ script_so_far plan bytes
-unfolding past_of
-ended_runs plan bytes = ap (λ (d : Due). d.1) (script_runs plan true 1 [] (pieces bytes))
+ended_runs plan bytes =
+    texts_of_ended verdict_line plan bytes
+    ∙ ap (λ (d : Due). d.1) (lines_after plan [] (script_of_pieces true 1 (pieces bytes)))
 
 -- if no line ends the run of those bytes, none ends the script
 pub script_goes_on : (plan : Plan) (bytes : Text)
     → GoesOn ran_line closing_due (record { plan = plan; history = [] }) bytes → ScriptGoesOn plan bytes
-unfolding past_of
-script_goes_on plan bytes goes_on = sym (ap (λ (d : Due). d.0) (script_runs plan true 1 [] (pieces bytes))) ∙ goes_on
+script_goes_on plan bytes goes_on = texts_go_on verdict_line plan bytes goes_on

@@ -1,5 +1,5 @@
 -- A text that is judged by what a run writes: what is due, and how much is read.
-use Rattle.std.specs.Prelude.{ℕ, ◌≡◌, ◌≢◌, ◌⊎◌, ◌+◌, ◌≤◌, [], length, Option, Some, None, option_map}
+use Rattle.std.specs.Prelude.{ℕ, ◌≡◌, ◌≢◌, ◌⊎◌, ◌+◌, ◌≤◌, Bool, [], length, Option, Some, None, option_map}
 use Rattle.file_runs.specs.declared.ends.End.{End}
 use Rattle.file_runs.specs.declared.ends.End.TheVariants as end
 use Rattle.file_runs.specs.Front.{Gave, bytes_of}
@@ -13,35 +13,26 @@ use Rattle.ide_runs.specs.Script.{run_due}
 
 -- Of a run that did not come to the end of its script: the last line of its text, or the line of a faulty topology.
 abbrev pub text_left : End → Text → Text
-text_left end.Done text = []
-text_left end.Differs text = []
-text_left end.Usage text = []
 text_left end.Topology text = text
 text_left end.Script text = last_line_of text
-text_left end.NoEvent text = []
-text_left end.TooLong text = []
+text_left e text = []
 
 -- it did not, and this is left to write
 abbrev pub IsLeft : End → (text left : Text) → Type 0
 IsLeft e text left = (e ≢ end.Done) × (left ≡ text_left e text)
 
 -- by the end and the text of the run
-abbrev pub judged_script_run : Option Text → End → Text → Option Due
-judged_script_run verdicts end.Done text = option_map (judgement_due text) verdicts
-judged_script_run verdicts end.Differs text = Some (end.Differs, [])
-judged_script_run verdicts end.Usage text = Some (end.Usage, [])
-judged_script_run verdicts end.Topology text = Some (end.Topology, text)
-judged_script_run verdicts end.Script text = Some (end.Script, last_line_of text)
-judged_script_run verdicts end.NoEvent text = Some (end.NoEvent, [])
-judged_script_run verdicts end.TooLong text = Some (end.TooLong, [])
+abbrev pub judged_script_run : (all : Bool) → Option Text → End → Text → Option Due
+judged_script_run all verdicts end.Done text = option_map (judgement_due all text) verdicts
+judged_script_run all verdicts e text = Some (e, text_left e text)
 
-abbrev pub judged_run : Option Text → Option Due → Option Due
-judged_run verdicts None = None
-judged_run verdicts (Some due) = judged_script_run verdicts due.0 due.1
+abbrev pub judged_run : (all : Bool) → Option Text → Option Due → Option Due
+judged_run all verdicts None = None
+judged_run all verdicts (Some due) = judged_script_run all verdicts due.0 due.1
 
 -- the end and the text that are due, or nothing if a file is not there
-abbrev pub judge_due : (topology script verdicts : Option Text) → Option Due
-judge_due topology script verdicts = judged_run verdicts (run_due topology script)
+abbrev pub judge_due : (all : Bool) → (topology script verdicts : Option Text) → Option Due
+judge_due all topology script verdicts = judged_run all verdicts (run_due topology script)
 
 -- ---- how much is read
 
@@ -58,12 +49,7 @@ JudgedPast before now = RanPast before now
 abbrev pub EndNoFurther : End → (topology script verdicts : Option Text) → (given ahead : ℕ) → Type 0
 EndNoFurther end.Done topology script verdicts given ahead =
     given ≤ length (bytes_of topology) + length (bytes_of script) + length (bytes_of verdicts)
-EndNoFurther end.Differs topology script verdicts given ahead = RunNoFurther topology script given ahead
-EndNoFurther end.Usage topology script verdicts given ahead = RunNoFurther topology script given ahead
-EndNoFurther end.Topology topology script verdicts given ahead = RunNoFurther topology script given ahead
-EndNoFurther end.Script topology script verdicts given ahead = RunNoFurther topology script given ahead
-EndNoFurther end.NoEvent topology script verdicts given ahead = RunNoFurther topology script given ahead
-EndNoFurther end.TooLong topology script verdicts given ahead = RunNoFurther topology script given ahead
+EndNoFurther e topology script verdicts given ahead = RunNoFurther topology script given ahead
 
 abbrev pub DueNoFurther : Option Due → (topology script verdicts : Option Text) → (given ahead : ℕ) → Type 0
 DueNoFurther None topology script verdicts given ahead = RunNoFurther topology script given ahead

@@ -1,25 +1,35 @@
 -- A line of a script that is too long gives nothing, and what is written for a line is whole lines: if all events are
--- run, and if one is told.
+-- run, if their packets are shown, and if one event is told.
 use Rattle.std.specs.Prelude.{ℕ, ◌≡◌, nat_lt, true, List, [], ◌∷◌, ◌++◌, length, Option, Some, None, Result, Ok, Err}
-use Rattle.std.specs.Prelude.{◌+◌, Bool, IfOk, codes, false, if◌then◌else◌, refl}
+use Rattle.std.specs.Prelude.{◌+◌, ◌==◌, Bool, IfOk, codes, false, if◌then◌else◌, refl}
+use Rattle.std.specs.Fmt.{decimal}
 use Rattle.std.proofs.Common.{inl, inr, ap, ◌∙◌, sym, subst, append_assoc}
 use Rattle.std.proofs.lemmas.List.{append-nil}
+use Rattle.hex.specs.Hex.{encode_lower}
 use Rattle.ide_types.specs.Names.{joined_words}
+use Rattle.rule_counts.specs.Told.{rules_told}
 use Rattle.ide_types.specs.declared.port.PortName.{PortName}
 use Rattle.ide_types.specs.declared.sub.SubKind.{SubKind}
 use Rattle.ide_types.specs.declared.plan.Plan.{Plan}
+use Rattle.why_facts.specs.declared.fact.Answer.{Answer}
 use Rattle.why_facts.specs.declared.fact.Fact.{Fact}
-use Rattle.why_facts.specs.{effect_rule_of, fact_line, fact_word, rule_of, why_text_of}
+use Rattle.why_facts.specs.declared.fact.Fact.TheVariants as fact
+use Rattle.why_facts.specs.declared.told.Fate.{Fate}
+use Rattle.why_facts.specs.declared.told.Fate.TheVariants as fate
+use Rattle.why_facts.specs.{effect_rule_of, fact_word, rule_of, why_text_of}
 use Rattle.why_facts.specs.Lines.{effect_lines, facts_text, rule_line, rules_text}
+use Rattle.why_facts.specs.Told.{answered_reply, exchange_lines, fact_lines, fate_of, lost_line, message_line}
+use Rattle.why_facts.specs.Told.{refusing_reply, reply_line, request_line}
 use Rattle.ide_why.specs.{facts_due}
 use Rattle.spec_keys.specs.History.{History}
 use Rattle.spec_links.specs.Due.{due}
-use Rattle.event_verdicts.specs.Lines.{line_of}
+use Rattle.event_verdicts.specs.Lines.{bytes_word, line_of, verdict_words}
 use Rattle.event_verdicts.specs.Shown.{verdict_by_ports}
 use Rattle.history_events.specs.{event_of}
 use Rattle.script_events.specs.declared.event.Event.{Event}
 use Rattle.script_events.specs.declared.script.ScriptEvent.{ScriptEvent}
 use Rattle.event_verdicts.specs.declared.verdict.Effect.{Effect}
+use Rattle.event_verdicts.specs.declared.verdict.SealedPacket.{SealedPacket}
 use Rattle.event_verdicts.specs.declared.verdict.Verdict.{Verdict}
 use Rattle.event_verdicts.specs.declared.verdict.Verdict.TheVariants as v
 use Rattle.script_events.specs.declared.fault.LineFault.{LineFault}
@@ -28,8 +38,11 @@ use Rattle.script_events.specs.Words.{line_limit}
 use Rattle.script_events.specs.Parse.{line_meaning}
 use Rattle.file_runs.specs.Gain.{Text}
 use Rattle.file_runs.specs.Outcome.{IsWholeLines}
+use Rattle.ide_runs.specs.Cover.{CoverPast, cover_by_meaning, cover_line, event_rules_line, if_shown}
+use Rattle.ide_runs.specs.Packets.{bytes_numbered, packet_line_if_there, packet_lines, packets_line, packets_text}
+use Rattle.ide_runs.specs.Packets.{sealed_lines}
 use Rattle.ide_runs.specs.Why.{WhyPast, event_told, why_by_meaning, why_line, why_past_with}
-use Rattle.ide_runs.specs.Works.{ScriptPast, by_meaning, ran_line}
+use Rattle.ide_runs.specs.Works.{ScriptPast, by_meaning, meaning_ran, ran_line, verdict_line}
 
 -- words that are joined end with a line feed
 ends_line : (words : List Text) → (lines : Text) × (joined_words words ≡ lines ++ 10 ∷ [])
@@ -59,7 +72,7 @@ event_lines r (Ok (Some e)) = whole_line _ _
 pub whole_event : (r : ScriptPast) (n : ℕ) (line : Text) → IfOk (ran_line r n line) (λ came. IsWholeLines came.1)
 whole_event r n line = event_lines r (line_meaning line)
 
--- ---- an event that is told
+-- ---- events with their packets
 
 -- whole lines before whole lines
 both_whole : (a b : Text) → IsWholeLines a → IsWholeLines b → IsWholeLines (a ++ b)
@@ -68,9 +81,79 @@ both_whole a b first (inl none) = subst (λ (t : Text). IsWholeLines (a ++ t)) (
 both_whole a b first (inr (lines, is)) =
     inr (a ++ lines, ap (λ (t : Text). a ++ t) is ∙ sym (append_assoc a lines (10 ∷ [])))
 
-facts_whole : (xs : List Fact) → IsWholeLines (facts_text xs)
-facts_whole [] = inl refl
-facts_whole (x ∷ xs) = both_whole (fact_line x) (facts_text xs) (whole_line [] (fact_word x ∷ [])) (facts_whole xs)
+one_packet_whole : (n : ℕ) (bytes : Option Text) → IsWholeLines (packet_line_if_there n bytes)
+one_packet_whole n None = inl refl
+one_packet_whole n (Some bytes) = whole_line (decimal n) (codes "bytes" ∷ bytes_word bytes ∷ [])
+
+packets_whole : (plan : Plan) (h : History) (ds : List SealedPacket) → IsWholeLines (packet_lines plan h ds)
+packets_whole plan h [] = inl refl
+packets_whole plan h (d ∷ ds) =
+    both_whole (packet_line_if_there d.number (bytes_numbered plan h d.number)) (packet_lines plan h ds)
+    (one_packet_whole d.number (bytes_numbered plan h d.number)) (packets_whole plan h ds)
+
+sealed_whole : (plan : Plan) (h : History) (w : Verdict) → IsWholeLines (sealed_lines plan h w)
+sealed_whole plan h (v.Sealed ds) = packets_whole plan h ds
+sealed_whole plan h w = inl refl
+
+packets_text_whole : (plan : Plan) (h : History) (x : Event × Verdict) → IsWholeLines (packets_text plan h x)
+packets_text_whole plan h x =
+    both_whole (verdict_line plan h x) (sealed_lines plan (x ∷ h) x.1)
+    (whole_line (decimal (length h + 1)) (verdict_words (verdict_by_ports plan.peers x.1)))
+    (sealed_whole plan (x ∷ h) x.1)
+
+pub long_packets : (r : ScriptPast) (n : ℕ) (line : Text) → nat_lt line_limit (length line) ≡ true
+    → packets_line r n line ≡ Err TooLong
+long_packets r n line long = rw long refl
+
+meaning_packets : (r : ScriptPast) (m : Result (Option ScriptEvent) LineFault)
+    → IfOk (meaning_ran packets_text r m) (λ came. IsWholeLines came.1)
+meaning_packets r (Err fault) = tt
+meaning_packets r (Ok None) = inl refl
+meaning_packets r (Ok (Some e)) =
+    let x = event_of r.plan e in packets_text_whole r.plan r.history (x, due r.plan r.history x)
+
+pub whole_packets : (r : ScriptPast) (n : ℕ) (line : Text)
+    → IfOk (packets_line r n line) (λ came. IsWholeLines came.1)
+whole_packets r n line = meaning_packets r (line_meaning line)
+
+-- ---- an event that is told
+
+request_whole : (n : ℕ) (bytes : List ℕ) → IsWholeLines (request_line n bytes)
+request_whole n bytes = by (length bytes == 0)
+  where
+    by : (b : Bool) → IsWholeLines (if b then [] else message_line n (codes "request") bytes)
+    by true = inl refl
+    by false = whole_line [] (codes "exchange" ∷ decimal n ∷ codes "request" ∷ encode_lower bytes ∷ [])
+
+reply_whole : (n : ℕ) (bytes : List ℕ) → IsWholeLines (reply_line n bytes)
+reply_whole n bytes = whole_line [] (codes "exchange" ∷ decimal n ∷ codes "reply" ∷ encode_lower bytes ∷ [])
+
+lost_whole : (n : ℕ) (kind : Text) → IsWholeLines (lost_line n kind)
+lost_whole n kind = whole_line [] (codes "exchange" ∷ decimal n ∷ codes "lost" ∷ kind ∷ [])
+
+exchange_whole : (w : Verdict) (n : ℕ) (request : List ℕ) (a : Answer) (became : Fate)
+    → IsWholeLines (exchange_lines w n request a became)
+exchange_whole w n request a fate.NotCome = inl refl
+exchange_whole w n request a fate.RequestLost = lost_whole n (codes "request")
+exchange_whole w n request a fate.ReplyLost =
+    both_whole (request_line n request) (lost_line n (codes "reply")) (request_whole n request)
+    (lost_whole n (codes "reply"))
+exchange_whole w n request a (fate.Refused code) =
+    both_whole (request_line n request) (reply_line n (refusing_reply code a)) (request_whole n request)
+    (reply_whole n (refusing_reply code a))
+exchange_whole w n request a fate.Answered =
+    both_whole (request_line n request) (reply_line n (answered_reply w a)) (request_whole n request)
+    (reply_whole n (answered_reply w a))
+
+fact_whole : (w : Verdict) (x : Fact) → IsWholeLines (fact_lines w x)
+fact_whole w (fact.Stream x) = whole_line [] (fact_word (fact.Stream x) ∷ [])
+fact_whole w (fact.Operation x) = whole_line [] (fact_word (fact.Operation x) ∷ [])
+fact_whole w (fact.Interface x) = whole_line [] (fact_word (fact.Interface x) ∷ [])
+fact_whole w (fact.Exchange n request a) = exchange_whole w n request a (fate_of w n)
+
+facts_whole : (w : Verdict) (xs : List Fact) → IsWholeLines (facts_text w xs)
+facts_whole w [] = inl refl
+facts_whole w (x ∷ xs) = both_whole (fact_lines w x) (facts_text w xs) (fact_whole w x) (facts_whole w xs)
 
 rule_whole : (rule : Text) → IsWholeLines (rule_line rule)
 rule_whole rule = whole_line [] (codes "rule" ∷ rule ∷ [])
@@ -89,9 +172,9 @@ event_whole : (front : Text) (e : Event) (w : Verdict) (xs : List Fact) → IsWh
     → IsWholeLines (front ++ why_text_of e w xs)
 event_whole front e w xs first =
     both_whole front (why_text_of e w xs) first
-    (both_whole (rule_line (rule_of e w xs) ++ rules_text w) (facts_text xs)
+    (both_whole (rule_line (rule_of e w xs) ++ rules_text w) (facts_text w xs)
     (both_whole (rule_line (rule_of e w xs)) (rules_text w) (rule_whole (rule_of e w xs)) (rules_whole w))
-    (facts_whole xs))
+    (facts_whole w xs))
 
 told_whole : (plan : Plan) (h : History) (e : Event) → IsWholeLines (event_told plan h e)
 told_whole plan h e =
@@ -124,3 +207,26 @@ meaning_whole p (Ok (Some e)) =
 
 pub whole_told : (p : WhyPast) (n : ℕ) (line : Text) → IfOk (why_line p n line) (λ came. IsWholeLines came.1)
 whole_told p n line = meaning_whole p (line_meaning line)
+
+-- ---- an event whose rules are told
+
+pub long_covered : (p : CoverPast) (n : ℕ) (line : Text) → nat_lt line_limit (length line) ≡ true
+    → cover_line p n line ≡ Err TooLong
+long_covered p n line long = rw long refl
+
+if_shown_whole : (events : Bool) (text : Text) → IsWholeLines text → IsWholeLines (if_shown events text)
+if_shown_whole true text whole = whole
+if_shown_whole false text whole = inl refl
+
+covered_whole : (p : CoverPast) (m : Result (Option ScriptEvent) LineFault)
+    → IfOk (cover_by_meaning p m) (λ came. IsWholeLines came.1)
+covered_whole p (Err fault) = tt
+covered_whole p (Ok None) = inl refl
+covered_whole p (Ok (Some e)) =
+    let x = event_of p.script.plan e in
+    let h = p.script.history in
+    if_shown_whole p.events (event_rules_line p.script.plan h x)
+    (whole_line (decimal (length h + 1)) (rules_told p.script.plan h x))
+
+pub whole_covered : (p : CoverPast) (n : ℕ) (line : Text) → IfOk (cover_line p n line) (λ came. IsWholeLines came.1)
+whole_covered p n line = covered_whole p (line_meaning line)

@@ -1,8 +1,7 @@
 -- A topology's file that is read, of which so many bytes count.
-use Rattle.std.specs.Prelude.{ℕ, ◌≡◌, ◌⊎◌, ◌≤◌, nat_lt, if◌then◌else◌, Result, Ok, Err, length, Option, Some, None}
-use Rattle.cli_files.specs.Outside.{Contents, Rose, Lacks}
+use Rattle.std.specs.Prelude.{ℕ, ◌≡◌, nat_lt, if◌then◌else◌, Result, Ok, Err, length, Option, Some, None}
+use Rattle.cli_files.specs.Outside.{Contents}
 use Rattle.file_runs.specs.declared.ends.Fault.{Fault}
-use Rattle.file_runs.specs.declared.ends.Fault.TheVariants as fault
 use Rattle.file_runs.specs.Front.{Gave, bytes_of}
 use Rattle.file_runs.specs.Gain.{Text}
 
@@ -26,16 +25,6 @@ IsLoadedIfTold by (Some contents) name l = IsLoadedInFile by (contents name) l
 abbrev pub Loads : {L : Type 0} → (Text → L) → Option Contents → Text → Result L Fault → Type 0
 Loads by told name (Ok l) = IsLoadedIfTold by told name l
 Loads by told name (Err e) = Unit {0}
-
--- a fault was counted, or the told contents lack the name; want of memory counts nothing
-abbrev pub LoadCut : ℕ → ℕ → Option Contents → Text → Fault → Type 0
-LoadCut before now told name fault.Read = (before ≤ now) × (Rose before now ⊎ Lacks told name)
-LoadCut before now told name fault.Write = ⊥
-LoadCut before now told name fault.Memory = now ≡ before
-
-abbrev pub LoadCause : {L : Type 0} → ℕ → ℕ → Option Contents → Text → Result L Fault → Type 0
-LoadCause before now told name (Ok l) = now ≡ before
-LoadCause before now told name (Err e) = LoadCut before now told name e
 
 -- if the contents are told, as many bytes were given as the file has
 abbrev pub GaveAllOf : Option Contents → Text → ℕ → ℕ → Type 0

@@ -1,12 +1,12 @@
 -- A topology that is written in version 2.
-use Rattle.std.specs.Prelude.{◌≡◌, ◌⊎◌, [], Option, Some, None, Result, Ok, Err, option_map}
-use Rattle.cli_files.specs.Outside.{Contents, ShelfSeen, SinkSeen}
+use Rattle.std.specs.Prelude.{◌≡◌, ◌⊎◌, [], Option, Some, None, Result, Ok, Err}
+use Rattle.cli_files.specs.Outside.{Contents, SinkSeen}
 use Rattle.ide_types.specs.declared.plan.Plan.{Plan}
 use Rattle.topology.specs.Migration.{IsMigrated}
 use Rattle.file_runs.specs.declared.ends.End.{End}
 use Rattle.file_runs.specs.declared.ends.Fault.{Fault}
 use Rattle.file_runs.specs.Gain.{Text}
-use Rattle.file_runs.specs.Outcome.{Ran, RanOnShelf}
+use Rattle.file_runs.specs.Outcome.{Ran}
 use Rattle.ide_runs.specs.declared.topologies.Loaded.TheVariants.{Sound}
 use Rattle.ide_runs.specs.Topologies.{migrate_due, loaded_topology}
 
@@ -22,13 +22,6 @@ MigratesFile None name text r = Unit {0}
 MigratesFile (Some contents) name text r =
     (bytes : Text) (plan : Plan) → contents name ≡ Some bytes → loaded_topology bytes ≡ Sound plan
     → IsMigrated bytes text ⊎ ((text ≡ []) × IsFailure r)
-
--- The run ends as the contents call for; the text is one of those that a migration may write.
-pub record IsFileMigrated (name : Text) (shelf shelf_now : ShelfSeen) (sink sink_now : SinkSeen) (r : Result End Fault)
-    : Type 0 where
-  pub migrated : Text
-  pub migrates : MigratesFile shelf.contents name migrated r
-  pub ran : RanOnShelf (λ contents. option_map (migrate_due migrated) (contents name)) shelf shelf_now sink sink_now r
 
 -- The first bytes of a topology were migrated: if they are sound, the text is that topology in version 2, or a run that
 -- failed gave none.

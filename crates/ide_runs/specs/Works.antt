@@ -49,25 +49,42 @@ pub record Follows (r : RunningView) (past : ScriptPast) : Type 0 where
 abbrev pub past_with : ScriptPast → Event → ScriptPast
 past_with past e = record past { history = history_with_event past.plan past.history e }
 
--- the past with an event, and the line of its verdict as it is shown
+-- the text of an event with its verdict, after a history
+abbrev pub EventText : Type 0
+EventText = Plan → History → Event × Verdict → Text
+
+-- the line of the verdict as it is shown
+abbrev pub verdict_line : EventText
+verdict_line plan h x = line_of (length h + 1) (verdict_by_ports plan.peers x.1)
+
+-- the past with an event, and the text of the event
+abbrev pub event_ran : EventText → ScriptPast → Event → ScriptPast × Text
+event_ran text past e = (past_with past e, text past.plan past.history (e, due past.plan past.history e))
+
+abbrev pub meaning_ran : EventText → ScriptPast → Result (Option ScriptEvent) LineFault
+    → Result (ScriptPast × Text) LineFault
+meaning_ran text past (Err fault) = Err fault
+meaning_ran text past (Ok None) = Ok (past, [])
+meaning_ran text past (Ok (Some e)) = Ok (event_ran text past (event_of past.plan e))
+
+-- what a line gives, by the texts of events
+abbrev pub line_ran : EventText → ScriptPast → ℕ → Text → Result (ScriptPast × Text) LineFault
+line_ran text past n line = meaning_ran text past (line_meaning line)
+
+-- the past with an event, and the line of its verdict
 abbrev pub ran_event : ScriptPast → Event → ScriptPast × Text
-ran_event past e = (
-  past_with past e,
-  line_of (length past.history + 1) (verdict_by_ports past.plan.peers (due past.plan past.history e)),
-)
+ran_event past e = event_ran verdict_line past e
 
 -- the same of an event of a script
 abbrev pub ran_script_event : ScriptPast → ScriptEvent → ScriptPast × Text
 ran_script_event past e = ran_event past (event_of past.plan e)
 
 abbrev pub by_meaning : ScriptPast → Result (Option ScriptEvent) LineFault → Result (ScriptPast × Text) LineFault
-by_meaning past (Err fault) = Err fault
-by_meaning past (Ok None) = Ok (past, [])
-by_meaning past (Ok (Some e)) = Ok (ran_script_event past e)
+by_meaning past m = meaning_ran verdict_line past m
 
 -- what a line gives
 abbrev pub ran_line : ScriptPast → ℕ → Text → Result (ScriptPast × Text) LineFault
-ran_line past n line = by_meaning past (line_meaning line)
+ran_line past n line = line_ran verdict_line past n line
 
 -- the text after the last line
 abbrev pub closing_line : ScriptPast → Text

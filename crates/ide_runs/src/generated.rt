@@ -84,8 +84,7 @@ fn generated_text(alloc: Global, seed: u32, count: u32) -> Result<Vec<u8>, OutOf
 #[inline(never)]
 pub fn generate<O: Sink>(alloc: Global, seed: u32, count: u32, out: &mut O) -> Result<End, Fault>
     requires { count ≤ 100000 }
-    ensures end { IfOk result (λ e. e ≡ End.Done) }
-    ensures ran { Ran (generated_due seed count) (O.seen out.old) (O.seen out.new) result }
+    ensures { Ran (generated_due seed count) (O.seen out.old) (O.seen out.new) result }
 {
     match generated_text(alloc, seed, count) {
         Ok(text) => finish(out, End::Done, &text),

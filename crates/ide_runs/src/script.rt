@@ -1,21 +1,16 @@
 //! Events that are run on the world of a topology, and the command `run`: those of the lines of a script.
 
-ghost use Rattle.std.specs.Prelude.{◌≡◌, ◌≢◌, ◌<◌, ◌≤◌, ◌+◌, ◌^◌, ◌⊎◌, IfErr, IfOk, OnOk, option_map, length, count_by};
-ghost use Rattle.cli_files.specs.Outside.{AsksFor, AsksOnly};
+ghost use Rattle.std.specs.Prelude.{◌≡◌, ◌<◌, ◌≤◌, ◌+◌, ◌^◌, IfErr, IfOk, OnOk, length, count_by};
 ghost use Rattle.ide_types.specs.Fits.{FitsPlan};
-ghost use Rattle.file_runs.specs.Front.{AskedPieces, Gave, GaveAtMost, bytes_of};
-ghost use Rattle.file_runs.specs.Gathering.{NoFurther, ReadAsFar, WroteEnded};
-ghost use Rattle.file_runs.specs.Lines.{file_limit};
-ghost use Rattle.file_runs.specs.Outcome.{RanOnShelf};
+ghost use Rattle.file_runs.specs.FileRuns.{FileRun};
 ghost use Rattle.script_events.specs.Parse.{line_meaning, IsLineAnswer};
 ghost use Rattle.script_events.specs.Spells.{IsAllowed, IsAllowedInScript};
 ghost use Rattle.event_verdicts.specs.Lines.{line_of};
 ghost use Rattle.event_verdicts.specs.Shown.{verdict_by_ports as shown_of};
 ghost use Rattle.ide_runs.specs.LineLaws.{long_event, whole_event};
-ghost use Rattle.ide_runs.specs.Loading.{topology_limit};
-ghost use Rattle.ide_runs.specs.Reads.{RanPast, RunNoFurther, ScriptGoesOn};
-ghost use Rattle.ide_runs.specs.Script.{run_due, script_due};
-ghost use Rattle.ide_runs.specs.SoFar.{WroteBy, run_so_far, script_given, script_so_far};
+ghost use Rattle.ide_runs.specs.Script.{script_due};
+ghost use Rattle.ide_runs.specs.SoFar.{script_so_far};
+ghost use Rattle.ide_runs.specs.Tasks.{on_plan_task, run_task};
 ghost use Rattle.ide_runs.specs.Works.{EventCame, Follows, IsEarly, MayAsk, ScriptPast, closing_due, ran_event};
 ghost use Rattle.ide_runs.specs.Works.{ran_line, ran_script_event, VerdictCame, totals_with};
 ghost use Rattle.law_text.specs.Runs.{is_blocked, sealed_count, accepted_in, failed_in, blocked_in};
@@ -169,8 +164,8 @@ impl Running {
 /// The world that runs, and the memory for its lines.
 #[derive(Drop)]
 pub struct ScriptWork {
-    alloc: Global,
-    running: Running,
+    pub(crate) alloc: Global,
+    pub(crate) running: Running,
 }
 
 impl Model for ScriptWork {
@@ -296,25 +291,9 @@ fn run_script<S: Shelf, O: Sink>(
     out: &mut O,
 ) -> Result<End, Fault>
     requires { FitsPlan plan }
-    ensures end { IfOk result (λ e. e ≢ End.Usage) }
-    ensures unjudged { IfOk result (λ e. e ≢ End.Differs) }
-    ensures present { IfOk result (λ e. e ≢ End.NoEvent) }
     ensures same { (S.seen shelf.new).contents ≡ (S.seen shelf.old).contents }
-    ensures due_outcome { RanOnShelf (λ contents. option_map (script_due plan) (contents script.now)) (S.seen shelf.old)
+    ensures files { FileRun (on_plan_task script_due script_so_far ⊥ plan script.now) (S.seen shelf.old)
         (S.seen shelf.new) (O.seen out.old) (O.seen out.new) result }
-    ensures output_so_far { IfErr result (λ e. WroteEnded e (script_so_far plan) script.now (S.seen shelf.old)
-        (S.seen shelf.new) (O.seen out.old) (O.seen out.new)) }
-    ensures reads_no_further { IfOk result (λ e. ReadAsFar (λ contents. NoFurther (ScriptGoesOn plan)
-        (bytes_of (contents script.now))) (S.seen shelf.old) (S.seen shelf.new)) }
-    ensures file_names { AsksFor script.now (S.seen shelf.old).asked (S.seen shelf.new).asked }
-    ensures read_limit { (S.seen shelf.new).given ≤ (S.seen shelf.old).given + (file_limit + 1) }
-    ensures read_pieces { AskedPieces (S.seen shelf.old).longest (S.seen shelf.new).longest }
-    ensures files_too_long { IfOk result (λ e. e ≡ End.TooLong → Gave (S.seen shelf.old).given (file_limit + 1)
-        (S.seen shelf.new).given) }
-    ensures whole_files { IfOk result (λ e. e ≡ End.Done → (S.seen shelf.new).given
-        ≤ (S.seen shelf.old).given + file_limit) }
-    ensures gave { IfOk result (λ e. e ≡ End.Done → GaveAtMost (S.seen shelf.old).given file_limit
-        (S.seen shelf.new).given) }
 {
     match World::make(alloc, plan) {
         Err(_) => Err(Fault::Memory),
@@ -334,27 +313,9 @@ pub fn run_files<S: Shelf, O: Sink>(
     shelf: &mut S,
     out: &mut O,
 ) -> Result<End, Fault>
-    ensures end { IfOk result (λ e. e ≢ End.Usage) }
-    ensures unjudged { IfOk result (λ e. e ≢ End.Differs) }
-    ensures present { IfOk result (λ e. e ≢ End.NoEvent) }
     ensures same { (S.seen shelf.new).contents ≡ (S.seen shelf.old).contents }
-    ensures due_outcome { RanOnShelf (λ contents. run_due (contents topology.now) (contents script.now))
-        (S.seen shelf.old) (S.seen shelf.new) (O.seen out.old) (O.seen out.new) result }
-    ensures output_so_far { IfErr result (λ e. WroteBy e (λ contents n. run_so_far (contents topology.now)
-        (contents script.now) n) (λ contents n. script_given (contents topology.now) (contents script.now) n)
-        (S.seen shelf.old) (S.seen shelf.new) (O.seen out.old) (O.seen out.new)) }
-    ensures reads_no_further { IfOk result (λ e. ReadAsFar (λ contents. RunNoFurther (contents topology.now)
-        (contents script.now)) (S.seen shelf.old) (S.seen shelf.new)) }
-    ensures file_names { AsksOnly (λ name. (name ≡ topology.now) ⊎ (name ≡ script.now)) (S.seen shelf.old).asked
-        (S.seen shelf.new).asked }
-    ensures read_limit { (S.seen shelf.new).given ≤ (S.seen shelf.old).given + (topology_limit + 1 + (file_limit + 1)) }
-    ensures read_pieces { AskedPieces (S.seen shelf.old).longest (S.seen shelf.new).longest }
-    ensures files_too_long { IfOk result (λ e. e ≡ End.TooLong
-        → RanPast (S.seen shelf.old).given (S.seen shelf.new).given) }
-    ensures whole_files { IfOk result (λ e. e ≡ End.Done → (S.seen shelf.new).given
-        ≤ (S.seen shelf.old).given + (topology_limit + file_limit)) }
-    ensures gave { IfOk result (λ e. e ≡ End.Done → GaveAtMost (S.seen shelf.old).given (topology_limit + file_limit)
-        (S.seen shelf.new).given) }
+    ensures files { FileRun (run_task topology.now script.now) (S.seen shelf.old) (S.seen shelf.new)
+        (O.seen out.old) (O.seen out.new) result }
 {
     match load(alloc, shelf, topology) {
         Err(e) => Err(e),

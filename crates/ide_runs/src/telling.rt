@@ -1,20 +1,14 @@
 //! The command `why`: one event of a script, told with what its verdict came from.
 
-ghost use Rattle.std.specs.Prelude.{◌≡◌, ◌≢◌, ◌+◌, ◌<◌, ◌≤◌, ◌^◌, ◌⊎◌, [], IfErr, IfOk, OnOk, option_map};
-ghost use Rattle.cli_files.specs.Outside.{AsksFor, AsksOnly};
+ghost use Rattle.std.specs.Prelude.{◌≡◌, ◌+◌, ◌<◌, ◌^◌, [], IfErr, IfOk, OnOk};
 ghost use Rattle.ide_types.specs.Fits.{FitsPlan};
-ghost use Rattle.file_runs.specs.Front.{AskedPieces, Gave, GaveAtMost, bytes_of};
-ghost use Rattle.file_runs.specs.Gathering.{NoFurther, ReadAsFar, WroteEnded};
-ghost use Rattle.file_runs.specs.Lines.{file_limit};
-ghost use Rattle.file_runs.specs.Outcome.{RanOnShelf};
+ghost use Rattle.file_runs.specs.FileRuns.{FileRun};
 ghost use Rattle.script_events.specs.Spells.{IsAllowed, IsAllowedInScript};
 ghost use Rattle.event_verdicts.specs.Lines.{line_of};
 ghost use Rattle.ide_runs.specs.LineLaws.{long_told, whole_told};
-ghost use Rattle.ide_runs.specs.Loading.{topology_limit};
-ghost use Rattle.ide_runs.specs.Reads.{RanPast, RunNoFurther, ScriptGoesOn};
-ghost use Rattle.ide_runs.specs.SoFar.{WroteBy, files_so_far, script_given};
+ghost use Rattle.ide_runs.specs.Tasks.{on_plan_task, why_task};
 ghost use Rattle.ide_runs.specs.Why.{EventIsTold, FollowsWhy, WhyCame, WhyPast, no_event_line, ran_script_why, ran_why};
-ghost use Rattle.ide_runs.specs.Why.{told_due, told_so_far, why_closing, why_due, why_line};
+ghost use Rattle.ide_runs.specs.Why.{told_due, told_so_far, why_closing, why_line};
 ghost use Rattle.ide_runs.specs.Works.{Follows, IsEarly, ScriptPast};
 
 use crate::script::{Running, asked};
@@ -192,23 +186,8 @@ fn why_script<S: Shelf, O: Sink>(
     out: &mut O,
 ) -> Result<End, Fault>
     requires { FitsPlan plan }
-    ensures end { IfOk result (λ e. e ≢ End.Usage) }
-    ensures unjudged { IfOk result (λ e. e ≢ End.Differs) }
-    ensures due_outcome { RanOnShelf (λ contents. option_map (told_due number plan) (contents script.now))
+    ensures { FileRun (on_plan_task (told_due number) (told_so_far number) (Unit {0}) plan script.now)
         (S.seen shelf.old) (S.seen shelf.new) (O.seen out.old) (O.seen out.new) result }
-    ensures output_so_far { IfErr result (λ e. WroteEnded e (told_so_far number plan) script.now (S.seen shelf.old)
-        (S.seen shelf.new) (O.seen out.old) (O.seen out.new)) }
-    ensures reads_no_further { IfOk result (λ e. ReadAsFar (λ contents. NoFurther (ScriptGoesOn plan)
-        (bytes_of (contents script.now))) (S.seen shelf.old) (S.seen shelf.new)) }
-    ensures file_names { AsksFor script.now (S.seen shelf.old).asked (S.seen shelf.new).asked }
-    ensures read_limit { (S.seen shelf.new).given ≤ (S.seen shelf.old).given + (file_limit + 1) }
-    ensures read_pieces { AskedPieces (S.seen shelf.old).longest (S.seen shelf.new).longest }
-    ensures files_too_long { IfOk result (λ e. e ≡ End.TooLong → Gave (S.seen shelf.old).given (file_limit + 1)
-        (S.seen shelf.new).given) }
-    ensures whole_files { IfOk result (λ e. e ≡ End.Done → (S.seen shelf.new).given
-        ≤ (S.seen shelf.old).given + file_limit) }
-    ensures all { IfOk result (λ e. e ≡ End.NoEvent → (S.seen shelf.new).given ≤ (S.seen shelf.old).given
-        + file_limit) }
 {
     match World::make(alloc, plan) {
         Err(_) => Err(Fault::Memory),
@@ -231,25 +210,8 @@ pub fn why<S: Shelf, O: Sink>(
     shelf: &mut S,
     out: &mut O,
 ) -> Result<End, Fault>
-    ensures end { IfOk result (λ e. e ≢ End.Usage) }
-    ensures unjudged { IfOk result (λ e. e ≢ End.Differs) }
-    ensures due_outcome { RanOnShelf (λ contents. why_due number (contents topology.now) (contents script.now))
-        (S.seen shelf.old) (S.seen shelf.new) (O.seen out.old) (O.seen out.new) result }
-    ensures output_so_far { IfErr result (λ e. WroteBy e (λ contents n. files_so_far (told_so_far number)
-        (contents topology.now) (contents script.now) n) (λ contents n. script_given (contents topology.now)
-        (contents script.now) n) (S.seen shelf.old) (S.seen shelf.new) (O.seen out.old) (O.seen out.new)) }
-    ensures reads_no_further { IfOk result (λ e. ReadAsFar (λ contents. RunNoFurther (contents topology.now)
-        (contents script.now)) (S.seen shelf.old) (S.seen shelf.new)) }
-    ensures file_names { AsksOnly (λ name. (name ≡ topology.now) ⊎ (name ≡ script.now)) (S.seen shelf.old).asked
-        (S.seen shelf.new).asked }
-    ensures read_limit { (S.seen shelf.new).given ≤ (S.seen shelf.old).given + (topology_limit + 1 + (file_limit + 1)) }
-    ensures read_pieces { AskedPieces (S.seen shelf.old).longest (S.seen shelf.new).longest }
-    ensures files_too_long { IfOk result (λ e. e ≡ End.TooLong
-        → RanPast (S.seen shelf.old).given (S.seen shelf.new).given) }
-    ensures whole_files { IfOk result (λ e. e ≡ End.Done → (S.seen shelf.new).given
-        ≤ (S.seen shelf.old).given + (topology_limit + file_limit)) }
-    ensures all { IfOk result (λ e. e ≡ End.NoEvent → (S.seen shelf.new).given
-        ≤ (S.seen shelf.old).given + (topology_limit + file_limit)) }
+    ensures { FileRun (why_task number topology.now script.now) (S.seen shelf.old) (S.seen shelf.new)
+        (O.seen out.old) (O.seen out.new) result }
 {
     match load(alloc, shelf, topology) {
         Err(e) => Err(e),

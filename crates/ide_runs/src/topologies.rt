@@ -1,23 +1,23 @@
-//! A topology that is read and checked, or migrated.
+//! A topology that is read and checked, or migrated (this profile).
 
-ghost use Rattle.std.specs.Prelude.{◌≡◌, ◌≢◌, ◌+◌, ◌<◌, ◌≤◌, IfOk, IfErr, length, option_map, []};
+ghost use Rattle.std.specs.Prelude.{◌≡◌, ◌≢◌, ◌+◌, ◌<◌, ◌≤◌, IfOk, IfErr, length};
 ghost use Rattle.cli_files.specs.Outside.{AsksFor};
-ghost use Rattle.file_runs.specs.Front.{AskedPieces, Gave, GaveAtMost, GaveIfTold, bytes_of};
-ghost use Rattle.file_runs.specs.Gathering.{ReadAsFar};
-ghost use Rattle.file_runs.specs.Outcome.{Ran, RanOnShelf};
-ghost use Rattle.ide_runs.specs.Loading.{GaveAllOf, LoadCause, Loads, topology_limit};
-ghost use Rattle.ide_runs.specs.Migrating.{IsFileMigrated, WritesMigrated};
-ghost use Rattle.ide_runs.specs.SoFar.{WroteBy};
-ghost use Rattle.ide_runs.specs.Topologies.{check_due, loaded_topology, plan_refusal as refusal_of};
+ghost use Rattle.file_runs.specs.FileRuns.{FileRun};
+ghost use Rattle.file_runs.specs.Front.{AskedPieces, Gave, GaveAtMost, GaveIfTold, ReadCause};
+ghost use Rattle.file_runs.specs.Outcome.{Ran};
+ghost use Rattle.ide_runs.specs.Loading.{GaveAllOf, Loads, topology_limit};
+ghost use Rattle.ide_runs.specs.Migrating.{WritesMigrated};
+ghost use Rattle.ide_runs.specs.Tasks.{check_task, migrate_task};
+ghost use Rattle.ide_runs.specs.Topologies.{loaded_topology, plan_refusal as refusal_of};
 ghost use Rattle.ide_runs.specs.Topologies.{report as report_of, HasFitting};
 
 use cli_files::{Shelf, Sink};
-use file_runs::{End, Fault, Unread, finish, read_front};
+use file_runs::{End, Fault, finish, read_front};
 use ide_types::{OutOfMemory, Plan};
 use std::alloc::Global;
 use topology::{PlanError, PlanFault};
 
-/// How many bytes of a topology count (this profile).
+/// How many bytes of a topology count.
 const TOPOLOGY_LIMIT: usize = 1_048_576;
 
 /// What a topology's bytes give: its plan, its first fault, or too many of them.
@@ -53,7 +53,7 @@ pub fn load_bytes(alloc: Global, front: &[u8]) -> Result<Loaded, Fault>
 pub(crate) fn load<S: Shelf>(alloc: Global, shelf: &mut S, name: &str) -> Result<Loaded, Fault>
     ensures same { (S.seen shelf.new).contents ≡ (S.seen shelf.old).contents }
     ensures loads { Loads loaded_topology (S.seen shelf.old).contents name.now result }
-    ensures cause { LoadCause (S.seen shelf.old).faults (S.seen shelf.new).faults (S.seen shelf.old).contents name.now
+    ensures cause { ReadCause (S.seen shelf.old).faults (S.seen shelf.new).faults (S.seen shelf.old).contents name.now
         result }
     ensures fits { IfOk result HasFitting }
     ensures within { GaveIfTold (S.seen shelf.old).contents name.now (S.seen shelf.old).given (S.seen shelf.new).given }
@@ -68,13 +68,12 @@ pub(crate) fn load<S: Shelf>(alloc: Global, shelf: &mut S, name: &str) -> Result
         (S.seen shelf.new).given) }
 {
     match read_front(alloc, shelf, name, TOPOLOGY_LIMIT + 1) {
-        Err(Unread::Fault) => Err(Fault::Read),
-        Err(Unread::Memory) => Err(Fault::Memory),
+        Err(e) => Err(e),
         Ok(front) => load_bytes(alloc, &front),
     }
 }
 
-/// The line of a topology's first fault, with its line feed (this profile).
+/// The line of a topology's first fault, with its line feed.
 pub fn refusal(alloc: Global, fault: &PlanFault) -> Result<Vec<u8>, OutOfMemory>
     ensures { IfOk result (λ line. line.items ≡ refusal_of fault.now) }
 {
@@ -96,12 +95,7 @@ pub(crate) fn refuse<O: Sink>(alloc: Global, fault: &PlanFault, out: &mut O) -> 
 
 // Writes what a topology gives.
 fn report<O: Sink>(alloc: Global, loaded: &Loaded, out: &mut O) -> Result<End, Fault>
-    ensures end { IfOk result (λ e. e ≢ End.Usage) }
-    ensures unjudged { IfOk result (λ e. e ≢ End.Differs) }
-    ensures present { IfOk result (λ e. e ≢ End.NoEvent) }
-    ensures long { IfOk result (λ e. e ≡ End.TooLong → loaded.now ≡ Loaded.Long) }
-    ensures few { IfOk result (λ e. e ≢ End.TooLong → loaded.now ≢ Loaded.Long) }
-    ensures ran { Ran (report_of loaded.now) (O.seen out.old) (O.seen out.new) result }
+    ensures { Ran (report_of loaded.now) (O.seen out.old) (O.seen out.new) result }
 {
     match loaded {
         Loaded::Sound(_) => finish(out, End::Done, b"ok\n"),
@@ -118,22 +112,8 @@ pub fn check_topology<S: Shelf, O: Sink>(
     shelf: &mut S,
     out: &mut O,
 ) -> Result<End, Fault>
-    ensures end { IfOk result (λ e. e ≢ End.Usage) }
-    ensures unjudged { IfOk result (λ e. e ≢ End.Differs) }
-    ensures present { IfOk result (λ e. e ≢ End.NoEvent) }
-    ensures due_outcome { RanOnShelf (λ contents. option_map check_due (contents topology.now)) (S.seen shelf.old)
-        (S.seen shelf.new) (O.seen out.old) (O.seen out.new) result }
-    ensures output_so_far { IfErr result (λ e. WroteBy e (λ contents n. []) (λ contents n. [])
-        (S.seen shelf.old) (S.seen shelf.new) (O.seen out.old) (O.seen out.new)) }
-    ensures reads_no_further { IfOk result (λ e. ReadAsFar (λ contents given ahead. given
-        ≤ length (bytes_of (contents topology.now))) (S.seen shelf.old) (S.seen shelf.new)) }
-    ensures file_names { AsksFor topology.now (S.seen shelf.old).asked (S.seen shelf.new).asked }
-    ensures read_limit { (S.seen shelf.new).given ≤ (S.seen shelf.old).given + (topology_limit + 1) }
-    ensures read_pieces { AskedPieces (S.seen shelf.old).longest (S.seen shelf.new).longest }
-    ensures files_too_long { IfOk result (λ e. e ≡ End.TooLong → Gave (S.seen shelf.old).given (topology_limit + 1)
-        (S.seen shelf.new).given) }
-    ensures whole_files { IfOk result (λ e. e ≡ End.Done → (S.seen shelf.new).given
-        ≤ (S.seen shelf.old).given + topology_limit) }
+    ensures { FileRun (check_task topology.now) (S.seen shelf.old) (S.seen shelf.new) (O.seen out.old)
+        (O.seen out.new) result }
 {
     match load(alloc, shelf, topology) {
         Ok(loaded) => report(alloc, &loaded, out),
@@ -143,12 +123,7 @@ pub fn check_topology<S: Shelf, O: Sink>(
 
 // Writes the first bytes of a topology in version 2; one byte more than those that count was read.
 fn write_migrated<O: Sink>(alloc: Global, front: &[u8], out: &mut O) -> Result<End, Fault>
-    ensures end { IfOk result (λ e. e ≢ End.Usage) }
-    ensures unjudged { IfOk result (λ e. e ≢ End.Differs) }
-    ensures present { IfOk result (λ e. e ≢ End.NoEvent) }
-    ensures long { IfOk result (λ e. e ≡ End.TooLong → topology_limit < length front.now) }
-    ensures few { IfOk result (λ e. e ≢ End.TooLong → length front.now ≤ topology_limit) }
-    ensures writes { WritesMigrated front.now (O.seen out.old) (O.seen out.new) result }
+    ensures { WritesMigrated front.now (O.seen out.old) (O.seen out.new) result }
 {
     if front.len() > TOPOLOGY_LIMIT {
         return Ok(End::TooLong);
@@ -168,26 +143,11 @@ pub fn migrate_topology<S: Shelf, O: Sink>(
     shelf: &mut S,
     out: &mut O,
 ) -> Result<End, Fault>
-    ensures end { IfOk result (λ e. e ≢ End.Usage) }
-    ensures unjudged { IfOk result (λ e. e ≢ End.Differs) }
-    ensures present { IfOk result (λ e. e ≢ End.NoEvent) }
-    ensures due_outcome { IsFileMigrated topology.now (S.seen shelf.old) (S.seen shelf.new)
-        (O.seen out.old) (O.seen out.new) result }
-    ensures output_so_far { IfErr result (λ e. WroteBy e (λ contents n. []) (λ contents n. [])
-        (S.seen shelf.old) (S.seen shelf.new) (O.seen out.old) (O.seen out.new)) }
-    ensures reads_no_further { IfOk result (λ e. ReadAsFar (λ contents given ahead. given
-        ≤ length (bytes_of (contents topology.now))) (S.seen shelf.old) (S.seen shelf.new)) }
-    ensures file_names { AsksFor topology.now (S.seen shelf.old).asked (S.seen shelf.new).asked }
-    ensures read_limit { (S.seen shelf.new).given ≤ (S.seen shelf.old).given + (topology_limit + 1) }
-    ensures read_pieces { AskedPieces (S.seen shelf.old).longest (S.seen shelf.new).longest }
-    ensures files_too_long { IfOk result (λ e. e ≡ End.TooLong → Gave (S.seen shelf.old).given (topology_limit + 1)
-        (S.seen shelf.new).given) }
-    ensures whole_files { IfOk result (λ e. e ≡ End.Done → (S.seen shelf.new).given
-        ≤ (S.seen shelf.old).given + topology_limit) }
+    ensures { FileRun (migrate_task topology.now) (S.seen shelf.old) (S.seen shelf.new) (O.seen out.old)
+        (O.seen out.new) result }
 {
     match read_front(alloc, shelf, topology, TOPOLOGY_LIMIT + 1) {
-        Err(Unread::Fault) => Err(Fault::Read),
-        Err(Unread::Memory) => Err(Fault::Memory),
+        Err(e) => Err(e),
         Ok(front) => write_migrated(alloc, &front, out),
     }
 }

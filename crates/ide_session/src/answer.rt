@@ -2,7 +2,7 @@
 
 ghost use Rattle.std.specs.Prelude.{◌≡◌};
 
-/// The answer of a call: the numbers are those of the program's exit codes, and three more (this profile).
+/// The answer of a call: the numbers are those of the program's exit codes, and four more (this profile).
 #[derive(Clone, Copy, Debug, PartialEq, Eq)]
 pub enum Answer {
     /// Done; a text is in the buffer.
@@ -21,6 +21,8 @@ pub enum Answer {
     Closed = 10,
     /// The handle has a session already.
     Open = 11,
+    /// There is no such packet, or what the last line came from was not kept.
+    Absent = 12,
 }
 
 impl Answer {

@@ -5,12 +5,15 @@
 ghost use Rattle.std.specs.Prelude.{◌≡◌, IfSome, IsSome, None};
 ghost use Rattle.ide_types.specs.Fits.{FitsPlan};
 ghost use Rattle.ide_session.specs.Answers.{AnswersWithCode};
-ghost use Rattle.ide_session.specs.Sessions.{BeginCame, CloseCame, LastCame, OpenCame, RefusalCame, StepCame, TextCame};
-ghost use Rattle.ide_session.specs.Sessions.{TotalsCame, TotalsSaid, kept_session, going_of};
+ghost use Rattle.ide_session.specs.Sessions.{BeginCame, CloseCame, ExplainCame, LastCame, OpenCame, PacketCame};
+ghost use Rattle.ide_session.specs.Sessions.{PacketSaid, RefusalCame, StepCame, TextCame, TotalsCame, TotalsSaid};
+ghost use Rattle.ide_session.specs.Sessions.{WhyCame, WhySaid, kept_session, going_of};
 
 pub mod answer;
+pub mod given;
 pub mod held;
 mod loose;
+pub mod runs;
 pub mod session;
 
 use answer::Answer;
@@ -137,7 +140,7 @@ fn step(
 {
     let number = session.next_number();
     match session.step(alloc, line) {
-        Ok(()) => give(session.text.as_slice(), buf, written),
+        Ok(()) => give(session.last.text.as_slice(), buf, written),
         Err(cause) => refuse(alloc, number, cause, buf, written),
     }
 }
@@ -191,7 +194,7 @@ fn last_of(alloc: Global, s: &mut Handle, buf: &mut [u8], written: &mut usize) -
     match unhold(s, alloc) {
         None => Answer::Closed,
         Some(b) => {
-            let answer = give(b.as_ref().text.as_slice(), buf, written);
+            let answer = give(b.as_ref().last.text.as_slice(), buf, written);
             hold(s, b);
             answer
         }
@@ -250,6 +253,125 @@ pub extern "C" fn ide_totals(
         written.new buf.new) result }
 {
     totals_of_handle(alloc, s, buf, written).code()
+}
+
+// ---- what the last verdict came from
+
+// Keeps what verdicts come from in the session of a handle, if it has one, or no more.
+fn explain_on_handle(alloc: Global, s: &mut Handle, on: bool) -> Answer
+    ensures { ExplainCame result (kept_session s.old.held.kept) on (kept_session s.new.held.kept) }
+{
+    match unhold(s, alloc) {
+        None => Answer::Closed,
+        Some(mut b) => {
+            b.as_mut().explain(on);
+            hold(s, b);
+            Answer::Done
+        }
+    }
+}
+
+/// Keeps what the verdict of each line comes from, from the next line on, for `ide_why`; or no more. A session that was
+/// opened keeps nothing.
+#[unsafe(no_mangle)]
+pub extern "C" fn ide_explain(alloc: Global, s: &mut Handle, on: bool) -> u32
+    ensures { AnswersWithCode (λ a. ExplainCame a (kept_session s.old.held.kept) on (kept_session s.new.held.kept))
+        result }
+{
+    explain_on_handle(alloc, s, on).code()
+}
+
+// What was kept of the line that was taken last.
+fn reasons(session: &Session, buf: &mut [u8], written: &mut usize) -> Answer
+    requires { written.old ≡ 0 }
+    ensures { IfSome (going_of session.now) (λ s. WhySaid result s.reasons written.new buf.new) }
+{
+    match &session.last.reasons {
+        None => Answer::Absent,
+        Some(text) => give(text.as_slice(), buf, written),
+    }
+}
+
+// The same of a handle that may have a session.
+fn why_of_handle(alloc: Global, s: &mut Handle, buf: &mut [u8], written: &mut usize) -> Answer
+    ensures { WhyCame result (kept_session s.old.held.kept) (kept_session s.new.held.kept) written.new buf.new }
+{
+    *written = 0;
+    match unhold(s, alloc) {
+        None => Answer::Closed,
+        Some(b) => {
+            let answer = reasons(b.as_ref(), buf, written);
+            hold(s, b);
+            answer
+        }
+    }
+}
+
+/// What the verdict of the line that was taken last came from, if that was kept: the rule that answers, and facts of
+/// the state before the line, as `ide why` writes them below the verdict.
+#[unsafe(no_mangle)]
+pub extern "C" fn ide_why(alloc: Global, s: &mut Handle, buf: &mut [u8], written: &mut usize) -> u32
+    ensures { AnswersWithCode (λ a. WhyCame a (kept_session s.old.held.kept) (kept_session s.new.held.kept) written.new
+        buf.new) result }
+{
+    why_of_handle(alloc, s, buf, written).code()
+}
+
+// ---- packets
+
+// The bytes of a packet of a session.
+fn packet(
+    alloc: Global,
+    session: &Session,
+    number: u64,
+    buf: &mut [u8],
+    written: &mut usize,
+) -> Answer
+    requires { written.old ≡ 0 }
+    ensures { IfSome (going_of session.now) (λ s. PacketSaid result s.running number written.new buf.new) }
+{
+    match session.packet(alloc, number) {
+        Err(_) => Answer::Memory,
+        Ok(None) => Answer::Absent,
+        Ok(Some(text)) => give(text.as_slice(), buf, written),
+    }
+}
+
+// The same of a handle that may have a session.
+fn packet_of_handle(
+    alloc: Global,
+    s: &mut Handle,
+    number: u64,
+    buf: &mut [u8],
+    written: &mut usize,
+) -> Answer
+    ensures { PacketCame result (kept_session s.old.held.kept) number (kept_session s.new.held.kept) written.new
+        buf.new }
+{
+    *written = 0;
+    match unhold(s, alloc) {
+        None => Answer::Closed,
+        Some(b) => {
+            let answer = packet(alloc, b.as_ref(), number, buf, written);
+            hold(s, b);
+            answer
+        }
+    }
+}
+
+/// The bytes of packet `number`, from 1, among those that were sealed so far, as hex digits: those of `dump`.
+#[unsafe(no_mangle)]
+pub extern "C" fn ide_packet(
+    alloc: Global,
+    s: &mut Handle,
+    number: u64,
+    buf: &mut [u8],
+    written: &mut usize,
+) -> u32
+    ensures { AnswersWithCode (λ a. PacketCame a (kept_session s.old.held.kept) number
+        (kept_session s.new.held.kept) written.new buf.new) result }
+{
+    packet_of_handle(alloc, s, number, buf, written).code()
 }
 
 // ---- a session ends

@@ -1,8 +1,10 @@
 //! A session: the lines of a script, one by one, on the links of a topology.
 
-ghost use Rattle.std.specs.Prelude.{◌≡◌, ◌<◌, ◌+◌, ◌^◌, ◌↔◌, IfOk, IfSome, IsTrue, IsSome, Some, []};
-ghost use Rattle.ide_runs.specs.Works.{IsEarly, MayAsk};
+ghost use Rattle.std.specs.Prelude.{◌≡◌, ◌<◌, ◌+◌, ◌^◌, ◌↔◌, IfOk, IfSome, IsTrue, IsSome, None, Some, [], false};
+ghost use Rattle.std.specs.Option.{option_map};
+ghost use Rattle.ide_runs.specs.Works.{Follows, IsEarly, MayAsk, ScriptPast};
 
+use crate::given::{Given, event_given, hex_line, no_event};
 use file_runs::LineWork;
 use ide_runs::{ScriptWork, World, asked};
 use ide_types::{Bytes, OutOfMemory};
@@ -21,11 +23,12 @@ pub struct Live {
     ghost early: { IsEarly work (lines + 1) },
 }
 
-/// A session: it goes on or is over, and the text that it gave last.
+/// A session: it goes on or is over, whether it keeps what verdicts come from, and what its last line gave.
 #[derive(Drop)]
 pub struct Session {
     pub(crate) slot: Option<Live>,
-    pub(crate) text: Bytes,
+    pub(crate) explains: bool,
+    pub(crate) last: Given,
 }
 
 /// Why a line was not run.
@@ -40,7 +43,7 @@ pub enum NotRun {
 }
 
 impl Live {
-    ghost use Rattle.ide_session.specs.Sessions.{MeaningGave, IsTotals};
+    ghost use Rattle.ide_session.specs.Sessions.{IsTotals, MeaningGave, MeaningTold, packet_text};
 
     // The world before the first event.
     fn new(alloc: Global, world: World) -> Live
@@ -55,21 +58,27 @@ impl Live {
         }
     }
 
-    // The text of a line that asks for this event, or for none. The session is over if there is no memory.
-    fn run(self, alloc: Global, event: Option<ScriptEvent>) -> Result<(Live, Bytes), OutOfMemory>
+    // What a line gives that asks for this event, or for none. The session is over if there is no memory.
+    fn run(
+        self,
+        alloc: Global,
+        event: Option<ScriptEvent>,
+        explains: bool,
+    ) -> Result<(Live, Given), OutOfMemory>
         requires few { self.lines < 67108862 }
         requires allowed { MayAsk event }
-        ensures gave { IfOk result (λ p. MeaningGave self.work event p.0.work p.1) }
+        ensures gave { IfOk result (λ p. MeaningGave self.work event p.0.work p.1.text) }
+        ensures told { IfOk result (λ p. MeaningTold self.work explains event p.1.reasons) }
         ensures lines { IfOk result (λ p. p.0.lines ≡ self.lines + 1) }
     {
         let Live { work, lines } = self;
         let mut work = work;
         let lines = lines + 1;
         match event {
-            None => Ok((Live { work, lines }, Bytes::new(Vec::new(alloc)))),
-            Some(event) => match work.run_script_event(event, lines) {
+            None => Ok((Live { work, lines }, no_event(alloc, explains))),
+            Some(event) => match event_given(&mut work, event, lines, explains) {
                 Err(_) => Err(OutOfMemory),
-                Ok(text) => Ok((Live { work, lines }, text)),
+                Ok(given) => Ok((Live { work, lines }, given)),
             },
         }
     }
@@ -80,10 +89,24 @@ impl Live {
     {
         self.work.closing()
     }
+
+    // The line of a packet's bytes; `None` if there is no packet of this number.
+    fn packet(&self, alloc: Global, number: u64) -> Result<Option<Bytes>, OutOfMemory>
+        ensures { (past : ScriptPast) → Follows self.now.work past → IfOk result
+            (λ text. text ≡ packet_text past number) }
+    {
+        match self.work.world().links().links.packets.get(number) {
+            None => Ok(None),
+            Some((_, bytes)) => {
+                let line = hex_line(alloc, bytes)?;
+                Ok(Some(Bytes::new(line)))
+            }
+        }
+    }
 }
 
 impl Session {
-    ghost use Rattle.ide_session.specs.Sessions.{SessionEventCame, LineCame, IsTotals, going_of};
+    ghost use Rattle.ide_session.specs.Sessions.{SessionEventCame, LineCame, IsPacket, IsTotals, explaining, going_of};
 
     /// The session of a world before the first event.
     pub(crate) fn new(alloc: Global, world: World) -> Session
@@ -99,12 +122,15 @@ impl Session {
             };
           };
           lines = 0;
+          explains = false;
           text = [];
+          reasons = None;
         }) }
     {
         Session {
             slot: Some(Live::new(alloc, world)),
-            text: Bytes::new(Vec::new(alloc)),
+            explains: false,
+            last: no_event(alloc, false),
         }
     }
 
@@ -127,11 +153,11 @@ impl Session {
                     self.slot = Some(live);
                     return Err(NotRun::Full);
                 }
-                match live.run(alloc, event) {
+                match live.run(alloc, event, self.explains) {
                     Err(_) => Err(NotRun::Memory),
-                    Ok((live, text)) => {
+                    Ok((live, given)) => {
                         self.slot = Some(live);
-                        self.text = text;
+                        self.last = given;
                         Ok(())
                     }
                 }
@@ -162,12 +188,29 @@ impl Session {
         }
     }
 
+    /// Keeps what verdicts come from, from the next line on, or no more.
+    pub(crate) fn explain(&mut self, on: bool)
+        ensures { going_of self.new ≡ option_map (explaining on) (going_of self.old) }
+    {
+        self.explains = on;
+    }
+
     /// The line of the totals.
     pub(crate) fn totals(&self) -> Result<Bytes, OutOfMemory>
         ensures { IfSome (going_of self.now) (λ s. IfOk result (λ text. IsTotals s.running text)) }
     {
         match &self.slot {
             Some(live) => live.totals(),
+            None => Err(OutOfMemory),
+        }
+    }
+
+    /// The line of a packet's bytes, in hex digits; `None` if there is no packet of this number.
+    pub(crate) fn packet(&self, alloc: Global, number: u64) -> Result<Option<Bytes>, OutOfMemory>
+        ensures { IfSome (going_of self.now) (λ s. IfOk result (λ text. IsPacket s.running number text)) }
+    {
+        match &self.slot {
+            Some(live) => live.packet(alloc, number),
             None => Err(OutOfMemory),
         }
     }

@@ -9,3 +9,5 @@ mod SeenInterfaces
 mod Read
 mod Reading
 mod Taken
+mod Planned
+mod Portions

@@ -53,7 +53,7 @@ module _ (plan : Plan) (s : WholeLinks) (links : AreLinks plan s.links.ends s.li
     establish_by line stream None = refl
     establish_by line stream (Some q) =
         ap (λ (fs : List Fact). manager_fact q ∷ draws_fact (state_of_whole plan s).draws (pool_of plan) ∷ fs)
-        (exchanges_are plan s line stream (state_of_whole plan s).draws op.Establish q)
+        (exchanges_are plan s line stream op.Establish q)
 
     refresh_by : (line stream : ℕ) (q : Option StreamStage) → if_found q
         (λ q. manager_fact q ∷ state_fact (machine_status plan (state_of_whole plan s) Host line stream)
@@ -65,7 +65,7 @@ module _ (plan : Plan) (s : WholeLinks) (links : AreLinks plan s.links.ends s.li
     refresh_by line stream (Some q) =
         (λ i. manager_fact q ∷ state_fact (machine_status plan (state_of_whole plan s) Host line stream)
         ∷ draws_fact (state_of_whole plan s).draws (pool_of plan)
-        ∷ (opens_are plan s line stream q i ++ exchanges_are plan s line stream (state_of_whole plan s).draws op.Refresh
+        ∷ (opens_are plan s line stream q i ++ exchanges_are plan s line stream op.Refresh
         q
         i))
 
@@ -75,7 +75,7 @@ module _ (plan : Plan) (s : WholeLinks) (links : AreLinks plan s.links.ends s.li
         (state_of_whole plan s).draws)
     stop_by line stream None = refl
     stop_by line stream (Some q) = ap (λ (fs : List Fact). manager_fact q ∷ fs)
-        (exchanges_are plan s line stream (state_of_whole plan s).draws op.Stop q)
+        (exchanges_are plan s line stream op.Stop q)
 
     cleared_is : (end : PortName) (xs : List StreamPlan)
         → cleared_read plan s end xs ≡ cleared_in plan stood.whole end xs

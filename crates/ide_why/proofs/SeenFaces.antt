@@ -6,6 +6,7 @@ use Rattle.std.proofs.lemmas.Option.{same_Some, slice_get_within}
 use Rattle.std.specs.Option.{option_and_then}
 use Rattle.std.specs.Prelude.{slice_get}
 use Rattle.ide_types.specs.declared.plan.Plan.{Plan}
+use Rattle.ide_types.specs.declared.interface.InterfacePlan.{InterfacePlan}
 use Rattle.join_interfaces.specs.Faces.{SeenAs}
 use Rattle.machine_whole.specs.Interfaces.{Face, find_face, with_requester}
 use Rattle.spec_interfaces.specs.Sites.{Site, sites}
@@ -30,24 +31,26 @@ use Rattle.why_facts.specs.{face_seen, reported_seen}
 use Rattle.ide_why.specs.Facts.{known_read, shown_read, shown_seen}
 use Rattle.ide_why.specs.Faces.{AreFacesSeen, IsFaceSeen}
 use Rattle.ide_why.specs.Reading.{face_located, face_of, face_read, requester_read, device_interface_read}
+use Rattle.ide_why.specs.Reading.{interface_planned}
+use Rattle.ide_why.proofs.Planned.{planned}
 
 abbrev is_site_requester : ℕ → ℕ → Site → Bool
 is_site_requester link requester x = (x.link == link) && (x.plan.requester == requester)
 
 -- ---- the lines of an interface that is seen
 
-pub face_is : (draw : ℕ → ℕ → ℕ) (tdis : ℕ → Option DeviceTdi) (y : Site × Face) (f : FaceSeen)
-    → IsFaceSeen draw tdis y f → face_seen f ≡ face_facts y.0 y.1.tdi y.1.managed
-face_is draw tdis y f is =
+pub face_is : (draw : ℕ → ℕ → ℕ) (tdis : ℕ → Option DeviceTdi) (plans : ℕ → Option InterfacePlan) (y : Site × Face) (f : FaceSeen)
+    → IsFaceSeen draw tdis plans y f → face_seen f ≡ face_facts y.0 y.1.tdi y.1.managed
+face_is draw tdis plans y f is =
     (λ i. interface_fact (is.number i) (is.state i) ∷ fact.Interface (face.View (is.view i))
     ∷ fact.Interface (face.Needs (is.needs i)) ∷ bound_facts (is.bound i))
 
-pub known_is : (draw : ℕ → ℕ → ℕ) (tdis : ℕ → Option DeviceTdi) (o : Option (Site × Face)) (f : Option FaceSeen)
-    → AreFacesSeen draw tdis o f → known_read f ≡ known_facts o
-known_is draw tdis None None is = refl
-known_is draw tdis None (Some f) is = absurd is
-known_is draw tdis (Some y) None is = absurd is
-known_is draw tdis (Some y) (Some f) is = face_is draw tdis y f is
+pub known_is : (draw : ℕ → ℕ → ℕ) (tdis : ℕ → Option DeviceTdi) (plans : ℕ → Option InterfacePlan) (o : Option (Site × Face)) (f : Option FaceSeen)
+    → AreFacesSeen draw tdis plans o f → known_read f ≡ known_facts o
+known_is draw tdis plans None None is = refl
+known_is draw tdis plans None (Some f) is = absurd is
+known_is draw tdis plans (Some y) None is = absurd is
+known_is draw tdis plans (Some y) (Some f) is = face_is draw tdis plans y f is
 
 -- ---- an interface that is seen
 
@@ -74,7 +77,7 @@ module _ (plan : Plan) (s : WholeLinks) (links : AreLinks plan s.links.ends s.li
       ∙ ap (λ (t : DeviceTdi). Some t) p.keeps.tdi_is)
 
   placed_seen : (i : ℕ) (x : Site) (p : Placed i x) → slice_get (sites plan) i ≡ Some x
-      → IsFaceSeen stood.whole.draw (device_interface_read s) (x, p.face)
+      → IsFaceSeen stood.whole.draw (device_interface_read s) (interface_planned plan.links) (x, p.face)
       (record { number = i; state = state_code p.tdi.state; manager = interface_facts p.interface })
   placed_seen i x p at =
       let kept = p.keeps.managed in record {
@@ -90,6 +93,7 @@ module _ (plan : Plan) (s : WholeLinks) (links : AreLinks plan s.links.ends s.li
             ∙ bound_is p.interface.seen p.face.managed x.plan.stream kept.seen;
         tdi = interface_at i x p at;
         reported = reported_is p.interface.seen p.face.managed kept.seen;
+        laid_out = planned plan i x at;
       }
     where
       view_is : (seen : Seen) (m : Managed) → SeenAs seen m → view_of seen ≡ m.view
@@ -120,27 +124,27 @@ module _ (plan : Plan) (s : WholeLinks) (links : AreLinks plan s.links.ends s.li
       stood.whole
       stood.is.beside links.fits links.many i x p j) (p.interface_is j))
 
-  pub face_read_is : (i : ℕ) → AreFacesSeen stood.whole.draw (device_interface_read s)
+  pub face_read_is : (i : ℕ) → AreFacesSeen stood.whole.draw (device_interface_read s) (interface_planned plan.links)
       (find_face (λ x. x.number == i) (sites plan) stood.whole.faces.list) (face_read s i)
   face_read_is i = ⊎_elim here nowhere (cases_lt i (length (sites plan)))
     where
-      here : i < length (sites plan) → AreFacesSeen stood.whole.draw (device_interface_read s)
+      here : i < length (sites plan) → AreFacesSeen stood.whole.draw (device_interface_read s) (interface_planned plan.links)
           (find_face (λ x. x.number == i) (sites plan) stood.whole.faces.list) (face_read s i)
       here lt =
           let x = get_there (sites plan) i lt in
           let p = stood.is.beside.placed i x.0 x.1 in
-          subst (λ o. AreFacesSeen stood.whole.draw (device_interface_read s) o (face_read s i))
+          subst (λ o. AreFacesSeen stood.whole.draw (device_interface_read s) (interface_planned plan.links) o (face_read s i))
           (sym (face_found plan stood.whole.faces.list i x.0 p.face x.1 p.face_is))
-          (subst (λ f. AreFacesSeen stood.whole.draw (device_interface_read s) (Some (x.0, p.face)) f)
+          (subst (λ f. AreFacesSeen stood.whole.draw (device_interface_read s) (interface_planned plan.links) (Some (x.0, p.face)) f)
           (sym (face_there i x.0 p x.1))
           (placed_seen i x.0 p x.1))
 
-      nowhere : length (sites plan) ≤ i → AreFacesSeen stood.whole.draw (device_interface_read s)
+      nowhere : length (sites plan) ≤ i → AreFacesSeen stood.whole.draw (device_interface_read s) (interface_planned plan.links)
           (find_face (λ x. x.number == i) (sites plan) stood.whole.faces.list) (face_read s i)
       nowhere le =
-          subst (λ o. AreFacesSeen stood.whole.draw (device_interface_read s) o (face_read s i))
+          subst (λ o. AreFacesSeen stood.whole.draw (device_interface_read s) (interface_planned plan.links) o (face_read s i))
           (sym (face_absent plan stood.whole.faces.list i le))
-          (subst (λ f. AreFacesSeen stood.whole.draw (device_interface_read s) None f)
+          (subst (λ f. AreFacesSeen stood.whole.draw (device_interface_read s) (interface_planned plan.links) None f)
           (sym (ap (face_located s i) (interface_absent plan s.links.ends.links
           s.links.keeper.interfaces s.links.trusted.contents stood.whole i stood.is.beside le))) tt)
 
@@ -235,38 +239,38 @@ module _ (plan : Plan) (s : WholeLinks) (links : AreLinks plan s.links.ends s.li
           let no : true ≡ false = sym passes ∙ fails k z.0 z.1 in absurd cc)
           (λ not_so. not_so) cases
 
-  pub requester_read_is : (link requester : ℕ) → AreFacesSeen stood.whole.draw (device_interface_read s)
+  pub requester_read_is : (link requester : ℕ) → AreFacesSeen stood.whole.draw (device_interface_read s) (interface_planned plan.links)
       (with_requester plan stood.whole.faces link requester) (requester_read s link requester)
   requester_read_is link requester =
       ⊎_elim here nowhere (site_or_none (is_site_requester link requester) (sites plan))
     where
       here : IsSomeSite (is_site_requester link requester) (sites plan)
-          → AreFacesSeen stood.whole.draw (device_interface_read s)
+          → AreFacesSeen stood.whole.draw (device_interface_read s) (interface_planned plan.links)
           (with_requester plan stood.whole.faces link requester) (requester_read s link requester)
       here t =
           let p = stood.is.beside.placed t.place t.site t.site_is in
-          subst (λ o. AreFacesSeen stood.whole.draw (device_interface_read s) o (requester_read s link requester))
+          subst (λ o. AreFacesSeen stood.whole.draw (device_interface_read s) (interface_planned plan.links) o (requester_read s link requester))
           (sym (requester_found plan s.links.ends.links s.links.keeper.interfaces s.links.trusted.contents stood.whole
           stood.is.beside
           links.fits links.many link requester t.place t.site p t.site_is t.passes))
-          (subst (λ f. AreFacesSeen stood.whole.draw (device_interface_read s) (Some (t.site, p.face)) f)
+          (subst (λ f. AreFacesSeen stood.whole.draw (device_interface_read s) (interface_planned plan.links) (Some (t.site, p.face)) f)
           (sym (ap (option_and_then (face_read s)) (reader_known link requester t.place t.site t.site_is t.passes)
           ∙ face_there t.place t.site p t.site_is))
           (placed_seen t.place t.site p t.site_is))
 
       nowhere : ((k : ℕ) (y : Site) → slice_get (sites plan) k ≡ Some y → is_site_requester link requester y ≡ false)
-          → AreFacesSeen stood.whole.draw (device_interface_read s)
+          → AreFacesSeen stood.whole.draw (device_interface_read s) (interface_planned plan.links)
           (with_requester plan stood.whole.faces link requester) (requester_read s link requester)
       nowhere fails =
-          subst (λ o. AreFacesSeen stood.whole.draw (device_interface_read s) o (requester_read s link requester))
+          subst (λ o. AreFacesSeen stood.whole.draw (device_interface_read s) (interface_planned plan.links) o (requester_read s link requester))
           (sym (requester_nowhere plan s.links.ends.links s.links.keeper.interfaces s.links.trusted.contents stood.whole
           stood.is.beside
           links.fits links.many link requester fails))
-          (subst (λ f. AreFacesSeen stood.whole.draw (device_interface_read s) None f)
+          (subst (λ f. AreFacesSeen stood.whole.draw (device_interface_read s) (interface_planned plan.links) None f)
           (sym (ap (option_and_then (face_read s)) (reader_unknown link requester fails))) tt)
 
   pub known : (link requester : ℕ) → known_read (requester_read s link requester) ≡ known_facts
       (with_requester plan stood.whole.faces link requester)
-  known link requester = known_is stood.whole.draw (device_interface_read s)
+  known link requester = known_is stood.whole.draw (device_interface_read s) (interface_planned plan.links)
       (with_requester plan stood.whole.faces link requester)
       (requester_read s link requester) (requester_read_is link requester)

@@ -38,9 +38,10 @@ use Rattle.world.proofs.{live_is, peer_line_is}
 use Rattle.spec_keys.specs.History.{History}
 use Rattle.why_facts.specs.declared.appends.faces.FaceSeen.{FaceSeen}
 use Rattle.ide_why.specs.Facts.{answer_read, asked_by_face, asked_by_number, besides_read, bind_read, completion_read}
-use Rattle.ide_why.specs.Facts.{first_read, forward_read, oldest_read, reader_read, state_of_whole}
+use Rattle.ide_why.specs.Facts.{exchanges_of, first_read, forward_read, oldest_read, reader_read, state_of_whole}
 use Rattle.ide_why.specs.Faces.{AreFacesSeen, IsFaceSeen}
 use Rattle.ide_why.specs.Reading.{bindings_read, face_read, requester_read, stream_read, device_interface_read}
+use Rattle.ide_why.specs.Reading.{interface_planned}
 use Rattle.ide_why.proofs.SeenFaces.{face_is, face_read_is, known, requester_read_is}
 use Rattle.ide_why.proofs.SeenStatuses.{stand}
 use Rattle.ide_why.proofs.Packets.{sending_is, state_is}
@@ -54,7 +55,7 @@ module _ (plan : Plan) (s : WholeLinks) (links : AreLinks plan s.links.ends s.li
 
     -- ---- events on interfaces
 
-    bindings_are : (y : Site × Face) (f : FaceSeen) → IsFaceSeen stood.whole.draw (device_interface_read s) y f
+    bindings_are : (y : Site × Face) (f : FaceSeen) → IsFaceSeen stood.whole.draw (device_interface_read s) (interface_planned plan.links) y f
         → bindings_read s f.number ≡ y.1.tdi.bindings
     bindings_are y f seen = ap (λ (o : Option DeviceTdi). option_map_or (λ (t : DeviceTdi). t.bindings) o []) seen.tdi
 
@@ -74,7 +75,7 @@ module _ (plan : Plan) (s : WholeLinks) (links : AreLinks plan s.links.ends s.li
         ∙ ap (λ (st : LinkState). live_by_id (live_draw_at_end plan st) plan.peers link stream) st_is
 
     bind_is : (y : Site × Face) (f : FaceSeen) (line stream : ℕ)
-        → IsFaceSeen stood.whole.draw (device_interface_read s) y f → has_peer plan.peers y.0.link line stream ≡ true
+        → IsFaceSeen stood.whole.draw (device_interface_read s) (interface_planned plan.links) y f → has_peer plan.peers y.0.link line stream ≡ true
         → bind_read plan s f line stream ≡ bind_facts
         (asked_state_of_face plan (whole_streams plan stood.whole) stood.whole.faces.used y.0 y.1) line stream
     bind_is y f line stream seen has =
@@ -84,7 +85,7 @@ module _ (plan : Plan) (s : WholeLinks) (links : AreLinks plan s.links.ends s.li
 
     -- if the device has the stream
     if_peer : (y : Site × Face) (f : FaceSeen) (line stream : ℕ) (mine due : List Fact)
-        → IsFaceSeen stood.whole.draw (device_interface_read s) y f
+        → IsFaceSeen stood.whole.draw (device_interface_read s) (interface_planned plan.links) y f
         → (has_peer plan.peers y.0.link line stream ≡ true → mine ≡ due)
         → (if has_peer plan.peers f.manager.link line stream then mine else [])
         ≡ (if has_peer plan.peers y.0.link line stream then due else [])
@@ -97,7 +98,7 @@ module _ (plan : Plan) (s : WholeLinks) (links : AreLinks plan s.links.ends s.li
         by false same = refl
 
     besides_are : (e : InterfaceEvent) (y : Site × Face) (f : FaceSeen)
-        → IsFaceSeen stood.whole.draw (device_interface_read s) y f → besides_read plan s f e
+        → IsFaceSeen stood.whole.draw (device_interface_read s) (interface_planned plan.links) y f → besides_read plan s f e
         ≡ asked_besides plan y.0
         (asked_state_of_face plan (whole_streams plan stood.whole) stood.whole.faces.used y.0 y.1) e
     besides_are (ie.Lock i loss) y f seen =
@@ -119,13 +120,15 @@ module _ (plan : Plan) (s : WholeLinks) (links : AreLinks plan s.links.ends s.li
     besides_are (ie.Memory at len) y f seen = refl
 
     face_asked : (e : InterfaceEvent) (o : Option (Site × Face)) (f : Option FaceSeen)
-        → AreFacesSeen stood.whole.draw (device_interface_read s) o f
+        → AreFacesSeen stood.whole.draw (device_interface_read s) (interface_planned plan.links) o f
         → asked_by_face plan s e f ≡ asked_face plan stood.whole e o
     face_asked e None None are = refl
     face_asked e None (Some f) are = absurd are
     face_asked e (Some y) None are = absurd are
     face_asked e (Some y) (Some f) are =
-        (λ j. face_is stood.whole.draw (device_interface_read s) y f are j ++ are.reported j ++ besides_are e y f are j)
+        (λ j. face_is stood.whole.draw (device_interface_read s) (interface_planned plan.links) y f are j
+        ++ are.reported j ++ besides_are e y f are j
+        ++ exchanges_of plan (are.link j) e (are.laid_out j) (are.tdi j))
 
     number_asked : (e : InterfaceEvent) (n : Option ℕ) → asked_by_number plan s e n
         ≡ asked_facts_in_state plan stood.whole e n
@@ -147,13 +150,13 @@ module _ (plan : Plan) (s : WholeLinks) (links : AreLinks plan s.links.ends s.li
         ap (λ (fs : List Fact). state_fact (stream_status x) ∷ fs) (sender_is (is_closed plan link stream) x Cpl)
 
     reader_is : (o : Option (Site × Face)) (f : Option FaceSeen)
-        → AreFacesSeen stood.whole.draw (device_interface_read s) o f
+        → AreFacesSeen stood.whole.draw (device_interface_read s) (interface_planned plan.links) o f
         → reader_read plan s f ≡ reader_in plan stood.whole o
     reader_is None None are = refl
     reader_is None (Some f) are = absurd are
     reader_is (Some y) None are = absurd are
     reader_is (Some y) (Some f) are =
-        (λ j. face_is stood.whole.draw (device_interface_read s) y f are j
+        (λ j. face_is stood.whole.draw (device_interface_read s) (interface_planned plan.links) y f are j
         ++ completion_read (stream_read plan s (host_port (are.link j)) (are.stream j)))
         ∙ ap (λ (fs : List Fact). face_facts y.0 y.1.tdi y.1.managed ++ fs)
         (completion_is y.0.link y.0.plan.stream

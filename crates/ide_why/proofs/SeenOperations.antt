@@ -26,6 +26,7 @@ use Rattle.sub_stream.specs.Facts.{lane_seen, set_facts, slot_facts, stream_fact
 use Rattle.why_facts.specs.declared.fact.Fact.{Fact}
 use Rattle.why_facts.specs.declared.fact.Fact.TheVariants as fact
 use Rattle.why_facts.specs.declared.fact.OperationFact.TheVariants as of
+use Rattle.why_facts.specs.Exchanges.{key_exchanges}
 use Rattle.why_facts.specs.Forms.{exchange_facts, open_facts, opens_facts, refuses_fact, refusing_facts}
 use Rattle.world.specs.{WholeLinks}
 use Rattle.why_facts.specs.declared.appends.places.Place.{Place}
@@ -176,30 +177,36 @@ module _ (plan : Plan) (s : WholeLinks) (o : Operation) (set : Bool) (first : �
 
 -- ---- the exchanges that are left
 
-module _ (plan : Plan) (s : WholeLinks) (line stream next : ℕ) where
-  abbrev left_as : Operation → ℕ → Bool → List Fact
-  left_as o first set = fact.Operation (of.Exchanges first (last_exchange_of (is_hosted line) o))
-      ∷ refusal_facts plan o (refusing_on_line plan s o set first line stream)
+module _ (plan : Plan) (s : WholeLinks) (line stream : ℕ) where
+  -- before the keys of a draw
+  abbrev left_as : Operation → ℕ → Bool → ℕ → List Fact
+  left_as o first set draw = fact.Operation (of.Exchanges first (last_exchange_of (is_hosted line) o))
+      ∷ (refusal_facts plan o (refusing_on_line plan s o set first line stream)
+      ++ key_exchanges plan line stream o set draw first)
 
-  left_is : (o : Operation) (first : ℕ) (set : Bool)
-      → left_as o first set ≡ fact.Operation (of.Exchanges first (last_exchange_of (is_hosted line) o))
-      ∷ refusing_facts plan (ports_of plan (state_of_whole plan s)) o set first
-      (told_places (is_hosted line) line stream)
-  left_is o first set =
-      ap (λ (fs : List Fact). fact.Operation (of.Exchanges first (last_exchange_of (is_hosted line) o)) ∷ fs)
+  left_is : (o : Operation) (first : ℕ) (set : Bool) (draw : ℕ)
+      → left_as o first set draw ≡ fact.Operation (of.Exchanges first (last_exchange_of (is_hosted line) o))
+      ∷ (refusing_facts plan (ports_of plan (state_of_whole plan s)) o set first
+      (told_places (is_hosted line) line stream) ++ key_exchanges plan line stream o set draw first)
+  left_is o first set draw =
+      ap (λ (fs : List Fact). fact.Operation (of.Exchanges first (last_exchange_of (is_hosted line) o))
+      ∷ (fs ++ key_exchanges plan line stream o set draw first))
       (told_is plan s o set first line stream)
 
+  abbrev next : ℕ
+  next = (state_of_whole plan s).draws
+
   pub exchanges_are : (o : Operation) (q : StreamStage) → exchanges_read plan s o line stream q
-      ≡ exchange_facts plan (ports_of plan (state_of_whole plan s)) o line stream q next
-  exchanges_are op.Establish Idle = left_is op.Establish 1 false
-  exchanges_are op.Establish (Establishing draw n) = left_is op.Establish n false
+      ≡ exchange_facts plan (ports_of plan (state_of_whole plan s)) o line stream q (state_of_whole plan s).draws
+  exchanges_are op.Establish Idle = left_is op.Establish 1 false next
+  exchanges_are op.Establish (Establishing draw n) = left_is op.Establish n false draw
   exchanges_are op.Establish (Up set draw) = refl
   exchanges_are op.Establish (Refreshing set draw n) = refl
   exchanges_are op.Establish (Stopping n) = refl
   exchanges_are op.Refresh Idle = refl
   exchanges_are op.Refresh (Establishing draw n) = refl
-  exchanges_are op.Refresh (Up set draw) = left_is op.Refresh 1 (not set)
-  exchanges_are op.Refresh (Refreshing set draw n) = left_is op.Refresh n set
+  exchanges_are op.Refresh (Up set draw) = left_is op.Refresh 1 (not set) next
+  exchanges_are op.Refresh (Refreshing set draw n) = left_is op.Refresh n set draw
   exchanges_are op.Refresh (Stopping n) = refl
   exchanges_are op.Stop Idle = refl
   exchanges_are op.Stop (Establishing draw n) = refl

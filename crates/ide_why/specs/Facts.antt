@@ -9,6 +9,7 @@ use Rattle.ide_types.specs.declared.port.Side.TheVariants.{Host}
 use Rattle.ide_types.specs.declared.sub.SubKind.TheVariants.{Pr, Npr, Cpl}
 use Rattle.ide_types.specs.Ports.{host_port}
 use Rattle.ide_types.specs.declared.plan.Plan.{Plan}
+use Rattle.ide_types.specs.declared.interface.InterfacePlan.{InterfacePlan}
 use Rattle.ide_types.specs.declared.stream.StreamPlan.{StreamPlan}
 use Rattle.tlp_layout.specs.Outgoing.{Outgoing, NoTlp, OnNone, OnStream}
 use Rattle.ide_prefix.specs.Packet.{Packet}
@@ -48,6 +49,7 @@ use Rattle.why_facts.specs.Forms.{Readings, arrives_fact, at_port, clears_fact, 
 use Rattle.why_facts.specs.Forms.{may_go, memory_facts, packets_fact, peer_facts, pool_of, read_fact, refuses_fact}
 use Rattle.why_facts.specs.Forms.{sends_fact, shown_facts, state_fact, takes_facts, unit_facts, waiting_fact}
 use Rattle.why_facts.specs.Kept.{if_found}
+use Rattle.why_facts.specs.Exchanges.{interface_exchanges, key_exchanges}
 use Rattle.world.specs.{WholeLinks, carried_on_link, links_state, peer_live, reads_at}
 use Rattle.why_facts.specs.declared.appends.faces.FaceSeen.{FaceSeen}
 use Rattle.why_facts.specs.declared.appends.places.Place.{Place}
@@ -55,7 +57,7 @@ use Rattle.why_facts.specs.{face_seen, is_live_seen, key_place, open_seen, recei
 use Rattle.why_facts.specs.{sender_seen, senders_seen, set_seen}
 use Rattle.ide_why.specs.Places.{refusing_on_line}
 use Rattle.ide_why.specs.Reading.{bindings_read, face_read, held_read, owner_face, requester_read, statuses_read}
-use Rattle.ide_why.specs.Reading.{stream_read, device_interface_read}
+use Rattle.ide_why.specs.Reading.{stream_read, device_interface_read, interface_planned}
 
 abbrev pub state_of_whole : Plan → WholeLinks → LinkState
 state_of_whole plan s = links_state plan s.links
@@ -151,7 +153,9 @@ abbrev pub exchanges_read : Plan → WholeLinks → Operation → ℕ → ℕ �
 exchanges_read plan s o line stream q =
     if may_go o q
     then fact.Operation (of.Exchanges (work_of o q 0).first (last_exchange_of (is_hosted line) o))
-    ∷ refusing_read plan s o (work_of o q 0).set (work_of o q 0).first line stream
+    ∷ (refusing_read plan s o (work_of o q 0).set (work_of o q 0).first line stream
+    ++ key_exchanges plan line stream o (work_of o q 0).set (work_of o q (state_of_whole plan s).draws).draw
+    (work_of o q 0).first)
     else []
 
 abbrev pub establish_read : Plan → WholeLinks → ℕ → ℕ → List Fact
@@ -211,9 +215,19 @@ besides_read plan s f (ie.Unbind i line stream loss) =
     if has_peer plan.peers f.manager.link line stream then takes_facts (bindings_read s f.number) else []
 besides_read plan s f e = []
 
+-- of an interface that is laid out so and stands so at its device
+abbrev pub exchanges_of : Plan → ℕ → InterfaceEvent → Option InterfacePlan → Option DeviceTdi → List Fact
+exchanges_of plan link e (Some p) (Some t) = interface_exchanges plan link p t e
+exchanges_of plan link e _ _ = []
+
+abbrev pub exchanges_asked : Plan → WholeLinks → FaceSeen → InterfaceEvent → List Fact
+exchanges_asked plan s f e =
+    exchanges_of plan f.manager.link e (interface_planned plan.links f.number) (device_interface_read s f.number)
+
 abbrev pub asked_by_face : Plan → WholeLinks → InterfaceEvent → Option FaceSeen → List Fact
 asked_by_face plan s e None = []
-asked_by_face plan s e (Some f) = face_seen f ++ reported_seen f.manager.reported ++ besides_read plan s f e
+asked_by_face plan s e (Some f) =
+    face_seen f ++ reported_seen f.manager.reported ++ besides_read plan s f e ++ exchanges_asked plan s f e
 
 abbrev pub asked_by_number : Plan → WholeLinks → InterfaceEvent → Option ℕ → List Fact
 asked_by_number plan s e None = memory_facts plan e

@@ -73,13 +73,15 @@ impl Reader<'_> {
             Event::Cut { packet, length } => self.push_cut(facts, *packet, *length),
             Event::Arrive { port, bytes } => self.push_arrived(facts, *port, bytes.as_slice()),
             Event::Dump { .. } => self.push_sealed(facts),
-            Event::Establish { line, stream, .. } => self.push_establish(facts, *line, *stream),
+            Event::Establish { line, stream, .. } => self.push_establish(
+                alloc, facts, *line, *stream,
+            ),
             Event::Refresh { line, stream, .. } if *line < 8 => {
-                self.push_refresh(facts, *line, *stream)
+                self.push_refresh(alloc, facts, *line, *stream)
             }
-            Event::Stop { line, stream, .. } => self.push_stop(facts, *line, *stream),
+            Event::Stop { line, stream, .. } => self.push_stop(alloc, facts, *line, *stream),
             Event::Status { line, stream } => self.push_stage(facts, *line, *stream),
-            Event::Interface { event } => self.push_asked(facts, event),
+            Event::Interface { event } => self.push_asked(alloc, facts, event),
             Event::Access {
                 event: AccessEvent::Answer { link },
             } => self.push_answer(facts, *link),

@@ -14,6 +14,7 @@ use hop_queues::HopQueues;
 use ide_types::{Direction, OutOfMemory, PortName, Side, SubKind};
 use line_routes::{has_hop, leaving_end};
 use script_events::InterfaceEvent;
+use std::alloc::Global;
 use tlp_layout::OutgoingTlp;
 use trusted_memory::WaitingRead;
 use why_facts::{
@@ -97,6 +98,7 @@ impl Reader<'_> {
     /// Appends the facts of an event on an interface.
     pub fn push_asked(
         &self,
+        alloc: Global,
         facts: &mut Vec<Fact>,
         event: &InterfaceEvent,
     ) -> Result<(), OutOfMemory>
@@ -113,7 +115,8 @@ impl Reader<'_> {
             Some(seen) => {
                 push_face(facts, &seen)?;
                 push_reported(facts, seen.manager.reported)?;
-                self.push_besides(facts, &seen, event)
+                self.push_besides(facts, &seen, event)?;
+                self.push_exchanges_asked(alloc, facts, &seen, event)
             }
         }
     }

@@ -4,6 +4,7 @@
 
 mod arrivals;
 mod events;
+mod exchanges;
 mod interfaces;
 mod operations;
 mod peers;

@@ -14,9 +14,10 @@ use crate::reader::{Reader, StageSeen};
 use event_verdicts::Operation;
 use ide_types::{OutOfMemory, PortName, Side, StreamStatus, SubKind};
 use key_host::StageFacts;
+use std::alloc::Global;
 use why_facts::{
-    Fact, OperationFact, first_exchange, last_exchange, may_go, push_manager, push_of_operation,
-    push_open, push_status,
+    ExchangesLeft, Fact, OperationFact, first_exchange, key_draw, key_set, last_exchange, may_go,
+    push_key_exchanges, push_manager, push_of_operation, push_open, push_status,
 };
 
 impl Reader<'_> {
@@ -72,9 +73,10 @@ impl Reader<'_> {
         )
     }
 
-    // Appends the exchanges that are left to an operation, and the first that an end refuses.
+    // Appends the exchanges that are left to an operation, the first that an end refuses, and each with its messages.
     fn push_exchanges(
         &self,
+        alloc: Global,
         facts: &mut Vec<Fact>,
         operation: Operation,
         seen: StageSeen,
@@ -90,7 +92,16 @@ impl Reader<'_> {
         let first = u64::from(first_exchange(operation, seen.stage));
         let last = last_exchange(operation, seen.line);
         push_of_operation(facts, OperationFact::Exchanges { first, last })?;
-        self.push_refusing(facts, operation, seen)
+        self.push_refusing(facts, operation, seen)?;
+        let left = ExchangesLeft {
+            line: seen.line,
+            stream: seen.stream,
+            operation,
+            set: key_set(operation, seen.stage),
+            draw: key_draw(operation, seen.stage, self.draws()),
+            first: first_exchange(operation, seen.stage),
+        };
+        push_key_exchanges(alloc, facts, self.plan, left)
     }
 
     /// The status of a stream at an end, Idle if there is none.
@@ -119,6 +130,7 @@ impl Reader<'_> {
     /// Appends the facts of an establish.
     pub fn push_establish(
         &self,
+        alloc: Global,
         facts: &mut Vec<Fact>,
         line: u64,
         stream: u64,
@@ -132,7 +144,7 @@ impl Reader<'_> {
             Some(seen) => {
                 push_manager(facts, seen.stage)?;
                 self.push_draws(facts)?;
-                self.push_exchanges(facts, Operation::Establish, seen)
+                self.push_exchanges(alloc, facts, Operation::Establish, seen)
             }
         }
     }
@@ -140,6 +152,7 @@ impl Reader<'_> {
     /// Appends the facts of a refresh of a link's stream.
     pub fn push_refresh(
         &self,
+        alloc: Global,
         facts: &mut Vec<Fact>,
         line: u64,
         stream: u64,
@@ -156,7 +169,7 @@ impl Reader<'_> {
                 push_status(facts, self.host_status(seen.line, seen.stream))?;
                 self.push_draws(facts)?;
                 self.push_opens(facts, seen)?;
-                self.push_exchanges(facts, Operation::Refresh, seen)
+                self.push_exchanges(alloc, facts, Operation::Refresh, seen)
             }
         }
     }
@@ -164,6 +177,7 @@ impl Reader<'_> {
     /// Appends the facts of a stop.
     pub fn push_stop(
         &self,
+        alloc: Global,
         facts: &mut Vec<Fact>,
         line: u64,
         stream: u64,
@@ -176,7 +190,7 @@ impl Reader<'_> {
             None => Ok(()),
             Some(seen) => {
                 push_manager(facts, seen.stage)?;
-                self.push_exchanges(facts, Operation::Stop, seen)
+                self.push_exchanges(alloc, facts, Operation::Stop, seen)
             }
         }
     }

@@ -20,8 +20,8 @@ use why_facts::{
 };
 
 impl Reader<'_> {
-    // The interface of a number as its device keeps it; `None` if there is none.
-    fn device(&self, number: u64) -> Option<&Interface>
+    /// The interface of a number as its device keeps it; `None` if there is none.
+    pub fn device(&self, number: u64) -> Option<&Interface>
         requires { IsWorld self.now.plan.now self.now.links.now }
         ensures { option_map (λ i. i.now) result ≡ device_interface_read self.now.links.now number }
     {

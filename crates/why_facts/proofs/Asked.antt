@@ -16,6 +16,7 @@ use Rattle.machine_whole.specs.Machine.{Whole, whole_streams}
 use Rattle.machine_whole.specs.Stands.{WholeStandsFor}
 use Rattle.machine_whole.proofs.Streams.{peer_planned, seen_at, streams_are}
 use Rattle.why_facts.specs.declared.fact.Fact.{Fact}
+use Rattle.why_facts.specs.Exchanges.{interface_exchanges}
 use Rattle.why_facts.specs.Forms.{asked_besides, asked_facts, bind_facts, face_facts, reported_facts}
 use Rattle.why_facts.specs.Due.{asked_facts_due, asked_site_due}
 use Rattle.why_facts.specs.Kept.{asked_face, asked_facts_in_state}
@@ -54,7 +55,8 @@ said_same : (plan : Plan) (h : History) (used : ℕ → ℕ) (e : InterfaceEvent
 said_same plan h used e None = refl
 said_same plan h used e (Some y) = ap
     (λ (xs : List Fact). face_facts y.0 y.1.tdi y.1.managed
-    ++ reported_facts y.1.managed.view y.1.managed.reported ++ xs)
+    ++ reported_facts y.1.managed.view y.1.managed.reported ++ xs
+    ++ interface_exchanges plan y.0.link y.0.plan y.1.tdi e)
     (besides_same plan h used y.0 y.1 e)
 
 site_is : (plan : Plan) (h : History) (used : ℕ → ℕ) (e : InterfaceEvent) (o : Option Site) → used ≡ used_at plan h

@@ -6,3 +6,4 @@ pub mod Operations
 pub mod Asked
 pub mod Beside
 pub mod Stand
+mod Exchanges

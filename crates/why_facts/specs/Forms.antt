@@ -46,6 +46,7 @@ use Rattle.spec_interfaces.specs.Terms.{View, Locked}
 use Rattle.spec_interfaces.specs.Views.{Managed, bound_if}
 use Rattle.spec_interfaces.specs.Due.{AskedState}
 use Rattle.spec_links.specs.Ports.{port_of, at_switch}
+use Rattle.why_facts.specs.Exchanges.{interface_exchanges, key_exchanges}
 use Rattle.why_facts.specs.declared.fact.Fact.{Fact}
 use Rattle.why_facts.specs.declared.fact.SetState.{SetState}
 use Rattle.why_facts.specs.declared.fact.ManagerState.{ManagerState}
@@ -141,11 +142,12 @@ programming_facts plan ports line stream w = by_operation w.operation
     by_operation op.Stop = []
     by_operation o = refusing_facts plan ports o w.set w.first (told_places (is_hosted line) line stream)
 
--- the exchanges that are left, and the first that is refused
+-- the exchanges that are left, the first that is refused, and each with its messages
 abbrev pub work_facts : Plan → PortView → ℕ → ℕ → Work → List Fact
 work_facts plan ports line stream w =
     fact.Operation (of.Exchanges w.first (last_exchange_of (is_hosted line) w.operation))
-    ∷ programming_facts plan ports line stream w
+    ∷ (programming_facts plan ports line stream w
+    ++ key_exchanges plan line stream w.operation w.set w.draw w.first)
 
 abbrev pub exchange_facts : Plan → PortView → Operation → ℕ → ℕ → StreamStage → ℕ → List Fact
 exchange_facts plan ports o line stream q next =
@@ -245,6 +247,7 @@ asked_besides plan x s e = []
 abbrev pub asked_facts : Plan → Site → AskedState → InterfaceEvent → List Fact
 asked_facts plan x s e =
     face_facts x s.tdi s.managed ++ reported_facts s.managed.view s.managed.reported ++ asked_besides plan x s e
+    ++ interface_exchanges plan x.link x.plan s.tdi e
 
 -- ---- ranges of memory
 

@@ -8,19 +8,16 @@ use Rattle.event_verdicts.specs.declared.verdict.Verdict.{Verdict}
 use Rattle.event_verdicts.specs.declared.verdict.Effect.{Effect}
 use Rattle.event_verdicts.specs.declared.verdict.Verdict.TheVariants as v
 use Rattle.why_facts.specs.Terms.{Fact}
-use Rattle.why_facts.specs.Words.{fact_word}
+use Rattle.why_facts.specs.Told.{fact_lines}
 use Rattle.why_facts.specs.Rules.{rule_of, effect_rule_of}
-
--- a line begins with a space, and ends with a line feed
-abbrev pub fact_line : Fact → Text
-fact_line x = joined_words (fact_word x ∷ [])
 
 abbrev pub rule_line : Text → Text
 rule_line rule = joined_words (codes "rule" ∷ rule ∷ [])
 
-abbrev pub facts_text : List Fact → Text
-facts_text [] = []
-facts_text (x ∷ xs) = fact_line x ++ facts_text xs
+-- under the verdict
+abbrev pub facts_text : Verdict → List Fact → Text
+facts_text w [] = []
+facts_text w (x ∷ xs) = fact_lines w x ++ facts_text w xs
 
 -- before the text that follows
 abbrev pub effect_lines : PortName → SubKind → List Effect → Text
@@ -33,4 +30,4 @@ rules_text (v.Accepted port unit effects) = effect_lines port unit.sub effects
 rules_text w = []
 
 abbrev pub why_text_of : Event → Verdict → List Fact → Text
-why_text_of e w xs = rule_line (rule_of e w xs) ++ rules_text w ++ facts_text xs
+why_text_of e w xs = rule_line (rule_of e w xs) ++ rules_text w ++ facts_text w xs

@@ -5,8 +5,10 @@ use Rattle.ide_types.specs.declared.port.PortName.{PortName}
 use Rattle.ide_types.specs.declared.port.Side.{Side}
 use Rattle.ide_types.specs.declared.port.Side.TheVariants.{Host, Device}
 use Rattle.ide_types.specs.declared.sub.SubKind.{SubKind}
-use Rattle.ide_types.specs.declared.sub.SubKind.TheVariants.{Npr}
+use Rattle.ide_types.specs.declared.sub.SubKind.TheVariants.{Pr, Npr, Cpl}
+use Rattle.ide_types.specs.declared.sub.FailCause.{FailCause}
 use Rattle.ide_types.specs.declared.sub.FailCause.TheVariants as fail
+use Rattle.ide_types.specs.declared.verdict.InterfaceVerdict.{InterfaceVerdict}
 use Rattle.ide_types.specs.declared.verdict.InterfaceVerdict.TheVariants as iv
 use Rattle.script_events.specs.declared.event.Event.{Event}
 use Rattle.script_events.specs.declared.event.Event.TheVariants as event
@@ -17,6 +19,7 @@ use Rattle.script_events.specs.declared.event.AccessEvent.TheVariants as ae
 use Rattle.event_verdicts.specs.declared.verdict.Verdict.{Verdict}
 use Rattle.event_verdicts.specs.declared.verdict.BlockCause.{BlockCause}
 use Rattle.event_verdicts.specs.declared.verdict.Effect.{Effect}
+use Rattle.event_verdicts.specs.declared.access.AccessVerdict.{AccessVerdict}
 use Rattle.event_verdicts.specs.declared.access.AccessVerdict.TheVariants as av
 use Rattle.event_verdicts.specs.declared.verdict.Verdict.TheVariants as v
 use Rattle.event_verdicts.specs.declared.verdict.BlockCause.TheVariants as cause
@@ -49,12 +52,11 @@ sending_rule class w other = other
 
 -- ---- arrivals
 
-abbrev pub fail_rule : Verdict → Text
-fail_rule (v.Fail port stream sub fail.Key) = codes "arriving.key"
-fail_rule (v.Fail port stream sub fail.Unit) = codes "arriving.unit"
-fail_rule (v.Fail port stream sub fail.Tag) = codes "arriving.tag"
-fail_rule (v.Fail port stream sub fail.Order) = codes "arriving.order"
-fail_rule w = rule_of_none
+abbrev pub fail_rule : FailCause → Text
+fail_rule fail.Key = codes "arriving.key"
+fail_rule fail.Unit = codes "arriving.unit"
+fail_rule fail.Tag = codes "arriving.tag"
+fail_rule fail.Order = codes "arriving.order"
 
 abbrev pub arriving_rule : Verdict → Text
 arriving_rule (v.Malformed port word place) = codes "arriving.malformed"
@@ -65,7 +67,8 @@ arriving_rule (v.Insecure port stream) = codes "arriving.insecure"
 arriving_rule (v.NotKeyed port stream sub) = codes "arriving.keyed"
 arriving_rule (v.Held port unit) = codes "arriving.held"
 arriving_rule (v.Accepted port unit effects) = codes "arriving.accepted"
-arriving_rule w = fail_rule w
+arriving_rule (v.Fail port stream sub c) = fail_rule c
+arriving_rule w = rule_of_none
 
 -- ---- operations on streams
 
@@ -103,10 +106,18 @@ asked_rule (ie.Firmware i) = codes "interfaces.firmware"
 asked_rule (ie.Memory at len) = codes "memory.shown"
 
 abbrev pub unnamed_rule : InterfaceEvent → Text
-unnamed_rule (ie.Bind i line stream loss) = codes "views.named"
-unnamed_rule (ie.Unbind i line stream loss) = codes "views.named"
+unnamed_rule (ie.Bind i line stream loss) = rule_of_none
+unnamed_rule (ie.Unbind i line stream loss) = rule_of_none
 unnamed_rule (ie.Memory at len) = codes "memory.shown"
-unnamed_rule e = rule_of_none
+unnamed_rule (ie.Lock i loss) = rule_of_none
+unnamed_rule (ie.Report i loss) = rule_of_none
+unnamed_rule (ie.Start i loss) = rule_of_none
+unnamed_rule (ie.Halt i loss) = rule_of_none
+unnamed_rule (ie.State i loss) = rule_of_none
+unnamed_rule (ie.View i) = rule_of_none
+unnamed_rule (ie.Write i register value) = rule_of_none
+unnamed_rule (ie.Flr i) = rule_of_none
+unnamed_rule (ie.Firmware i) = rule_of_none
 
 abbrev pub interface_rule : InterfaceEvent → Verdict → Text
 interface_rule e v.Nothing = unnamed_rule e
@@ -120,13 +131,25 @@ interface_rule e w = asked_rule e
 abbrev pub dropped_rule : BlockCause → Text
 dropped_rule cause.NotRunning = codes "answers.running"
 dropped_rule cause.WrongStream = codes "answers.stream"
-dropped_rule c = codes "answers.floor"
+dropped_rule cause.Stale = codes "answers.floor"
+dropped_rule cause.NotTrusted = codes "answers.floor"
+dropped_rule cause.Outside = codes "answers.floor"
+dropped_rule cause.Crosses = codes "answers.floor"
+dropped_rule cause.Full = codes "answers.floor"
+
+abbrev pub unanswered_rule : AccessVerdict → Text
+unanswered_rule (av.Empty link) = codes "answers.empty"
+unanswered_rule (av.Dropped interface c) = dropped_rule c
+unanswered_rule (av.Mmio bytes) = codes "answers.refused"
+
+abbrev pub refreshed_rule : InterfaceVerdict → Text
+refreshed_rule (iv.RefusedRefreshFirst draw needed) = codes "answers.refresh"
+refreshed_rule w = codes "answers.refused"
 
 abbrev pub answer_rule : Verdict → Text
 answer_rule v.Nothing = codes "answers.link"
-answer_rule (v.Access (av.Empty link)) = codes "answers.empty"
-answer_rule (v.Access (av.Dropped interface c)) = dropped_rule c
-answer_rule (v.Interface (iv.RefusedRefreshFirst draw needed)) = codes "answers.refresh"
+answer_rule (v.Access w) = unanswered_rule w
+answer_rule (v.Interface w) = refreshed_rule w
 answer_rule (v.Sealed ds) = codes "answers.sealed"
 answer_rule w = codes "answers.refused"
 
@@ -188,14 +211,19 @@ abbrev pub read_cause_rule : BlockCause → Text
 read_cause_rule cause.Outside = codes "reads.placed"
 read_cause_rule cause.Crosses = codes "reads.placed"
 read_cause_rule cause.Full = codes "reads.full"
-read_cause_rule c = codes "reads.granted"
+read_cause_rule cause.NotTrusted = codes "reads.granted"
+read_cause_rule cause.NotRunning = codes "reads.granted"
+read_cause_rule cause.WrongStream = codes "reads.granted"
+read_cause_rule cause.Stale = codes "reads.granted"
 
 abbrev pub mmio_cause_rule : BlockCause → Text
 mmio_cause_rule cause.NotTrusted = codes "mmio.trusted"
 mmio_cause_rule cause.NotRunning = codes "mmio.running"
 mmio_cause_rule cause.WrongStream = codes "mmio.stream"
 mmio_cause_rule cause.Stale = codes "mmio.floor"
-mmio_cause_rule c = codes "mmio.page"
+mmio_cause_rule cause.Crosses = codes "mmio.page"
+mmio_cause_rule cause.Outside = codes "mmio.page"
+mmio_cause_rule cause.Full = codes "mmio.page"
 
 -- a host's port: the near end of a link, or of a segment towards the host
 abbrev pub is_host_end : PortName → Bool
@@ -208,7 +236,8 @@ is_host_end port = by port.side
 -- a write is posted, a read is not
 abbrev pub host_cause_rule : SubKind → BlockCause → Text
 host_cause_rule Npr c = read_cause_rule c
-host_cause_rule u c = write_cause_rule c
+host_cause_rule Pr c = write_cause_rule c
+host_cause_rule Cpl c = write_cause_rule c
 
 abbrev pub cause_rule : PortName → SubKind → BlockCause → Text
 cause_rule port sub c = if is_host_end port then host_cause_rule sub c else mmio_cause_rule c
@@ -220,4 +249,5 @@ effect_rule_of port sub effect.Queued = codes "reads.queued"
 effect_rule_of port sub effect.Stored = codes "mmio.bytes"
 effect_rule_of port sub effect.Waiting = codes "hops.waiting"
 effect_rule_of port sub (effect.Blocked c) = cause_rule port sub c
-effect_rule_of port sub e = codes "arriving.effects"
+effect_rule_of port sub effect.Sync = codes "arriving.effects"
+effect_rule_of port sub effect.Delivered = codes "arriving.effects"

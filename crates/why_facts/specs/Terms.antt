@@ -9,5 +9,7 @@ pub use Rattle.why_facts.specs.declared.fact.OperationFact.{OperationFact}
 pub use Rattle.why_facts.specs.declared.fact.OperationFact.TheVariants as of
 pub use Rattle.why_facts.specs.declared.fact.InterfaceFact.{InterfaceFact}
 pub use Rattle.why_facts.specs.declared.fact.InterfaceFact.TheVariants as face
+pub use Rattle.why_facts.specs.declared.fact.Answer.{Answer}
+pub use Rattle.why_facts.specs.declared.fact.Answer.TheVariants as answer
 pub use Rattle.why_facts.specs.declared.fact.Fact.{Fact}
 pub use Rattle.why_facts.specs.declared.fact.Fact.TheVariants as fact

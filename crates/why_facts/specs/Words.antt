@@ -87,3 +87,5 @@ abbrev pub fact_word : Fact → Text
 fact_word (fact.Stream x) = stream_fact_word x
 fact_word (fact.Operation x) = operation_fact_word x
 fact_word (fact.Interface x) = interface_fact_word x
+-- its messages are told by the verdict
+fact_word (fact.Exchange n request a) = codes "exchange " ++ decimal n

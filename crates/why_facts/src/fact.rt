@@ -1,8 +1,8 @@
-//! Facts of the state before an event. Each has one line.
+//! Facts of the state before an event (this profile). Each has one line.
 
-use ide_types::{PortName, StreamStatus, SubKind, View};
+use ide_types::{Bytes, PortName, StreamStatus, SubKind, View};
 
-/// What a key set of a sub-stream holds at a port (PCI Express Base 6.0 section 6.33, in this profile).
+/// What a key set of a sub-stream holds at a port (PCI Express Base 6.0 section 6.33).
 #[derive(Clone, Copy, PartialEq, Eq)]
 pub enum SetState {
     /// `none`: no key.
@@ -16,8 +16,7 @@ pub enum SetState {
     On { draw: u32, units: u64, packets: u64 },
 }
 
-/// What the manager knows of a stream; `next` is the exchange that an unfinished operation goes on with, from 1 (this
-/// profile).
+/// What the manager knows of a stream; `next` is the exchange that an unfinished operation goes on with, from 1.
 #[derive(Clone, Copy, PartialEq, Eq)]
 pub enum ManagerState {
     /// `idle`: it has no keys.
@@ -32,7 +31,7 @@ pub enum ManagerState {
     Stopping { next: u64 },
 }
 
-/// A fact of packets, or of a stream at a port (PCI Express Base 6.0 section 6.33, in this profile).
+/// A fact of packets, or of a stream at a port (PCI Express Base 6.0 section 6.33).
 #[derive(Clone, Copy, PartialEq, Eq)]
 pub enum StreamFact {
     /// `at PORT`: the port at which bytes are sent or arrive.
@@ -87,7 +86,7 @@ pub enum StreamFact {
     },
 }
 
-/// A fact of an operation on a stream (this profile).
+/// A fact of an operation on a stream.
 #[derive(Clone, Copy, PartialEq, Eq)]
 pub enum OperationFact {
     /// `manager ..`: what the manager knows of the stream.
@@ -124,8 +123,8 @@ pub enum OperationFact {
     },
 }
 
-/// A fact of a device interface, of the manager's view of it, or of what waits (PCI Express Base 6.0 chapter 11, in
-/// this profile). Interfaces are numbered from 0 over all links.
+/// A fact of a device interface, of the manager's view of it, or of what waits (PCI Express Base 6.0 chapter 11).
+/// Interfaces are numbered from 0 over all links.
 #[derive(Clone, Copy, PartialEq, Eq)]
 pub enum InterfaceFact {
     /// `interface I state N`: an interface, and its state at its device: 0 unlocked, 1 locked, 2 run, 3 error.
@@ -200,10 +199,33 @@ pub enum InterfaceFact {
     },
 }
 
+/// The reply to a request, as it is known before its event (this profile).
+#[derive(Drop)]
+pub enum Answer {
+    /// These bytes, or these if the end that is asked refuses.
+    Known { done: Bytes, refused: Bytes },
+    /// That of an interface which the verdict shows; `function` is the function ID of the request.
+    Shown { function: u32 },
+}
+
 /// A fact of the state before an event.
-#[derive(Clone, Copy, PartialEq, Eq)]
+#[derive(Drop)]
 pub enum Fact {
-    Stream { fact: StreamFact },
-    Operation { fact: OperationFact },
-    Interface { fact: InterfaceFact },
+    Stream {
+        fact: StreamFact,
+    },
+    Operation {
+        fact: OperationFact,
+    },
+    Interface {
+        fact: InterfaceFact,
+    },
+    /// `exchange N request HEX`, `exchange N reply HEX`, `exchange N lost request` or `exchange N lost reply`: an
+    /// exchange that is left to an operation, by its number from 1. The verdict says how far it came, and an exchange
+    /// that did not come is not told. No bytes stand for a request that is not known.
+    Exchange {
+        exchange: u64,
+        request: Bytes,
+        answer: Answer,
+    },
 }

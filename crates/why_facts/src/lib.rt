@@ -9,7 +9,9 @@ mod lines;
 mod names;
 mod rules;
 mod stands;
+mod told;
 
+pub use appends::exchanges::{ExchangesLeft, key_draw, push_key_exchanges};
 pub use appends::faces::{
     FaceSeen, push_draw, push_face, push_live, push_of_interface, push_reported,
 };
@@ -24,7 +26,7 @@ pub use appends::packets::{arrives_fact, packet_fact, push_adds};
 pub use appends::places::{Place, is_last, place_at, program_at};
 pub use appends::sends::{owners_link, push_port, sends_fact, sets_own_t};
 pub use appends::streams::{is_live, push, push_receiver, push_sender, push_senders, push_status};
-pub use fact::{Fact, InterfaceFact, ManagerState, OperationFact, SetState, StreamFact};
+pub use fact::{Answer, Fact, InterfaceFact, ManagerState, OperationFact, SetState, StreamFact};
 pub use ide_types::OutOfMemory;
 pub use lines::why_text;
 pub use rules::{effect_rule, rule};

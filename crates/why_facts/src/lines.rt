@@ -3,9 +3,11 @@
 ghost use Rattle.std.specs.Prelude.{◌≡◌, ◌++◌, List, IfOk, OnOk, string_bytes};
 ghost use Rattle.ide_types.specs.{Text};
 ghost use Rattle.why_facts.specs.Lines.{effect_lines, facts_text, rule_line, rules_text, why_text_of};
+ghost use Rattle.why_facts.specs.Told.{fact_lines};
 
 use crate::fact::Fact;
 use crate::rules::{effect_rule, rule};
+use crate::told::push_exchange;
 use event_verdicts::{Effect, Verdict};
 use ide_types::{OutOfMemory, PortName, SubKind};
 use script_events::Event;
@@ -48,17 +50,41 @@ fn push_rules(text: &mut String, verdict: &Verdict) -> Result<(), AllocError>
     }
 }
 
-fn push_facts(text: &mut String, facts: &[Fact]) -> Result<(), AllocError>
-    ensures { OnOk result (string_bytes text.new ≡ string_bytes text.old ++ facts_text facts.now) }
+fn push_fact(
+    alloc: Global,
+    text: &mut String,
+    verdict: &Verdict,
+    fact: &Fact,
+) -> Result<(), AllocError>
+    ensures { OnOk result (string_bytes text.new ≡ string_bytes text.old ++ fact_lines verdict.now fact.now) }
+{
+    match fact {
+        Fact::Exchange {
+            exchange,
+            request,
+            answer,
+        } => push_exchange(alloc, text, verdict, *exchange, request.as_slice(), answer),
+        _ => write!(text, " {fact}\n"),
+    }
+}
+
+fn push_facts(
+    alloc: Global,
+    text: &mut String,
+    verdict: &Verdict,
+    facts: &[Fact],
+) -> Result<(), AllocError>
+    ensures { OnOk result (string_bytes text.new ≡ string_bytes text.old ++ facts_text verdict.now facts.now) }
 {
     for fact in facts {
-        write!(text, " {fact}\n")?;
+        push_fact(alloc, text, verdict, fact)?;
     }
     Ok(())
 }
 
 /// The lines of why an event has its verdict, each after a space and with its line feed: the rule that answers, of an
-/// accepted unit the rule of each packet's effect, and facts of the state before the event (this profile).
+/// accepted unit the rule of each packet's effect, and facts of the state before the event, with the messages of the
+/// exchanges that came (this profile).
 pub fn why_text(
     alloc: Global,
     event: &Event,
@@ -70,6 +96,6 @@ pub fn why_text(
     let mut text = String::with_capacity(alloc, TEXT_ROOM)?;
     push_rule(&mut text, rule(event, verdict, facts))?;
     push_rules(&mut text, verdict)?;
-    push_facts(&mut text, facts)?;
+    push_facts(alloc, &mut text, verdict, facts)?;
     Ok(text.into_bytes())
 }

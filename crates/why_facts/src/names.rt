@@ -164,6 +164,7 @@ impl fmt::Display for Fact {
             Fact::Stream { fact } => write!(f, "{fact}"),
             Fact::Operation { fact } => write!(f, "{fact}"),
             Fact::Interface { fact } => write!(f, "{fact}"),
+            Fact::Exchange { exchange, .. } => write!(f, "exchange {exchange}"),
         }
     }
 }

@@ -1,11 +1,12 @@
-//! The rule that answers an event, by the names of docs/RULES.md.
+//! The rule that answers an event, by the names of docs/RULES.md (this profile).
 
 ghost use Rattle.std.specs.Prelude.{◌≡◌, ◌<◌, ◌^◌};
 ghost use Rattle.why_facts.specs.Rules.{access_rule, answer_rule, arriving_rule, asked_rule, cause_rule};
 ghost use Rattle.why_facts.specs.Rules.{class_of_first, class_of_second, class_of_fact, dropped_rule, effect_rule_of};
 ghost use Rattle.why_facts.specs.Rules.{fail_rule, host_cause_rule, interface_rule, is_host_end, key_rule, line_rule};
 ghost use Rattle.why_facts.specs.Rules.{mmio_cause_rule, operation_rule, read_cause_rule, rule_of, rule_of_none};
-ghost use Rattle.why_facts.specs.Rules.{sending_rule, unless_none, unnamed_rule, write_cause_rule};
+ghost use Rattle.why_facts.specs.Rules.{refreshed_rule, sending_rule, unanswered_rule, unless_none, unnamed_rule};
+ghost use Rattle.why_facts.specs.Rules.{write_cause_rule};
 
 use crate::fact::{Fact, StreamFact};
 use event_verdicts::{AccessVerdict, BlockCause, Effect, Verdict};
@@ -16,8 +17,9 @@ fn key_rule(class: Option<SubKind>, sub: SubKind) -> &'static str
     ensures { result.now ≡ key_rule class sub }
 {
     match class {
-        Some(class) if class != sub => "sending.sync",
-        _ => "sending.key",
+        None => "sending.key",
+        Some(class) if class == sub => "sending.key",
+        Some(_) => "sending.sync",
     }
 }
 
@@ -32,21 +34,41 @@ fn sending_rule(class: Option<SubKind>, verdict: &Verdict, other: &'static str) 
         Verdict::RefusedUnfinished => "sending.unfinished",
         Verdict::RefusedWorn { .. } => "sending.worn",
         Verdict::Sealed { .. } => "sending.sealed",
-        _ => other,
+        Verdict::Nothing
+        | Verdict::Unknown { .. }
+        | Verdict::Insecure { .. }
+        | Verdict::NotKeyed { .. }
+        | Verdict::Fail { .. }
+        | Verdict::Held { .. }
+        | Verdict::Accepted { .. }
+        | Verdict::Through { .. }
+        | Verdict::Established { .. }
+        | Verdict::Refreshed { .. }
+        | Verdict::Stopped { .. }
+        | Verdict::LostRequest { .. }
+        | Verdict::LostReply { .. }
+        | Verdict::RefusedNotIdle
+        | Verdict::RefusedNotSecure { .. }
+        | Verdict::RefusedPoolEmpty { .. }
+        | Verdict::RefusedDevice { .. }
+        | Verdict::RefusedBusy { .. }
+        | Verdict::RefusedUnitOpen { .. }
+        | Verdict::Packet { .. }
+        | Verdict::Reset { .. }
+        | Verdict::Status { .. }
+        | Verdict::Interface { .. }
+        | Verdict::Access { .. } => other,
     }
 }
 
-fn fail_rule(verdict: &Verdict) -> &'static str
-    ensures { result.now ≡ fail_rule verdict.now }
+fn fail_rule(cause: FailCause) -> &'static str
+    ensures { result.now ≡ fail_rule cause }
 {
-    match verdict {
-        Verdict::Fail { cause, .. } => match cause {
-            FailCause::Key => "arriving.key",
-            FailCause::Unit => "arriving.unit",
-            FailCause::Tag => "arriving.tag",
-            FailCause::Order => "arriving.order",
-        },
-        _ => "lines.none",
+    match cause {
+        FailCause::Key => "arriving.key",
+        FailCause::Unit => "arriving.unit",
+        FailCause::Tag => "arriving.tag",
+        FailCause::Order => "arriving.order",
     }
 }
 
@@ -62,7 +84,29 @@ fn arriving_rule(verdict: &Verdict) -> &'static str
         Verdict::NotKeyed { .. } => "arriving.keyed",
         Verdict::Held { .. } => "arriving.held",
         Verdict::Accepted { .. } => "arriving.accepted",
-        _ => fail_rule(verdict),
+        Verdict::Fail { cause, .. } => fail_rule(*cause),
+        Verdict::Nothing
+        | Verdict::RefusedInsecure
+        | Verdict::RefusedNoKey { .. }
+        | Verdict::RefusedUnfinished
+        | Verdict::RefusedWorn { .. }
+        | Verdict::Sealed { .. }
+        | Verdict::Established { .. }
+        | Verdict::Refreshed { .. }
+        | Verdict::Stopped { .. }
+        | Verdict::LostRequest { .. }
+        | Verdict::LostReply { .. }
+        | Verdict::RefusedNotIdle
+        | Verdict::RefusedNotSecure { .. }
+        | Verdict::RefusedPoolEmpty { .. }
+        | Verdict::RefusedDevice { .. }
+        | Verdict::RefusedBusy { .. }
+        | Verdict::RefusedUnitOpen { .. }
+        | Verdict::Packet { .. }
+        | Verdict::Reset { .. }
+        | Verdict::Status { .. }
+        | Verdict::Interface { .. }
+        | Verdict::Access { .. } => "lines.none",
     }
 }
 
@@ -73,7 +117,7 @@ fn line_rule(line: u64, rule: &'static str) -> &'static str
     match line {
         0..=7 => rule,
         8..=23 => "hops.operations",
-        _ => "peers.operations",
+        24.. => "peers.operations",
     }
 }
 
@@ -88,7 +132,29 @@ fn operation_rule(line: u64, refusal: &'static str, verdict: &Verdict) -> &'stat
         Verdict::Established { .. } | Verdict::Refreshed { .. } | Verdict::Stopped { .. } => {
             line_rule(line, "operations.begin")
         }
-        _ => line_rule(line, refusal),
+        Verdict::Malformed { .. }
+        | Verdict::Plain { .. }
+        | Verdict::RefusedInsecure
+        | Verdict::RefusedNoKey { .. }
+        | Verdict::RefusedUnfinished
+        | Verdict::RefusedWorn { .. }
+        | Verdict::Sealed { .. }
+        | Verdict::Unknown { .. }
+        | Verdict::Insecure { .. }
+        | Verdict::NotKeyed { .. }
+        | Verdict::Fail { .. }
+        | Verdict::Held { .. }
+        | Verdict::Accepted { .. }
+        | Verdict::Through { .. }
+        | Verdict::RefusedNotIdle
+        | Verdict::RefusedNotSecure { .. }
+        | Verdict::RefusedPoolEmpty { .. }
+        | Verdict::RefusedUnitOpen { .. }
+        | Verdict::Packet { .. }
+        | Verdict::Reset { .. }
+        | Verdict::Status { .. }
+        | Verdict::Interface { .. }
+        | Verdict::Access { .. } => line_rule(line, refusal),
     }
 }
 
@@ -115,9 +181,18 @@ fn unnamed_rule(event: &InterfaceEvent) -> &'static str
     ensures { result.now ≡ unnamed_rule event.now }
 {
     match event {
-        InterfaceEvent::Bind { .. } | InterfaceEvent::Unbind { .. } => "views.named",
         InterfaceEvent::Memory { .. } => "memory.shown",
-        _ => "lines.none",
+        InterfaceEvent::Bind { .. }
+        | InterfaceEvent::Unbind { .. }
+        | InterfaceEvent::Lock { .. }
+        | InterfaceEvent::Report { .. }
+        | InterfaceEvent::Start { .. }
+        | InterfaceEvent::Halt { .. }
+        | InterfaceEvent::State { .. }
+        | InterfaceEvent::View { .. }
+        | InterfaceEvent::Write { .. }
+        | InterfaceEvent::Flr { .. }
+        | InterfaceEvent::Firmware { .. } => "lines.none",
     }
 }
 
@@ -128,7 +203,33 @@ fn interface_rule(event: &InterfaceEvent, verdict: &Verdict) -> &'static str
         Verdict::Nothing => unnamed_rule(event),
         Verdict::LostRequest { .. } | Verdict::LostReply { .. } => "views.lost",
         Verdict::RefusedDevice { .. } => "views.device",
-        _ => asked_rule(event),
+        Verdict::Malformed { .. }
+        | Verdict::Plain { .. }
+        | Verdict::RefusedInsecure
+        | Verdict::RefusedNoKey { .. }
+        | Verdict::RefusedUnfinished
+        | Verdict::RefusedWorn { .. }
+        | Verdict::Sealed { .. }
+        | Verdict::Unknown { .. }
+        | Verdict::Insecure { .. }
+        | Verdict::NotKeyed { .. }
+        | Verdict::Fail { .. }
+        | Verdict::Held { .. }
+        | Verdict::Accepted { .. }
+        | Verdict::Through { .. }
+        | Verdict::Established { .. }
+        | Verdict::Refreshed { .. }
+        | Verdict::Stopped { .. }
+        | Verdict::RefusedNotIdle
+        | Verdict::RefusedNotSecure { .. }
+        | Verdict::RefusedPoolEmpty { .. }
+        | Verdict::RefusedBusy { .. }
+        | Verdict::RefusedUnitOpen { .. }
+        | Verdict::Packet { .. }
+        | Verdict::Reset { .. }
+        | Verdict::Status { .. }
+        | Verdict::Interface { .. }
+        | Verdict::Access { .. } => asked_rule(event),
     }
 }
 
@@ -138,7 +239,43 @@ fn dropped_rule(cause: BlockCause) -> &'static str
     match cause {
         BlockCause::NotRunning => "answers.running",
         BlockCause::WrongStream => "answers.stream",
-        _ => "answers.floor",
+        BlockCause::Stale
+        | BlockCause::NotTrusted
+        | BlockCause::Outside
+        | BlockCause::Crosses
+        | BlockCause::Full => "answers.floor",
+    }
+}
+
+fn unanswered_rule(verdict: &AccessVerdict) -> &'static str
+    ensures { result.now ≡ unanswered_rule verdict.now }
+{
+    match verdict {
+        AccessVerdict::Empty { .. } => "answers.empty",
+        AccessVerdict::Dropped { cause, .. } => dropped_rule(*cause),
+        AccessVerdict::Mmio { .. } => "answers.refused",
+    }
+}
+
+fn refreshed_rule(verdict: &InterfaceVerdict) -> &'static str
+    ensures { result.now ≡ refreshed_rule verdict.now }
+{
+    match verdict {
+        InterfaceVerdict::RefusedRefreshFirst { .. } => "answers.refresh",
+        InterfaceVerdict::Locked { .. }
+        | InterfaceVerdict::Reported { .. }
+        | InterfaceVerdict::Started { .. }
+        | InterfaceVerdict::Halted { .. }
+        | InterfaceVerdict::Bound { .. }
+        | InterfaceVerdict::Unbound { .. }
+        | InterfaceVerdict::State { .. }
+        | InterfaceVerdict::View { .. }
+        | InterfaceVerdict::Written { .. }
+        | InterfaceVerdict::Flr { .. }
+        | InterfaceVerdict::Firmware { .. }
+        | InterfaceVerdict::Memory { .. }
+        | InterfaceVerdict::RefusedWrongState { .. }
+        | InterfaceVerdict::RefusedNotReported => "answers.refused",
     }
 }
 
@@ -147,17 +284,36 @@ fn answer_rule(verdict: &Verdict) -> &'static str
 {
     match verdict {
         Verdict::Nothing => "answers.link",
-        Verdict::Access {
-            verdict: AccessVerdict::Empty { .. },
-        } => "answers.empty",
-        Verdict::Access {
-            verdict: AccessVerdict::Dropped { cause, .. },
-        } => dropped_rule(*cause),
-        Verdict::Interface {
-            verdict: InterfaceVerdict::RefusedRefreshFirst { .. },
-        } => "answers.refresh",
+        Verdict::Access { verdict } => unanswered_rule(verdict),
+        Verdict::Interface { verdict } => refreshed_rule(verdict),
         Verdict::Sealed { .. } => "answers.sealed",
-        _ => "answers.refused",
+        Verdict::Malformed { .. }
+        | Verdict::Plain { .. }
+        | Verdict::RefusedInsecure
+        | Verdict::RefusedNoKey { .. }
+        | Verdict::RefusedUnfinished
+        | Verdict::RefusedWorn { .. }
+        | Verdict::Unknown { .. }
+        | Verdict::Insecure { .. }
+        | Verdict::NotKeyed { .. }
+        | Verdict::Fail { .. }
+        | Verdict::Held { .. }
+        | Verdict::Accepted { .. }
+        | Verdict::Through { .. }
+        | Verdict::Established { .. }
+        | Verdict::Refreshed { .. }
+        | Verdict::Stopped { .. }
+        | Verdict::LostRequest { .. }
+        | Verdict::LostReply { .. }
+        | Verdict::RefusedNotIdle
+        | Verdict::RefusedNotSecure { .. }
+        | Verdict::RefusedPoolEmpty { .. }
+        | Verdict::RefusedDevice { .. }
+        | Verdict::RefusedBusy { .. }
+        | Verdict::RefusedUnitOpen { .. }
+        | Verdict::Packet { .. }
+        | Verdict::Reset { .. }
+        | Verdict::Status { .. } => "answers.refused",
     }
 }
 
@@ -173,9 +329,10 @@ fn access_rule(event: &AccessEvent, verdict: &Verdict) -> &'static str
 fn unless_none(rule: &'static str, verdict: &Verdict) -> &'static str
     ensures { result.now ≡ unless_none rule.now verdict.now }
 {
-    match verdict {
-        Verdict::Nothing => "lines.none",
-        _ => rule,
+    if matches!(verdict, Verdict::Nothing) {
+        "lines.none"
+    } else {
+        rule
     }
 }
 
@@ -212,7 +369,7 @@ fn class_of_second(facts: &[Fact]) -> Option<SubKind>
 }
 
 /// The rule that answers an event, by the names of docs/RULES.md. The facts of a send or a forward say the TLP's
-/// sub-stream (this profile).
+/// sub-stream.
 pub fn rule(event: &Event, verdict: &Verdict, facts: &[Fact]) -> &'static str
     ensures { result.now ≡ rule_of event.now verdict.now facts.now }
 {
@@ -254,7 +411,10 @@ fn read_cause_rule(cause: BlockCause) -> &'static str
     match cause {
         BlockCause::Outside | BlockCause::Crosses => "reads.placed",
         BlockCause::Full => "reads.full",
-        _ => "reads.granted",
+        BlockCause::NotTrusted
+        | BlockCause::NotRunning
+        | BlockCause::WrongStream
+        | BlockCause::Stale => "reads.granted",
     }
 }
 
@@ -266,7 +426,7 @@ fn mmio_cause_rule(cause: BlockCause) -> &'static str
         BlockCause::NotRunning => "mmio.running",
         BlockCause::WrongStream => "mmio.stream",
         BlockCause::Stale => "mmio.floor",
-        _ => "mmio.page",
+        BlockCause::Crosses | BlockCause::Outside | BlockCause::Full => "mmio.page",
     }
 }
 
@@ -283,7 +443,7 @@ fn host_cause_rule(sub: SubKind, cause: BlockCause) -> &'static str
 {
     match sub {
         SubKind::Npr => read_cause_rule(cause),
-        _ => write_cause_rule(cause),
+        SubKind::Pr | SubKind::Cpl => write_cause_rule(cause),
     }
 }
 
@@ -297,7 +457,7 @@ fn cause_rule(port: PortName, sub: SubKind, cause: BlockCause) -> &'static str
     }
 }
 
-/// The rule of the effect of a packet of a unit that an end accepted in a sub-stream (this profile).
+/// The rule of the effect of a packet of a unit that an end accepted in a sub-stream.
 pub fn effect_rule(port: PortName, sub: SubKind, effect: Effect) -> &'static str
     ensures { result.now ≡ effect_rule_of port sub effect }
 {

@@ -8,7 +8,7 @@ invariant-loop-end g l = record {
       (λ over left. due_behind g.W.LineWork.advance g.W.LineWork.closing over l.initial.lines.number past
       l.initial.lines.unended.items (l.piece ++ left))
       (λ later over left. due_behind g.W.LineWork.advance g.W.LineWork.closing over l.lines.number later
-      l.lines.unended.items (l.rest ++ left)) l.gathered.items (g.O.Sink.seen l.initial.out) (g.O.Sink.seen l.out);
+      l.lines.unended.items (l.rest ++ left)) l.gathered.text.items (g.O.Sink.seen l.initial.out) (g.O.Sink.seen l.out);
   numbered : l.lines.number + length l.rest ≤ l.initial.lines.number + length l.piece;
   fits : g.W.LineWork.fits l.work l.lines.number;
 }

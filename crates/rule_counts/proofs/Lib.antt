@@ -1,0 +1,10 @@
+pub mod Listed
+pub mod Forgeries
+pub mod Counts
+pub mod Noted
+pub mod UnitsAfter
+pub mod Fronts
+pub mod Verified
+pub mod Decided
+pub mod Covered
+pub mod Steps

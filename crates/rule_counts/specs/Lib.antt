@@ -1,0 +1,10 @@
+pub mod Names
+pub mod Told
+pub mod Forged
+pub mod Laws
+pub mod Counting
+pub mod Seals
+pub mod Units
+pub mod Unsealed
+pub mod Coverage
+pub mod Lines
