@@ -6,6 +6,10 @@
 #include <stdlib.h>
 #include <string.h>
 
+#ifdef __cplusplus
+extern "C" {
+#endif
+
 typedef struct {
     ide_session session;
     uint8_t *buf; /* one byte more than cap, for the zero byte */
@@ -13,7 +17,7 @@ typedef struct {
 } dpi_session;
 
 static int grow(dpi_session *d, size_t cap) {
-    uint8_t *more = realloc(d->buf, cap + 1);
+    uint8_t *more = (uint8_t *)realloc(d->buf, cap + 1);
     if (!more) return 0;
     d->buf = more;
     d->cap = cap;
@@ -35,7 +39,7 @@ static uint8_t *bytes_of(const char *path, size_t *n, int *answer) {
     FILE *file = fopen(path, "rb");
     *answer = 5;
     if (!file) return NULL;
-    uint8_t *bytes = malloc(most);
+    uint8_t *bytes = (uint8_t *)malloc(most);
     if (!bytes) *answer = IDE_MEMORY;
     if (bytes) *n = fread(bytes, 1, most, file);
     if (bytes && ferror(file)) {
@@ -50,7 +54,7 @@ static uint8_t *bytes_of(const char *path, size_t *n, int *answer) {
  * file cannot be read, null and answer 7 if there is no memory. */
 void *ide_dpi_open(const char *path, int *answer, const char **text) {
     size_t n = 0, written = 0;
-    dpi_session *d = calloc(1, sizeof *d);
+    dpi_session *d = (dpi_session *)calloc(1, sizeof *d);
     *text = "";
     *answer = IDE_MEMORY;
     if (!d) return NULL;
@@ -76,7 +80,7 @@ void *ide_dpi_open(const char *path, int *answer, const char **text) {
 
 /* the answer of the next line, and its text */
 int ide_dpi_step(void *handle, const char *line, const char **text) {
-    dpi_session *d = handle;
+    dpi_session *d = (dpi_session *)handle;
     size_t written = 0;
     *text = "";
     if (!d) return IDE_CLOSED;
@@ -86,23 +90,56 @@ int ide_dpi_step(void *handle, const char *line, const char **text) {
     return (int)answer;
 }
 
-/* the totals so far */
-int ide_dpi_totals(void *handle, const char **text) {
-    dpi_session *d = handle;
+/* the answer of a call that tells something of a session, and its text; `n` is of ide_packet alone */
+typedef uint32_t (*telling)(ide_session *session, uint64_t n, uint8_t *buf, size_t cap, size_t *written);
+
+static uint32_t totals_of(ide_session *session, uint64_t n, uint8_t *buf, size_t cap, size_t *written) {
+    (void)n;
+    return ide_totals(session, buf, cap, written);
+}
+
+static uint32_t why_of(ide_session *session, uint64_t n, uint8_t *buf, size_t cap, size_t *written) {
+    (void)n;
+    return ide_why(session, buf, cap, written);
+}
+
+static int told(telling tell, void *handle, uint64_t n, const char **text) {
+    dpi_session *d = (dpi_session *)handle;
     size_t written = 0;
     *text = "";
     if (!d) return IDE_CLOSED;
-    uint32_t answer = ide_totals(&d->session, d->buf, d->cap, &written);
-    if (answer == IDE_ROOM && grow(d, written)) answer = ide_totals(&d->session, d->buf, d->cap, &written);
+    uint32_t answer = tell(&d->session, n, d->buf, d->cap, &written);
+    if (answer == IDE_ROOM && grow(d, written)) answer = tell(&d->session, n, d->buf, d->cap, &written);
     *text = text_of(d, written);
     return (int)answer;
 }
 
+/* the totals so far */
+int ide_dpi_totals(void *handle, const char **text) { return told(totals_of, handle, 0, text); }
+
+/* keeps what verdicts come from, from the next line on, or no more */
+int ide_dpi_explain(void *handle, int on) {
+    dpi_session *d = (dpi_session *)handle;
+    return d ? (int)ide_explain(&d->session, on != 0) : IDE_CLOSED;
+}
+
+/* what the verdict of the last line came from */
+int ide_dpi_why(void *handle, const char **text) { return told(why_of, handle, 0, text); }
+
+/* the bytes of a packet, in hex digits */
+int ide_dpi_packet(void *handle, uint64_t number, const char **text) {
+    return told(ide_packet, handle, number, text);
+}
+
 /* ends a session */
 void ide_dpi_close(void *handle) {
-    dpi_session *d = handle;
+    dpi_session *d = (dpi_session *)handle;
     if (!d) return;
     ide_close(&d->session);
     free(d->buf);
     free(d);
 }
+
+#ifdef __cplusplus
+}
+#endif

@@ -25,9 +25,10 @@ enum {
     IDE_SCRIPT = 4,   /* ide_step: the line is not spelled; the text is `refused N cause`; the session is as it was */
     IDE_MEMORY = 7,   /* no memory; ide_step leaves the session as it was or ends it: then ide_text says IDE_CLOSED */
     IDE_TOO_LONG = 8, /* ide_open: more than 1,048,576 bytes; ide_step: the session has had 67,108,862 lines */
-    IDE_ROOM = 9,     /* ide_step, ide_text, ide_totals: done, but buf has no room for the text */
+    IDE_ROOM = 9,     /* ide_step, ide_text, ide_totals, ide_why, ide_packet: done, but buf has no room for the text */
     IDE_CLOSED = 10,  /* the handle has no session */
-    IDE_OPEN = 11     /* ide_open: the handle has a session already, which is as it was */
+    IDE_OPEN = 11,    /* ide_open: the handle has a session already, which is as it was */
+    IDE_ABSENT = 12   /* ide_why: nothing was kept of the last line; ide_packet: no packet has the number */
 };
 
 /* In each call *written says how many bytes the text has, 0 if there is none. The text ends with a line feed, and with
@@ -49,6 +50,19 @@ uint32_t ide_text(ide_session *s, uint8_t *buf, size_t cap, size_t *written);
 
 /* The line of the totals of all lines so far, which `ide run` writes at the end; the session is as it was. */
 uint32_t ide_totals(ide_session *s, uint8_t *buf, size_t cap, size_t *written);
+
+/* From the next line on, keeps what its verdict comes from, for ide_why, if `on` is true; else no more. A session that
+ * was opened keeps nothing, and takes no time for it. */
+uint32_t ide_explain(ide_session *s, bool on);
+
+/* What the verdict of the line that was run last came from: the rule that answers, and facts of the state before the
+ * line, one a line after a space, as `ide why` writes them below the verdict. It is empty for a comment and for an empty
+ * line. IDE_ABSENT if no line was run, or it was run while nothing was kept; the session is as it was. */
+uint32_t ide_why(ide_session *s, uint8_t *buf, size_t cap, size_t *written);
+
+/* The bytes of packet `number`, from 1, among those that were sealed so far, in hex digits, as `dump` shows them.
+ * IDE_ABSENT if there are not so many; the session is as it was. */
+uint32_t ide_packet(ide_session *s, uint64_t number, uint8_t *buf, size_t cap, size_t *written);
 
 /* Ends a session and frees its memory; the handle may be opened again. IDE_CLOSED if there is none. */
 uint32_t ide_close(ide_session *s);

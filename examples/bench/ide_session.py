@@ -2,7 +2,7 @@
 import ctypes
 import os
 
-DONE, TOPOLOGY, SCRIPT, MEMORY, TOO_LONG, ROOM, CLOSED, OPEN = 0, 3, 4, 7, 8, 9, 10, 11
+DONE, TOPOLOGY, SCRIPT, MEMORY, TOO_LONG, ROOM, CLOSED, OPEN, ABSENT = 0, 3, 4, 7, 8, 9, 10, 11, 12
 
 
 class _Handle(ctypes.Structure):
@@ -27,6 +27,9 @@ def _library(path):
         ("ide_step", [handle, ctypes.c_char_p, size, *out]),
         ("ide_text", [handle, *out]),
         ("ide_totals", [handle, *out]),
+        ("ide_explain", [handle, ctypes.c_bool]),
+        ("ide_why", [handle, *out]),
+        ("ide_packet", [handle, ctypes.c_uint64, *out]),
         ("ide_close", [handle]),
     ):
         call = getattr(library, name)
@@ -40,17 +43,16 @@ class Session:
     def __init__(self, topology, library=None, room=4096):
         self._library, self._handle = _library(library), _Handle()
         self._buf = ctypes.create_string_buffer(room)
-        answer, text = self._call("ide_open", topology)
+        read = bytes(topology), len(topology)
+        answer, text = self._call("ide_open", *read)
         if text is None:
-            answer, text = self._call("ide_open", topology)
+            answer, text = self._call("ide_open", *read)
         if answer != DONE:
             raise Refused(answer, text or b"")
 
-    def _call(self, name, data=None):
+    def _call(self, name, *read):
         """The answer of a call and its text; no text, and more room for the next call, if the text did not fit."""
-        written = ctypes.c_size_t()
-        read = [] if data is None else [bytes(data), len(data)]
-        room = len(self._buf)
+        written, room = ctypes.c_size_t(), len(self._buf)
         answer = getattr(self._library, name)(
             ctypes.byref(self._handle), *read, self._buf, room, ctypes.byref(written)
         )
@@ -59,21 +61,22 @@ class Session:
             return answer, None
         return answer, self._buf.raw[: written.value]
 
-    def _told(self, name):
-        answer, text = self._call(name)
+    def _told(self, name, *read):
+        answer, text = self._call(name, *read)
         if text is None:
-            answer, text = self._call(name)
+            answer, text = self._call(name, *read)
         if answer != DONE:
             raise Refused(answer, text or b"")
         return text
 
     def step(self, line):
         """The verdict line of the next line of a script, which is given without its line feed."""
-        answer, text = self._call("ide_step", line)
+        read = bytes(line), len(line)
+        answer, text = self._call("ide_step", *read)
         if answer == ROOM:
             return self._told("ide_text")
         if answer == SCRIPT and text is None:
-            answer, text = self._call("ide_step", line)
+            answer, text = self._call("ide_step", *read)
         if answer != DONE:
             raise Refused(answer, text or b"")
         return text
@@ -85,6 +88,22 @@ class Session:
     def totals(self):
         """The line of the totals of all lines so far."""
         return self._told("ide_totals")
+
+    def explain(self, on=True):
+        """Keeps what verdicts come from, from the next line on, for `why`; or no more."""
+        answer = self._library.ide_explain(ctypes.byref(self._handle), on)
+        if answer != DONE:
+            raise Refused(answer, b"")
+
+    def why(self):
+        """What the verdict of the line that was run last came from, one fact a line: `explain` was called before it."""
+        return self._told("ide_why")
+
+    def packet(self, number):
+        """The bytes of a packet, from 1, among those that were sealed so far."""
+        if number not in range(2**64):
+            raise Refused(ABSENT, b"")
+        return bytes.fromhex(self._told("ide_packet", number).decode())
 
     def close(self):
         return self._library.ide_close(ctypes.byref(self._handle))

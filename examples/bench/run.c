@@ -1,8 +1,10 @@
-/* run TOPOLOGY SCRIPT over the library: the text and the status of `ide run`, line by line. */
+/* run [--why] TOPOLOGY SCRIPT over the library: the text and the status of `ide run`, line by line; with --why what each
+ * verdict came from below it, as `ide why` writes it. */
 #include "ide_session.h"
 
 #include <stdio.h>
 #include <stdlib.h>
+#include <string.h>
 
 /* how many bytes of a script count, and how many a line may have */
 enum { SCRIPT_LIMIT = 16777216, LINE_LIMIT = 20000 };
@@ -28,7 +30,9 @@ static void grow(uint8_t **buf, size_t *cap, size_t written) {
 }
 
 int main(int argc, char **argv) {
-    if (argc != 3) return 2;
+    bool why = argc == 4 && strcmp(argv[1], "--why") == 0;
+    if (why) argv++;
+    if (argc != (why ? 4 : 3)) return 2;
     ide_session s = {0};
     size_t topology_len, script_len = 0, written, cap = 64;
     uint8_t *topology = bytes_of(argv[1], &topology_len), *script = NULL, *buf = malloc(cap);
@@ -39,6 +43,7 @@ int main(int argc, char **argv) {
         answer = ide_open(&s, topology, topology_len, buf, cap, &written);
     }
     if (answer == IDE_DONE) script = bytes_of(argv[2], &script_len);
+    if (answer == IDE_DONE && why) answer = ide_explain(&s, true);
     for (size_t at = 0, end; answer == IDE_DONE && at < script_len; at = end + 1) {
         for (end = at; end < script_len && script[end] != '\n';) end++;
         /* a line that does not end within the limit is not run; one that is too long is refused all the same */
@@ -50,6 +55,13 @@ int main(int argc, char **argv) {
         if (answer == IDE_ROOM) {
             grow(&buf, &cap, written);
             answer = ide_text(&s, buf, cap, &written);
+        }
+        if (answer == IDE_DONE) fwrite(buf, 1, written, stdout);
+        if (answer != IDE_DONE || !why) continue;
+        answer = ide_why(&s, buf, cap, &written);
+        if (answer == IDE_ROOM) {
+            grow(&buf, &cap, written);
+            answer = ide_why(&s, buf, cap, &written);
         }
         if (answer == IDE_DONE) fwrite(buf, 1, written, stdout);
     }
