@@ -6,9 +6,9 @@ use Rattle.all_ends.proofs.Terms.{PairEnds, port_in, with_port, pair_port, with_
 use Rattle.all_ends.proofs.Terms.{Near, Pair, port_at_place, port_on, with_port_at_place, with_port_on, changed_at}
 use Rattle.all_ends.proofs.Terms.{peer_live, KeeperView, NoMoreUnits, Operates}
 use Rattle.all_ends.specs.Ends.{trust_at_place, link_trust, asked_trust, pair_trust, settled_place}
-use Rattle.tlp_layout.specs.declared.choice.ChosenStream.{ChosenStream}
-use Rattle.ide_port.specs.Sends.{IsStreamTaken}
-use Rattle.all_ends.specs.AllEnds.{IsTakenAtHost, TakesAt, SendsAtEnd, OperatesByPlace, OperatesAt, Settles, Calls}
+use Rattle.ide_port.specs.Sends.{IsSendStep}
+use Rattle.all_ends.specs.AllEnds.{PortStep, SendsByPlace, TakesAt, SendsAtEnd, OperatesByPlace, OperatesAt, Settles}
+use Rattle.all_ends.specs.AllEnds.{Calls, step_by_place}
 use Rattle.all_ends.specs.AllEnds.{CallsAtLink, Asks, AsksAtLink, IsEnded}
 use Rattle.all_ends.specs.Places.{code_behind}
 use Rattle.all_ends.specs.States.{EndsUnitsAtMost}
@@ -35,7 +35,6 @@ use Rattle.std.specs.Prelude.{IfSome, IsSome, is_some, true, false, nat_lt, ◌-
 use Rattle.std.proofs.Common.{arith}
 use Rattle.std.proofs.lemmas.Bool.Decides.{nat_tests}
 use Rattle.std.proofs.lemmas.Option.{get_or_from_slice_get, slice_get_past}
-use Rattle.ide_types.specs.Ports.{host_port}
 use Rattle.all_ends.proofs.ByPlace.{changed_is, changed_none, seen_same, set_there, there}
 use Rattle.all_ends.proofs.Finds.{mapped}
 
@@ -260,10 +259,58 @@ trust_there : (v : EndsView) (s : Side) (i : ℕ) (x : LinkEnds) (trusted : Bool
 trust_there v Host i x trusted is = refl
 trust_there v Device i x trusted is = sym (ap (λ (o : Option LinkEnds). link_trust Device trusted o) is)
 
+-- what stands at an end takes a step
+module _ (v : EndsView) (end : PortName) (step : PortStep) (answer : Sent) (sealed : List ℕ) (i : ℕ) where
+  abbrev Steps : PortEnd → PortEnd → Type 0
+  Steps e e' = (number : ℕ) → IsSendStep e.name number answer e' sealed (step e number)
+
+  abbrev Stepped : EndsView → Type 0
+  Stepped new = SendsByPlace v end.side (line_place end.line) step answer new sealed
+
+  pub step_link : (x y : LinkEnds) → Link i ≡ line_place end.line → x ≡ slice_index_or v.links i x
+      → Steps (port_in end.side x) (port_in end.side y) → y ≡ with_port end.side (port_in end.side y) x
+      → Stepped (record v { links = slice_set v.links i y })
+  step_link x y at read steps made e is =
+      let there = seen v end (Link i) at e is in
+      let e' : PortEnd = port_in end.side y in
+      record {
+        port = e';
+        new_is = link_put v end.side i x y e e' read there made ∙ put v end (Link i) at e';
+        sent = subst (λ (p : PortEnd). Steps p e') (link_port v end.side i x y e e read there) steps;
+      }
+
+  pub step_near : (x y : LinkEnds) → Near i ≡ line_place end.line → x ≡ slice_index_or v.near i x
+      → Steps (port_in end.side x) (port_in end.side y) → y ≡ with_port end.side (port_in end.side y) x
+      → Stepped (record v { near = slice_set v.near i y })
+  step_near x y at read steps made e is =
+      let there = seen v end (Near i) at e is in
+      let e' : PortEnd = port_in end.side y in
+      record {
+        port = e';
+        new_is = near_put v end.side i x y e e' read there made ∙ put v end (Near i) at e';
+        sent = subst (λ (p : PortEnd). Steps p e') (near_port v end.side i x y e e read there) steps;
+      }
+
+  pub step_pair : (x y : PairEnds) → Pair i ≡ line_place end.line → x ≡ slice_index_or v.pairs i x
+      → Steps (pair_port end.side x) (pair_port end.side y) → y ≡ with_pair_port end.side (pair_port end.side y) x
+      → Stepped (record v { pairs = slice_set v.pairs i y })
+  step_pair x y at read steps made e is =
+      let there = seen v end (Pair i) at e is in
+      let e' : PortEnd = pair_port end.side y in
+      record {
+        port = e';
+        new_is = pair_put v end.side i x y e e' read there made ∙ put v end (Pair i) at e';
+        sent = subst (λ (p : PortEnd). Steps p e') (pair_read v end.side i x y e e read there) steps;
+      }
+
+-- by association
 module _ (v : EndsView) (end : PortName) (tlp : List ℕ) (more trusted : Bool) (answer : Sent) (sealed : List ℕ)
     (i : ℕ) where
   abbrev Goes : PortEnd → Trusting → PortEnd → Type 0
   Goes e t e' = (number : ℕ) → IsSentAtPort e tlp more t number answer e' sealed
+
+  abbrev by_line : PortStep
+  by_line = step_by_place v end.side (line_place end.line) tlp more trusted
 
   trust_of : (place : LinePlace) → place ≡ line_place end.line
       → trust_at_place v end.side place trusted ≡ trust_at_place v end.side (line_place end.line) trusted
@@ -274,48 +321,29 @@ module _ (v : EndsView) (end : PortName) (tlp : List ℕ) (more trusted : Bool) 
       → y ≡ with_port end.side (port_in end.side y) x
       → SendsAtEnd v end tlp more trusted answer (record v { links = slice_set v.links i y }) sealed
   send_link x y at read goes made e is =
-      let there = seen v end (Link i) at e is in
-      let e' : PortEnd = port_in end.side y in
-      let same : port_in end.side x ≡ e = link_port v end.side i x y e e read there in
-      let l = mapped (λ (l : LinkEnds). port_in end.side l) (slice_get v.links i) e there in
+      let l = mapped (λ (l : LinkEnds). port_in end.side l) (slice_get v.links i) e (seen v end (Link i) at e is) in
       let here : slice_get v.links i ≡ Some x =
       l.1 ∙ ap (λ (z : LinkEnds). Some z) (sym (read_there v.links i x l.0 read l.1)) in
-      record {
-        port = e';
-        new_is = link_put v end.side i x y e e' read there made ∙ put v end (Link i) at e';
-        sent = subst (λ (t : Trusting). Goes e t e') (trust_there v end.side i x trusted here ∙ trust_of (Link i) at)
-            (subst (λ (p : PortEnd). Goes p (trusting_at end.side x trusted) e') same goes);
-      }
+      step_link v end by_line answer sealed i x y at read
+      (subst (λ (t : Trusting). Goes (port_in end.side x) t (port_in end.side y))
+      (trust_there v end.side i x trusted here ∙ trust_of (Link i) at) goes) made e is
 
   pub send_near : (x y : LinkEnds) → Near i ≡ line_place end.line → x ≡ slice_index_or v.near i x
       → Goes (port_in end.side x) (asked_trust trusted) (port_in end.side y)
       → y ≡ with_port end.side (port_in end.side y) x
       → SendsAtEnd v end tlp more trusted answer (record v { near = slice_set v.near i y }) sealed
   send_near x y at read goes made e is =
-      let there = seen v end (Near i) at e is in
-      let e' : PortEnd = port_in end.side y in
-      let same : port_in end.side x ≡ e = near_port v end.side i x y e e read there in
-      record {
-        port = e';
-        new_is = near_put v end.side i x y e e' read there made ∙ put v end (Near i) at e';
-        sent = subst (λ (t : Trusting). Goes e t e') (trust_of (Near i) at)
-            (subst (λ (p : PortEnd). Goes p (asked_trust trusted) e') same goes);
-      }
+      step_near v end by_line answer sealed i x y at read
+      (subst (λ (t : Trusting). Goes (port_in end.side x) t (port_in end.side y)) (trust_of (Near i) at) goes) made e is
 
   pub send_pair : (x y : PairEnds) (t : Trusting) → Pair i ≡ line_place end.line → x ≡ slice_index_or v.pairs i x
       → Goes (pair_port end.side x) t (pair_port end.side y) → t ≡ pair_trust v end.side i trusted
       → y ≡ with_pair_port end.side (pair_port end.side y) x
       → SendsAtEnd v end tlp more trusted answer (record v { pairs = slice_set v.pairs i y }) sealed
   send_pair x y t at read goes trusts made e is =
-      let there = seen v end (Pair i) at e is in
-      let e' : PortEnd = pair_port end.side y in
-      let same : pair_port end.side x ≡ e = pair_read v end.side i x y e e read there in
-      record {
-        port = e';
-        new_is = pair_put v end.side i x y e e' read there made ∙ put v end (Pair i) at e';
-        sent = subst (λ (u : Trusting). Goes e u e') (trusts ∙ trust_of (Pair i) at)
-            (subst (λ (p : PortEnd). Goes p t e') same goes);
-      }
+      step_pair v end by_line answer sealed i x y at read
+      (subst (λ (u : Trusting). Goes (pair_port end.side x) u (pair_port end.side y)) (trusts ∙ trust_of (Pair i) at)
+      goes) made e is
 
 -- ---- operations
 
@@ -424,30 +452,3 @@ asks_there v link k k' interface o loss outcome x y read operated keys draws end
         };
       },
     )
-
--- ---- the host's port of a link
-
-pub host_place : (link : ℕ) → link < 8 → Link link ≡ line_place link
-host_place link lt = by_test (nat_lt link 8) refl
-  where
-    by_test : (b : Bool) → nat_lt link 8 ≡ b
-        → Link link ≡ (if b then Link link else if nat_lt link 16 then Near (link - 8) else Pair (link - 16))
-    by_test true is = refl
-    by_test false is = absurd (grind (arith, nat_tests, lt, is))
-
-pub host_there : (v : EndsView) (link : ℕ) → link < length v.links → length v.links ≤ 8
-    → IsSome (port_on v (host_port link))
-host_there v link lt few =
-    let x = there v.links link lt in
-    let low : link < 8 = omega (arith, lt, few) in
-    subst (λ (p : LinePlace). IsSome (port_at_place v Host p)) (host_place link low)
-    (ap (λ (o : Option LinkEnds). is_some (option_map (λ l. port_in Host l) o)) x.1)
-
--- the port that is lent takes the stream that the port there takes
-pub taken_there : {v old : EndsView} (link : ℕ) (tlp : List ℕ) (stream : Option ChosenStream) (x : LinkEnds) → old ≡ v
-    → link < length v.links → IsTakenAtHost v link tlp stream → x ≡ slice_index_or old.links link x
-    → IsStreamTaken x.host tlp stream
-taken_there {v} {old} link tlp stream x is lt taken read =
-    let l = there old.links link (subst (λ (u : EndsView). link < length u.links) (sym is) lt) in
-    subst (λ (y : LinkEnds). IsStreamTaken y.host tlp stream) (sym (read_there old.links link x l.0 read l.1))
-    (taken l.0 (ap (λ (u : EndsView). slice_get u.links link) (sym is) ∙ l.1))

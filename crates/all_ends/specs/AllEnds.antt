@@ -1,5 +1,8 @@
 -- What each call makes of the ends of all lines.
 use Rattle.std.specs.Prelude.{ℕ, ◌≡◌, ◌++◌, ◌<◌, Bool, Option, Some, None, List, length, map, slice_get, slice_set}
+use Rattle.std.specs.Prelude.{is_some}
+use Rattle.std.specs.Option.{option_and_then}
+use Rattle.ide_types.specs.declared.sub.SubKind.{SubKind}
 use Rattle.ide_types.specs.declared.port.Side.TheVariants.{Host, Device}
 use Rattle.ide_types.specs.declared.port.Side.{Side}
 use Rattle.ide_types.specs.declared.port.PortName.{PortName}
@@ -9,7 +12,7 @@ use Rattle.script_events.specs.declared.event.Loss.{Loss}
 use Rattle.event_verdicts.specs.declared.verdict.Verdict.{Verdict}
 use Rattle.event_verdicts.specs.declared.verdict.Verdict.TheVariants.{Nothing}
 use Rattle.ide_types.specs.declared.plan.Region.{Region}
-use Rattle.arrival_verdicts.specs.{Grants, reads_by}
+use Rattle.arrival_verdicts.specs.{Grants, reads_by, targets_at}
 use Rattle.trusted_memory.specs.{MemoryContents, Leads}
 use Rattle.link_ends.specs.Hosts.{InterfacesView, operated_on, manager_told, pair_told, peer_drawn}
 use Rattle.key_host.specs.declared.operation.NamedOperation.{NamedOperation}
@@ -17,15 +20,16 @@ use Rattle.key_host.specs.declared.operation.StreamOutcome.{StreamOutcome}
 use Rattle.ide_port.specs.declared.answer.Arrival.{Arrival}
 use Rattle.ide_port.specs.declared.answer.Sent.{Sent}
 use Rattle.ide_prefix.specs.Reading.{cut_of}
-use Rattle.tlp_layout.specs.declared.choice.ChosenStream.{ChosenStream}
-use Rattle.ide_port.specs.Sends.{IsStreamTaken}
-use Rattle.ide_port.specs.{PortEnd, IsSentAtPort, take_step}
+use Rattle.tlp_layout.specs.Outgoing.{outgoing_of}
+use Rattle.tlp_layout.specs.Reading.{read_of}
+use Rattle.ide_port.specs.Sends.{IsSendStep}
+use Rattle.ide_port.specs.{PortEnd, SendStep, seal_step, sealing_draw_in, send_step, take_step}
 use Rattle.link_ends.specs.declared.ends.LinkEnds.{LinkEnds}
 use Rattle.link_ends.specs.declared.pair.PairEnds.{PairEnds}
 use Rattle.guarded_memory.specs.declared.status.InterfaceStatus.{InterfaceStatus}
 use Rattle.guarded_memory.specs.{MmioLeads}
 use Rattle.link_stores.specs.declared.link.LinkAccesses.{LinkAccesses}
-use Rattle.link_stores.specs.{device_statuses}
+use Rattle.link_stores.specs.{device_statuses, other_reads, reads_on}
 use Rattle.arrival_verdicts.specs.Verdicts.{effects_from, packet_write, packet_stored, unit_writes, of_unit}
 use Rattle.arrival_verdicts.specs.Verdicts.{arrival_verdict}
 use Rattle.arrival_verdicts.specs.Switches.{switched_each, unit_waits, all_offered}
@@ -54,24 +58,46 @@ Changes old link new P = (l : LinkEnds) → slice_get old.links link ≡ Some l 
 
 -- ---- sends
 
+-- what stands at an end takes this step, whatever the number of the next sealed packet is over the run
+abbrev pub PortStep : Type 0
+PortStep = PortEnd → ℕ → SendStep
+
 -- at the end of a side of a line that is kept there, which seals these bytes
-pub record Sends (old : EndsView) (side : Side) (place : LinePlace) (tlp : List ℕ) (more trusted : Bool) (answer : Sent)
+pub record Sends (old : EndsView) (side : Side) (place : LinePlace) (step : PortStep) (answer : Sent)
     (new : EndsView) (sealed : List ℕ) (e : PortEnd) : Type 0 where
   pub port : PortEnd
   pub new_is : new ≡ with_port_at_place old side place port
-  pub sent : (number : ℕ) → IsSentAtPort e tlp more (trust_at_place old side place trusted) number answer port sealed
+  pub sent : (number : ℕ) → IsSendStep e.name number answer port sealed (step e number)
 
-abbrev pub SendsByPlace : EndsView → Side → LinePlace → List ℕ → Bool → Bool → Sent → EndsView → List ℕ → Type 0
-SendsByPlace old side place tlp more trusted answer new sealed =
-    (e : PortEnd) → port_at_place old side place ≡ Some e → Sends old side place tlp more trusted answer new sealed e
+abbrev pub SendsByPlace : EndsView → Side → LinePlace → PortStep → Sent → EndsView → List ℕ → Type 0
+SendsByPlace old side place step answer new sealed =
+    (e : PortEnd) → port_at_place old side place ≡ Some e → Sends old side place step answer new sealed e
+
+-- of these bytes, by association
+abbrev pub step_by_place : EndsView → Side → LinePlace → List ℕ → Bool → Bool → PortStep
+step_by_place v side place tlp more trusted e number =
+    send_step e (outgoing_of e.plans e.name.side tlp) more (trust_at_place v side place trusted) number
 
 abbrev pub SendsAtEnd : EndsView → PortName → List ℕ → Bool → Bool → Sent → EndsView → List ℕ → Type 0
 SendsAtEnd old end tlp more trusted answer new sealed =
-    SendsByPlace old end.side (line_place end.line) tlp more trusted answer new sealed
+    let place = line_place end.line in
+    SendsByPlace old end.side place (step_by_place old end.side place tlp more trusted) answer new sealed
 
--- the stream that bytes take at the host's port of a link, if they take one
-abbrev pub IsTakenAtHost : EndsView → ℕ → List ℕ → Option ChosenStream → Type 0
-IsTakenAtHost v link tlp stream = (l : LinkEnds) → slice_get v.links link ≡ Some l → IsStreamTaken l.host tlp stream
+-- on a stream of this ID, with this T, whatever stream association gives them
+abbrev pub step_on_stream : List ℕ → ℕ → Bool → PortStep
+step_on_stream tlp stream trusted e number = seal_step e (read_of tlp) stream trusted number
+
+abbrev pub SealsAtEnd : EndsView → PortName → List ℕ → ℕ → Bool → Sent → EndsView → List ℕ → Type 0
+SealsAtEnd old end tlp stream trusted answer new sealed =
+    SendsByPlace old end.side (line_place end.line) (step_on_stream tlp stream trusted) answer new sealed
+
+-- an end has a stream
+abbrev pub has_stream_at : EndsView → PortName → ℕ → Bool
+has_stream_at v end stream = is_some (end_stream_status v end stream)
+
+-- the draw that it seals a sub-stream under
+abbrev pub sealing_draw_on : EndsView → PortName → ℕ → SubKind → Option ℕ
+sealing_draw_on v end stream u = option_and_then (λ e. sealing_draw_in e stream u) (port_on v end)
 
 -- ---- arrivals
 
@@ -98,14 +124,17 @@ settled_by_side port v = by_side port.side
     by_side Device = settled_link v port.line
 
 -- What such an arrival at an end came to, at a host's or a device's port. Effects depend on what stands at that port's
--- link.
+-- link; the reads that wait at the link's other port stay.
 pub record Comes (regions : List Region) (grants : Grants) (end port : PortName) (answer : Arrival)
     (verdict : Verdict) (m n : MemoryContents) (a a' : LinkAccesses) (e : PortEnd) (l : LinkEnds) : Type 0 where
   pub verdict_is : verdict ≡ arrival_verdict end port answer
-      (λ unit. effects_from regions grants (link_statuses l a) (length a.reads) port unit e.delivered)
+      (λ unit. effects_from regions grants (link_statuses l a) (length (reads_on port.side a)) port unit e.delivered)
   pub written : Leads m (unit_writes answer (λ unit. map (packet_write regions grants port unit) e.delivered)) n
-  pub reads_are : a'.reads ≡ a.reads ++ of_unit answer (λ unit. reads_by unit.draw
-      (effects_from regions grants (link_statuses l a) (length a.reads) port unit e.delivered) e.delivered)
+  pub reads_are : reads_on port.side a' ≡ reads_on port.side a
+      ++ of_unit answer (λ unit. reads_by (targets_at port.side (link_statuses l a)) end unit
+      (effects_from regions grants (link_statuses l a) (length (reads_on port.side a)) port unit e.delivered)
+      e.delivered)
+  pub others_stay : other_reads port.side a' ≡ other_reads port.side a
   pub stored : MmioLeads a.guarded
       (of_unit answer (λ unit. map (packet_stored (link_statuses l a) port unit) e.delivered)) a'.guarded
   pub floors_stay : a'.floors ≡ a.floors

@@ -10,7 +10,8 @@ ghost use Rattle.key_host.specs.Operations.{op_name};
 ghost use Rattle.key_host.specs.Managers.{named_stream};
 ghost use Rattle.spec_keys.specs.Operations.{work_of};
 ghost use Rattle.spec_interfaces.specs.Peers.{has_peer};
-ghost use Rattle.all_ends.specs.Places.{place_on_links};
+ghost use Rattle.std.specs.Option.{option_and_then};
+ghost use Rattle.all_ends.specs.Places.{number_on_links, place_on_links, small_number};
 ghost use Rattle.all_ends.specs.Ends.{pair_port, with_pair_port, changed_at, cleared_ends, cleared_pair, settled_ends};
 ghost use Rattle.all_ends.specs.Ends.{unlocked_ends, line_place, peer_live};
 ghost use Rattle.all_ends.specs.declared.places.LinePlace.TheVariants.{Pair};
@@ -19,12 +20,12 @@ ghost use Rattle.interface_state.specs.Machine.{WriteRegister, LevelReset, Firmw
 
 use crate::making::{add_peer_rows, hop_rows, link_ends, near_ends, pair_ends};
 use crate::peers::{DevicePeers, has_peer};
-use crate::places::{LinePlace, line_place};
-use crate::sending::{bound_on, send_far, send_near, send_peer};
+use crate::places::{LinePlace, line_place, number_behind};
+use crate::sending::{bound_on, seal_hosted, seal_pair, send_far, send_near, send_peer};
 use arrival_verdicts::{ReceivingPort, switch_verdict, taken_verdict};
 use event_verdicts::Verdict;
 use hop_queues::HopQueues;
-use ide_port::{Arrival, FixedTrust, Port, SendBuffer, Sent};
+use ide_port::{Arrival, Port, SendBuffer, Sent};
 use ide_types::{
     BarPlan, Direction, OutOfMemory, PeerPlan, PortName, Register, Side, StreamStatus, SubKind,
     ValidPlan,
@@ -36,7 +37,7 @@ use link_stores::{Accesses, LinkAccesses};
 use script_events::Loss;
 use std::alloc::Global;
 use std::marker::Model;
-use tlp_layout::{ChosenStream, OutgoingTlp};
+use tlp_layout::OutgoingTlp;
 use trusted_memory::Trusted;
 
 /// How many lines of hops come before those of streams between devices, among those that are keyed by messages at both
@@ -69,7 +70,8 @@ impl Model for AllEnds {
 impl AllEnds {
     ghost use Rattle.all_ends.specs.Ends.{new_all_ends, port_on, settled_link, settled_first_links, cleared_on};
     ghost use Rattle.all_ends.specs.Ends.{all_cleared, unlocked_link, settled_place};
-    ghost use Rattle.all_ends.specs.AllEnds.{IsTakenAtHost, SendsAtEnd, TakesAt, ComesAtEnd, ArrivesAtEnd, Leaves};
+    ghost use Rattle.all_ends.specs.AllEnds.{SealsAtEnd, SendsAtEnd, TakesAt, ComesAtEnd, ArrivesAtEnd, Leaves};
+    ghost use Rattle.all_ends.specs.AllEnds.{has_stream_at, sealing_draw_on};
     ghost use Rattle.all_ends.specs.AllEnds.{WaitsAtEnd};
     ghost use Rattle.all_ends.specs.AllEnds.{OperatesAt};
     ghost use Rattle.all_ends.specs.AllEnds.{told_by_line, drawn_on_line, AsksAtLink, CallsAtLink, IsThere, ResetsAt};
@@ -199,23 +201,48 @@ impl AllEnds {
         }
     }
 
-    /// Sends a completion at the host's port of a link, with T, on the stream that it takes there. `out` is left with
-    /// what was sealed.
+    /// Whether an end has a stream.
+    pub fn has_stream(&self, end: PortName, stream: u8) -> bool
+        ensures { result ≡ has_stream_at self.now end stream }
+    {
+        match self.port(end) {
+            None => false,
+            Some(port) => port.status(stream).is_some(),
+        }
+    }
+
+    /// The draw that an end seals a sub-stream of a stream under; `None` if it has no key for it.
+    pub fn sealing_draw(&self, end: PortName, stream: u8, sub: SubKind) -> Option<u32>
+        ensures { result ≡ sealing_draw_on self.now end stream sub }
+    {
+        self.port(end)?.sealing_draw(stream, sub)
+    }
+
+    /// Sends a completion at an end, on the stream of this ID, with this T, whatever stream association gives it. `out`
+    /// is left with what was sealed.
     pub fn complete(
         &mut self,
-        link: u8,
-        stream: Option<ChosenStream>,
+        end: PortName,
+        stream: u8,
+        trusted: bool,
         tlp: &OutgoingTlp,
         out: &mut SendBuffer,
     ) -> Sent
-        requires here { link < length self.old.links }
-        requires links { length self.old.links ≤ 8 }
+        requires here { IsSome (port_on self.old end) }
         requires few { EndsUnitsAtMost (2 ^ 40) self.old }
-        requires taken { IsTakenAtHost self.old link tlp.now stream }
-        ensures { SendsAtEnd self.old (host_port link) tlp.now false true result self.new out.new }
+        ensures { SealsAtEnd self.old end tlp.now stream trusted result self.new out.new }
     {
-        let host = &mut self.links[link as usize].host;
-        host.send_chosen(stream, tlp, false, &FixedTrust(true), out)
+        match line_place(end.line) {
+            LinePlace::Link(i) => {
+                seal_hosted(&mut self.links[i], end.side, stream, trusted, tlp, out)
+            }
+            LinePlace::Near(i) => {
+                seal_hosted(&mut self.near[i], end.side, stream, trusted, tlp, out)
+            }
+            LinePlace::Pair(i) => {
+                seal_pair(&mut self.pairs[i], end.side, stream, trusted, tlp, out)
+            }
+        }
     }
 
     // Takes bytes that arrive at an end.
@@ -309,7 +336,8 @@ impl AllEnds {
     /// Takes bytes that arrive at an end which is at this port of a host or a device, and answers the verdict. Of a
     /// unit that is accepted at a host's port, the writes that the manager of interfaces admits go to trusted memory,
     /// and reads with T wait for their answer. Of a unit that is accepted at a device's port, writes go to the memory
-    /// of the device's interfaces, as these stood before it. If there is no such end nothing changes.
+    /// of the device's interfaces, and reads of it wait, as these stood before it. If there is no such end nothing
+    /// changes.
     pub fn arrive(
         &mut self,
         end: PortName,
@@ -452,6 +480,28 @@ impl AllEnds {
             }
             left -= count;
             link += 1;
+        }
+        None
+    }
+
+    /// The number over all links, counted from 0, of the interface at this place on the link; `None` if there is none, or
+    /// if the number has no room in 8 bits.
+    pub fn number(&self, link: u8, place: usize) -> Option<u8>
+        ensures { result ≡ option_and_then small_number (number_on_links self.now.links link place) }
+    {
+        // how many interfaces are on the links before
+        let mut before = 0;
+        let mut left = link;
+        for ends in &self.links {
+            let count = ends.device.count();
+            if left == 0 {
+                return number_behind(before, count, place);
+            }
+            if count > 255 - before {
+                return None;
+            }
+            before += count;
+            left -= 1;
         }
         None
     }

@@ -1,7 +1,7 @@
 //! Sends at the ends of lines that are no links.
 
 ghost use Rattle.std.specs.Prelude.{◌≡◌, ◌^◌, ℕ, option_map};
-ghost use Rattle.ide_port.specs.{IsSentAtPort, PortUnitsAtMost};
+ghost use Rattle.ide_port.specs.{IsSealedAtPort, IsSentAtPort, PortUnitsAtMost};
 ghost use Rattle.link_ends.specs.Ends.{port_in, with_port};
 ghost use Rattle.interface_ends.specs.Replies.{DeviceTdis};
 ghost use Rattle.all_ends.specs.Ends.{pair_port, with_pair_port, bound_on, far_hop_trust, bound_trust};
@@ -91,6 +91,47 @@ pub fn send_peer(
     match interfaces {
         None => send_pair(ends, side, tlp, more, &FixedTrust(false), out),
         Some(interfaces) => send_pair(ends, side, tlp, more, &BoundOwners { interfaces }, out),
+    }
+}
+
+/// Sends a TLP's bytes at the end of a side of a line that is keyed at a host, on the stream of this ID, with this T.
+/// `out` is left with what was sealed.
+pub fn seal_hosted(
+    ends: &mut LinkEnds,
+    side: Side,
+    stream: u8,
+    trusted: bool,
+    tlp: &OutgoingTlp,
+    out: &mut SendBuffer,
+) -> Sent
+    requires { PortUnitsAtMost (2 ^ 40) (port_in side ends.old) }
+    ensures sent { (number : ℕ) → IsSealedAtPort (port_in side ends.old) tlp.now stream trusted number result
+        (port_in side ends.new) out.new }
+    ensures ends { ends.new ≡ with_port side (port_in side ends.new) ends.old }
+{
+    match side {
+        Side::Host => ends.host.send_on(stream, tlp, trusted, out),
+        Side::Device => ends.device.port.send_on(stream, tlp, trusted, out),
+    }
+}
+
+/// So at the end of a side of a line that is keyed by messages at both.
+pub fn seal_pair(
+    ends: &mut PairEnds,
+    side: Side,
+    stream: u8,
+    trusted: bool,
+    tlp: &OutgoingTlp,
+    out: &mut SendBuffer,
+) -> Sent
+    requires { PortUnitsAtMost (2 ^ 40) (pair_port side ends.old) }
+    ensures sent { (number : ℕ) → IsSealedAtPort (pair_port side ends.old) tlp.now stream trusted number result
+        (pair_port side ends.new) out.new }
+    ensures ends { ends.new ≡ with_pair_port side (pair_port side ends.new) ends.old }
+{
+    match side {
+        Side::Host => ends.near.port.send_on(stream, tlp, trusted, out),
+        Side::Device => ends.far.port.send_on(stream, tlp, trusted, out),
     }
 }
 

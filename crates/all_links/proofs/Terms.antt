@@ -1,6 +1,6 @@
 -- What the proofs of this crate name from other modules.
 pub use Rattle.ide_types.specs.declared.plan.Plan.{Plan}
-pub use Rattle.ide_port.specs.{IsSentAtPort, PortEnd, SendStep, lengths_sent, send_step, sent_verdict}
+pub use Rattle.ide_port.specs.{PortEnd, SendStep, lengths_sent, sent_verdict}
 pub use Rattle.ide_port.specs.declared.answer.Sent.{Sent}
 pub use Rattle.ide_types.specs.declared.port.PortName.{PortName}
 pub use Rattle.ide_types.specs.declared.port.Side.{Side}

@@ -12,5 +12,5 @@ pub use Rattle.line_arrivals.specs.{names_of, ops_by_line, line_ops, state_of, v
 pub use Rattle.line_arrivals.specs.{new_ends, port_in, PairEnds, InterfacesView, keyed_if, live_for_operation}
 pub use Rattle.line_arrivals.specs.{operated_on, status_for_operation, stopped_if, KeeperView, LinkEnds, HostKeeper}
 pub use Rattle.line_arrivals.specs.{unit_tlps, arrival_of, unit_in, waiting_reads_after, carried_next, IsThere}
-pub use Rattle.line_arrivals.specs.{IsTakenAtHost}
+pub use Rattle.line_arrivals.specs.{has_stream_at, link_statuses, number_on_links, sealing_draw_on, small_number}
 pub use Rattle.line_arrivals.specs.Landing.{IsQuiet, Lands, arrival_on}

@@ -1,5 +1,5 @@
 -- What an event makes of all links.
-use Rattle.std.specs.Prelude.{◌≡◌, ◌+◌, ℕ, Bool, true, List, [], length, replicate, Option, Some, None, Result, Ok, Err}
+use Rattle.std.specs.Prelude.{◌≡◌, ◌+◌, ℕ, ⊤, Bool, true, List, [], length, replicate, Option, Some, None, Result, Ok, Err}
 use Rattle.ide_types.specs.declared.memory.OutOfMemory.{OutOfMemory}
 use Rattle.ide_types.specs.declared.port.PortName.{PortName}
 use Rattle.ide_types.specs.declared.plan.Plan.{Plan}
@@ -7,7 +7,9 @@ use Rattle.script_events.specs.declared.event.Event.{Event}
 use Rattle.event_verdicts.specs.declared.verdict.Verdict.{Verdict}
 use Rattle.spec_keys.specs.History.{History}
 use Rattle.spec_links.specs.Plan.{has_port}
-use Rattle.machine_ports.specs.Machine.{BesidePorts, LinkState, Stepped, step_of, stepped_bytes}
+use Rattle.machine_ports.specs.Machine.{BesidePorts, LinkState, Stepped, step_of, stepped_bytes, stepped_tlp}
+use Rattle.machine_ports.specs.Replies.{ReadCompletion}
+use Rattle.tlp_layout.specs.Reading.{read_of}
 use Rattle.machine_ports.specs.Stands.{PortsStandFor}
 use Rattle.key_slots.specs.{new_pool}
 use Rattle.key_host.specs.Managers.{new_manager}
@@ -68,6 +70,11 @@ EndsSending plan verdict old new end bytes more trusted =
     StepEndsBy (λ b. has_port plan end ≡ true) (λ b st. stepped_bytes plan b st end bytes more trusted) plan verdict old
     new
 
+-- A completion is sealed, or refused.
+abbrev pub EndsSealing : Plan → Verdict → Links → Links → ReadCompletion → Type 0
+EndsSealing plan verdict old new c =
+    StepEndsBy (λ b. ⊤) (λ b st. stepped_tlp plan st c (read_of c.bytes)) plan verdict old new
+
 -- for want of memory all that is kept is as before
 pub record Stays (old new : Links) : Type 0 where
   pub ends : new.ends ≡ old.ends
@@ -85,6 +92,10 @@ abbrev pub EndsSendingOrStays : Plan → Result Verdict OutOfMemory → Links �
 EndsSendingOrStays plan (Ok verdict) old new end bytes more trusted = EndsSending plan verdict old new end bytes more
     trusted
 EndsSendingOrStays plan (Err e) old new end bytes more trusted = Stays old new
+
+abbrev pub EndsSealingOrStays : Plan → Result Verdict OutOfMemory → Links → Links → ReadCompletion → Type 0
+EndsSealingOrStays plan (Ok verdict) old new c = EndsSealing plan verdict old new c
+EndsSealingOrStays plan (Err e) old new c = Stays old new
 
 -- The event has no verdict. That does not come while the links stand for some history and the event is answered.
 abbrev pub HasNoVerdict : Plan → Links → Event → Type 0

@@ -1,4 +1,4 @@
-//! Operations and events on the interfaces of all links, and reads of trusted memory.
+//! Operations and events on the interfaces of all links, and reads of trusted memory (this profile).
 
 ghost use Rattle.std.specs.Prelude.{◌≡◌, ◌+◌, ◌<◌, ◌≤◌, ◌^◌, ◌&&◌, ℕ, Some, None, [], IfOk, IfSome, IsSome};
 ghost use Rattle.std.specs.Prelude.{true, List, length, nat_lt, if◌then◌else◌};
@@ -127,7 +127,7 @@ impl Links {
         }
     }
 
-    /// Locks the interface of a number (TDISP section 11.3, in this profile). It has no verdict where
+    /// Locks the interface of a number (TDISP section 11.3). It has no verdict where
     /// `operate_interface` has none.
     pub fn lock(&mut self, alloc: Global, number: u64, loss: Option<Loss>) -> Option<Verdict>
         requires steps { self.old.steps < 2 ^ 28 }
@@ -140,7 +140,7 @@ impl Links {
         self.operate_interface(alloc, InterfaceOperation::Lock, number, at, loss)
     }
 
-    /// Asks for the state of the interface of a number (TDISP section 11.3, in this profile). It has no verdict where
+    /// Asks for the state of the interface of a number (TDISP section 11.3). It has no verdict where
     /// `operate_interface` has none.
     pub fn state(&mut self, alloc: Global, number: u64, loss: Option<Loss>) -> Option<Verdict>
         requires steps { self.old.steps < 2 ^ 28 }
@@ -180,7 +180,7 @@ impl Links {
     }
 
     /// Binds the interface of a number to a stream between devices, which is named by its line, 24 to 31, and its ID
-    /// (TDISP section 11.3, in this profile). It has no verdict where `operate_interface` has none.
+    /// (TDISP section 11.3). It has no verdict where `operate_interface` has none.
     pub fn bind(
         &mut self,
         alloc: Global,
@@ -211,7 +211,7 @@ impl Links {
     }
 
     /// Ends the binding of the interface of a number to a stream between devices, which is named as in `bind` (TDISP
-    /// section 11.3, in this profile). It has no verdict where `operate_interface` has none.
+    /// section 11.3). It has no verdict where `operate_interface` has none.
     pub fn unbind(
         &mut self,
         alloc: Global,
@@ -241,7 +241,7 @@ impl Links {
         }
     }
 
-    /// Reads the report of the interface of a number (TDISP section 11.3, in this profile). It has no verdict where
+    /// Reads the report of the interface of a number (TDISP section 11.3). It has no verdict where
     /// `operate_interface` has none. Room for the longest report, 1,140 bytes, is taken first: for want of memory
     /// nothing changes.
     pub fn report(
@@ -272,7 +272,7 @@ impl Links {
         }
     }
 
-    /// The manager's view of the interface of a number (this profile).
+    /// The manager's view of the interface of a number.
     pub fn view(&mut self, number: u64) -> Verdict
         requires steps { self.old.steps < 2 ^ 28 }
         requires bounded { IsBounded self.old.ends self.old.packets.packets self.old.steps }
@@ -290,7 +290,7 @@ impl Links {
         }
     }
 
-    /// Writes a value, of the register's width in bits, to a register of the interface of a number (this profile).
+    /// Writes a value, of the register's width in bits, to a register of the interface of a number.
     pub fn write(&mut self, number: u64, register: Register, value: u64) -> Verdict
         requires steps { self.old.steps < 2 ^ 28 }
         requires bounded { IsBounded self.old.ends self.old.packets.packets self.old.steps }
@@ -333,7 +333,7 @@ impl Links {
         }
     }
 
-    /// A firmware update of the interface of a number (this profile).
+    /// A firmware update of the interface of a number.
     pub fn firmware(&mut self, number: u64) -> Verdict
         requires steps { self.old.steps < 2 ^ 28 }
         requires bounded { IsBounded self.old.ends self.old.packets.packets self.old.steps }
@@ -351,7 +351,7 @@ impl Links {
         }
     }
 
-    /// Shows so many bytes of trusted memory from an address on, if one region has them all (this profile). For want of
+    /// Shows so many bytes of trusted memory from an address on, if one region has them all. For want of
     /// memory nothing changes.
     pub fn memory(
         &mut self,

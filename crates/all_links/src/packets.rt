@@ -1,28 +1,29 @@
 //! What is sent on all lines, and the packets that this sealed.
 
-ghost use Rattle.std.specs.Prelude.{◌≡◌, ◌+◌, ◌<◌, ◌≤◌, ◌^◌, ◌++◌, true, false, IfOk, OnOk, IsSome, List};
+ghost use Rattle.std.specs.Prelude.{◌≡◌, ◌+◌, ◌<◌, ◌≤◌, ◌^◌, ◌++◌, ℕ, true, IfOk, OnOk, IsOk, IsSome, List};
 ghost use Rattle.std.specs.Prelude.{length, sum_by};
-ghost use Rattle.ide_types.specs.Ports.{host_port};
 ghost use Rattle.ide_port.specs.Sends.{lengths_sent};
 ghost use Rattle.ide_port.specs.declared.answer.Sent.TheVariants.{Sealed};
 ghost use Rattle.sub_stream.specs.declared.answer.MeasuredPacket.{MeasuredPacket};
 ghost use Rattle.spec_links.specs.Ports.{port_of};
-ghost use Rattle.line_arrivals.specs.{cut_packets, end_sent_verdict, port_on, IsTakenAtHost};
+ghost use Rattle.tlp_layout.specs.Reading.{read_of};
+ghost use Rattle.line_arrivals.specs.{cut_packets, end_sent_verdict, has_stream_at, port_on};
 
 use crate::links::Links;
 use event_verdicts::Verdict;
 use ide_port::Sent;
-use ide_types::{Bytes, OutOfMemory, PortName, Side, ValidPlan};
+use ide_types::{Bytes, OutOfMemory, PortName, ValidPlan};
 use line_arrivals::send_verdict;
 use line_routes::{may_send, port_of, sealing_end};
 use script_events::Event;
 use std::alloc::Global;
-use tlp_layout::{ChosenStream, OutgoingTlp};
+use tlp_layout::OutgoingTlp;
 
 impl Links {
     ghost use Rattle.ide_types.specs.declared.plan.Plan.{Plan as PlanView};
     ghost use Rattle.line_arrivals.specs.{IsBounded};
-    ghost use Rattle.all_links.specs.Links.{EndsOrStays, EndsSending, EndsSendingOrStays};
+    ghost use Rattle.all_links.specs.Links.{EndsOrStays, EndsSealing, EndsSealingOrStays, EndsSending};
+    ghost use Rattle.all_links.specs.Links.{EndsSendingOrStays};
     ghost use Rattle.all_links.specs.Accesses.{is_sending};
     ghost use Rattle.all_links.specs.BesideAfter.{BesideStays};
 
@@ -82,25 +83,30 @@ impl Links {
         Ok(self.seal(plan, end, tlp, more, trusted))
     }
 
-    /// Sends a completion at the host's port of a link, with T, on the stream that it takes there. For want of memory
-    /// nothing changes.
+    /// Sends a completion, which is a TLP, at an end, on the stream of this ID, with this T, whatever stream association
+    /// gives it. If there is no such end, or it has no such stream, nothing is sent. For want of memory nothing changes.
     pub fn complete(
         &mut self,
         plan: &ValidPlan,
-        link: u8,
-        stream: Option<ChosenStream>,
+        end: PortName,
+        stream: u8,
+        trusted: bool,
         tlp: &OutgoingTlp,
     ) -> Result<Verdict, OutOfMemory>
         requires steps { self.old.steps < 2 ^ 28 }
         requires bounded { IsBounded self.old.ends self.old.packets.packets self.old.steps }
-        requires here { link < length self.old.ends.links }
-        requires taken { IsTakenAtHost self.old.ends link tlp.now stream }
-        ensures ends { EndsSendingOrStays plan.now result self.old self.new (host_port link) tlp.now false true }
+        requires tlp { IsOk (read_of tlp.now) }
+        // Whatever the least draw is that it may be sealed under.
+        ensures ends { (floor : ℕ) → EndsSealingOrStays plan.now result self.old self.new
+            (record { end = end; stream = stream; trusted = trusted; floor = floor; bytes = tlp.now }) }
         ensures sides { IfOk result (λ v. BesideStays self.old self.new) }
         ensures sending { IfOk result (λ v. is_sending v ≡ true) }
     {
+        if !self.ends.has_stream(end, stream) {
+            return Ok(self.only(Verdict::Nothing));
+        }
         self.reserve_packets()?;
-        Ok(self.seal_completion(plan, link, stream, tlp))
+        Ok(self.seal_completion(plan, end, stream, trusted, tlp))
     }
 
     // A send at an end that exists; there is room for what it seals.
@@ -125,27 +131,29 @@ impl Links {
         self.keep_sent(plan, end, &sent)
     }
 
-    // A completion's send on a link that exists; there is room for what it seals.
+    // A completion's send at an end that exists, on a stream that it has; there is room for what it seals.
     fn seal_completion(
         &mut self,
         plan: &ValidPlan,
-        link: u8,
-        stream: Option<ChosenStream>,
+        end: PortName,
+        stream: u8,
+        trusted: bool,
         tlp: &OutgoingTlp,
     ) -> Verdict
         requires steps { self.old.steps < 2 ^ 28 }
         requires bounded { IsBounded self.old.ends self.old.packets.packets self.old.steps }
-        requires here { link < length self.old.ends.links }
-        requires taken { IsTakenAtHost self.old.ends link tlp.now stream }
+        requires here { has_stream_at self.old.ends end stream ≡ true }
         requires marks { 3 ≤ self.old.packets.mark_room }
         requires bytes_room { 4184 ≤ self.old.packets.byte_room }
-        ensures ends { EndsSending plan.now result self.old self.new (host_port link) tlp.now false true }
+        ensures ends { (floor : ℕ) → EndsSealing plan.now result self.old self.new
+            (record { end = end; stream = stream; trusted = trusted; floor = floor; bytes = tlp.now }) }
         ensures sides { BesideStays self.old self.new }
         ensures sending { is_sending result ≡ true }
     {
-        let side = Side::Host;
-        let sent = self.ends.complete(link, stream, tlp, &mut self.sealed);
-        self.keep_sent(plan, PortName { side, line: link }, &sent)
+        let sent = self
+            .ends
+            .complete(end, stream, trusted, tlp, &mut self.sealed);
+        self.keep_sent(plan, end, &sent)
     }
 
     // What a send at an end came to: the packets that it sealed are kept, and its verdict counts as a step.

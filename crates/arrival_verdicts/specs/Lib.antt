@@ -12,7 +12,7 @@ pub use Rattle.ide_port.specs.{joined_packets, numbered_from, opened_if_accepted
 pub use Rattle.spec_links.specs.Admission.{Grants}
 pub use Rattle.spec_links.specs.Plan.{behind_near, has_stream, hop_by_link, hop_streams, in_eight, is_closed}
 pub use Rattle.spec_links.specs.Plan.{lone_stream, aggregation_of, streams_of, with_id}
-pub use Rattle.spec_links.specs.Sent.{reads_by}
+pub use Rattle.spec_links.specs.Sent.{reads_by, targets_at}
 pub use Rattle.machine_whole.specs.Accesses.{unit_tlps, waiting_reads_after}
 pub use Rattle.machine_whole.specs.Machine.{arrival_of, live_draw_at_end, unit_in}
 unfoldable pub use Rattle.spec_links.specs.Plan.{streams_by_line, stream_plan}

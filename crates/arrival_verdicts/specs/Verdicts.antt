@@ -19,14 +19,17 @@ use Rattle.ide_prefix.specs.FaultWords.{packet_word, tlp_word}
 use Rattle.spec_keys.specs.Places.{sent_direction}
 use Rattle.spec_links.specs.{owner_id}
 use Rattle.spec_links.specs.Admission.{Grants, waiting_then}
-use Rattle.spec_links.specs.Sent.{read_in, reads_by}
+use Rattle.spec_links.specs.Sent.{read_in, reads_by, arrival_of, targets_at}
 use Rattle.spec_links.specs.Guarded.{tlp_happened}
 use Rattle.trusted_memory.specs.declared.queue.WaitingRead.{WaitingRead}
+use Rattle.trusted_memory.specs.declared.queue.ReadArrival.{ReadArrival}
+use Rattle.trusted_memory.specs.declared.queue.ReadTarget.{ReadTarget}
+use Rattle.trusted_memory.specs.declared.span.Span.{Span}
 use Rattle.trusted_memory.specs.Waiting.{request_effect}
 use Rattle.guarded_memory.specs.declared.status.InterfaceStatus.{InterfaceStatus}
-use Rattle.guarded_memory.specs.{Happened, GuardedMemory, MmioLeads, mmio_effect}
+use Rattle.guarded_memory.specs.{Happened, GuardedMemory, MmioLeads, device_request_effect}
 use Rattle.trusted_memory.specs.declared.grant.Grant.{Grant}
-use Rattle.trusted_memory.specs.{Write, MemoryContents, Leads, write_span, memory_write, admitted_write}
+use Rattle.trusted_memory.specs.{Write, MemoryContents, Leads, memory_write, admitted_write}
 use Rattle.tlp_layout.specs.Faults.{place_in}
 use Rattle.interface_host.specs.Managers.{InterfaceManagerView, running_grant}
 use Rattle.ide_port.specs.{refusal_verdict, numbered_from}
@@ -56,7 +59,7 @@ abbrev pub head_grant : Grants → ℕ → UnitName → HeadView → Grant
 head_grant grants link unit head =
     record { bound = option_and_then (grants link) (owner_id head); stream = unit.stream; draw = unit.draw }
 
--- while so many reads of the link wait
+-- while so many reads wait there
 abbrev pub head_effect : List Region → Grants → ℕ → ℕ → UnitName → Bool → Result HeadView TlpFault → Effect
 head_effect regions grants link waiting unit t (Err f) = effect.Delivered
 head_effect regions grants link waiting unit t (Ok head) =
@@ -67,10 +70,10 @@ head_write regions grants link unit t payload (Err f) = None
 head_write regions grants link unit t payload (Ok head) =
     admitted_write regions t (head_grant grants link unit head) (memory_write head payload)
 
--- of a TLP at a device's port whose interfaces stand so
-abbrev pub claimed_effect : List InterfaceStatus → UnitName → Bool → Result HeadView TlpFault → Effect
-claimed_effect xs unit t (Err f) = effect.Delivered
-claimed_effect xs unit t (Ok head) = mmio_effect xs t unit.stream unit.draw (write_span head)
+-- of a TLP at a device's port whose interfaces stand so, while so many reads wait there
+abbrev pub claimed_effect : List InterfaceStatus → ℕ → UnitName → Bool → Result HeadView TlpFault → Effect
+claimed_effect xs waiting unit t (Err f) = effect.Delivered
+claimed_effect xs waiting unit t (Ok head) = device_request_effect xs t unit.stream unit.draw waiting head
 
 -- of a packet whose body is plain
 abbrev pub packet_effect : List Region → Grants → List InterfaceStatus → ℕ → PortName → UnitName → Packet → Effect
@@ -78,7 +81,7 @@ packet_effect regions grants xs waiting port unit p =
     if is_sync_packet p then effect.Sync
     else if sent_direction port.side == 0
     then head_effect regions grants port.line waiting unit p.prefix.t (read_head_of p.head)
-    else claimed_effect xs unit p.prefix.t (read_head_of p.head)
+    else claimed_effect xs waiting unit p.prefix.t (read_head_of p.head)
 
 abbrev pub packet_write : List Region → Grants → PortName → UnitName → Packet → Option Write
 packet_write regions grants port unit p =
@@ -102,31 +105,31 @@ effects_from regions grants xs waiting port unit (p ∷ ps) =
     ∷ effects_from regions grants xs (waiting_then (packet_effect regions grants xs waiting port unit p) waiting) port
     unit ps
 
--- of a TLP of this header, by its effect: the read that waits
-abbrev pub queued_by : ℕ → Effect → Result HeadView TlpFault → List WaitingRead
-queued_by draw effect.Queued r = read_in draw r
-queued_by draw e r = []
+-- of a TLP of this header, which came so, by its effect: the read that waits, by what reads are of
+abbrev pub queued_by : (Span → Option ReadTarget) → ReadArrival → Effect → Result HeadView TlpFault → List WaitingRead
+queued_by target came effect.Queued r = read_in target came r
+queued_by target came e r = []
 
 -- ---- one packet, and those of a unit
 
--- A packet got this effect at a port. `ws` are the reads of the link that waited, `m` stood in trusted memory and `g`
--- in the memory of the device's interfaces, which stand as `xs`; then `ws'`, `m'` and `g'` do.
-pub record PacketCame (regions : List Region) (grants : Grants) (xs : List InterfaceStatus) (port : PortName)
+-- A packet got this effect at an end that is at this port. `ws` are the reads that waited there, `m` stood in trusted
+-- memory and `g` in the memory of the device's interfaces, which stand as `xs`; then `ws'`, `m'` and `g'` do.
+pub record PacketCame (regions : List Region) (grants : Grants) (xs : List InterfaceStatus) (end port : PortName)
     (unit : UnitName)
     (p : Packet) (ws : List WaitingRead) (m : MemoryContents) (g : GuardedMemory)
     (e : Effect) (ws' : List WaitingRead) (m' : MemoryContents) (g' : GuardedMemory) : Type 0 where
   pub effect_is : e ≡ packet_effect regions grants xs (length ws) port unit p
-  pub reads_are : ws' ≡ ws ++ queued_by unit.draw e (read_head_of p.head)
+  pub reads_are : ws' ≡ ws ++ queued_by (targets_at port.side xs) (arrival_of end unit p) e (read_head_of p.head)
   pub written : Leads m (packet_write regions grants port unit p ∷ []) m'
   pub stored : MmioLeads g (packet_stored xs port unit p ∷ []) g'
 
 -- the packets of a unit got these effects, likewise
-pub record UnitCame (regions : List Region) (grants : Grants) (xs : List InterfaceStatus) (port : PortName)
+pub record UnitCame (regions : List Region) (grants : Grants) (xs : List InterfaceStatus) (end port : PortName)
     (unit : UnitName)
     (ps : List Packet) (ws : List WaitingRead) (m : MemoryContents) (g : GuardedMemory) (es : List Effect)
     (ws' : List WaitingRead) (m' : MemoryContents) (g' : GuardedMemory) : Type 0 where
   pub effects_are : es ≡ effects_from regions grants xs (length ws) port unit ps
-  pub reads_are : ws' ≡ ws ++ reads_by unit.draw es ps
+  pub reads_are : ws' ≡ ws ++ reads_by (targets_at port.side xs) end unit es ps
   pub written : Leads m (map (packet_write regions grants port unit) ps) m'
   pub stored : MmioLeads g (map (packet_stored xs port unit) ps) g'
 

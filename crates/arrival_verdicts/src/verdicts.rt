@@ -1,7 +1,7 @@
-//! The verdicts of sends and of arrivals at ports.
+//! The verdicts of sends and of arrivals at ports (this profile).
 
 ghost use Rattle.std.specs.Option.{option_and_then};
-ghost use Rattle.std.specs.Prelude.{◌≡◌, ◌∷◌, [], ◌+◌, ◌++◌, ◌<◌, ◌≤◌, ◌^◌, Ok, length, map, if◌then◌else◌};
+ghost use Rattle.std.specs.Prelude.{◌≡◌, ◌∷◌, [], ◌+◌, ◌++◌, ◌<◌, ◌≤◌, ◌^◌, None, Ok, length, map, if◌then◌else◌};
 ghost use Rattle.tlp_layout.specs.Head.{FitsHead};
 ghost use Rattle.ide_prefix.specs.Cut.{packet_of_view};
 ghost use Rattle.ide_prefix.specs.Packet.{HasTlp};
@@ -9,8 +9,8 @@ ghost use Rattle.spec_links.specs.{owner_id};
 ghost use Rattle.interface_host.specs.Managers.{running_grant};
 ghost use Rattle.trusted_memory.specs.{Leads};
 ghost use Rattle.guarded_memory.specs.{MmioLeads};
-ghost use Rattle.link_stores.specs.{device_statuses};
-ghost use Rattle.spec_links.specs.Sent.{reads_by};
+ghost use Rattle.link_stores.specs.{device_statuses, other_reads, reads_on};
+ghost use Rattle.spec_links.specs.Sent.{reads_by, targets_at};
 ghost use Rattle.sub_stream.specs.{numbered_packet};
 ghost use Rattle.ide_port.specs.{refusal_verdict as verdict_refused, numbered_from};
 ghost use Rattle.arrival_verdicts.specs.Verdicts.{grants_in, end_sent_verdict, head_effect, head_write};
@@ -26,7 +26,7 @@ use interface_host::Interfaces;
 use link_stores::LinkAccesses;
 use sub_stream::Delivered;
 use tlp_layout::{HeadView, TlpView, owner};
-use trusted_memory::{Grant, Trusted};
+use trusted_memory::{Grant, ReadArrival, Trusted};
 
 // ---- sends
 
@@ -76,7 +76,7 @@ fn refused(refusal: SendRefusal) -> Verdict
 }
 
 /// The verdict of a send at an end of a line, which is at this port; the first packet that it sealed has this number
-/// over the run (this profile).
+/// over the run.
 pub fn send_verdict(end: PortName, port: PortName, number: u64, sent: &Sent) -> Verdict
     requires { number ≤ 2 ^ 63 }
     ensures { result ≡ end_sent_verdict end port number sent.now }
@@ -98,7 +98,7 @@ pub fn send_verdict(end: PortName, port: PortName, number: u64, sent: &Sent) -> 
 // ---- arrivals
 
 /// An end of a line, the port that it is at, and what effects there depend on beside memory and reads that wait: the
-/// manager of interfaces at a host's port, the device's interfaces at a device's (this profile).
+/// manager of interfaces at a host's port, the device's interfaces at a device's.
 #[derive(Clone, Copy)]
 pub struct ReceivingPort<'a> {
     pub end: PortName,
@@ -117,11 +117,11 @@ fn bound(link: u8, manager: &Interfaces, head: &HeadView) -> Option<Binding>
     }
 }
 
-// The effect of a TLP at a host's port; its packet has this T and came in this unit.
+// The effect of a TLP at a host's port, whose packet came so in this unit.
 fn requested(
     at: &ReceivingPort,
     unit: UnitName,
-    trusted: bool,
+    came: ReadArrival,
     tlp: &TlpView,
     memory: &mut Trusted,
     access: &mut LinkAccesses,
@@ -129,20 +129,21 @@ fn requested(
     requires spare { 1 ≤ memory.old.spare }
     requires fits { FitsHead tlp.now.head }
     ensures effect { result ≡ head_effect memory.old.contents.regions (grants_in at.now.manager.now) at.now.port.line
-        (length access.old.reads) unit trusted (Ok tlp.now.head) }
-    ensures reads { access.new.reads ≡ access.old.reads ++ queued_by unit.draw result (Ok tlp.now.head) }
-    ensures kept { access.new ≡ record access.old { reads = access.new.reads } }
+        (length access.old.host_reads) unit came.trusted (Ok tlp.now.head) }
+    ensures reads { access.new.host_reads ≡ access.old.host_reads
+        ++ queued_by (λ s. None) came result (Ok tlp.now.head) }
+    ensures kept { access.new ≡ record access.old { host_reads = access.new.host_reads } }
     ensures regions { memory.new.contents.regions ≡ memory.old.contents.regions }
     ensures spare { memory.old.spare ≤ memory.new.spare + 1 }
     ensures leads { Leads memory.old.contents (head_write memory.old.contents.regions (grants_in at.now.manager.now)
-        at.now.port.line unit trusted tlp.now.payload.now (Ok tlp.now.head) ∷ []) memory.new.contents }
+        at.now.port.line unit came.trusted tlp.now.payload.now (Ok tlp.now.head) ∷ []) memory.new.contents }
 {
     let grant = Grant {
         bound: bound(at.port.line, at.manager, &tlp.head),
         stream: unit.stream,
         draw: unit.draw,
     };
-    access.request(memory, tlp, trusted, grant)
+    access.request(memory, tlp, came, grant)
 }
 
 // The effect of a packet at a port that accepted it.
@@ -157,9 +158,11 @@ fn effect(
     requires pages { 2 ≤ access.old.guarded.spare }
     requires tlp { HasTlp (packet_of_view packet.now) packet.now.tlp }
     ensures came { PacketCame memory.old.contents.regions (grants_in at.now.manager.now)
-        (device_statuses access.old.floors at.now.interfaces.now) at.now.port unit (packet_of_view packet.now)
-        access.old.reads memory.old.contents access.old.guarded
-        result access.new.reads memory.new.contents access.new.guarded }
+        (device_statuses access.old.floors at.now.interfaces.now) at.now.end at.now.port unit
+        (packet_of_view packet.now)
+        (reads_on at.now.port.side access.old) memory.old.contents access.old.guarded
+        result (reads_on at.now.port.side access.new) memory.new.contents access.new.guarded }
+    ensures others { other_reads at.now.port.side access.new ≡ other_reads at.now.port.side access.old }
     ensures regions { memory.new.contents.regions ≡ memory.old.contents.regions }
     ensures floors { access.new.floors ≡ access.old.floors }
     ensures sizes { access.new.guarded.sizes ≡ access.old.guarded.sizes }
@@ -170,12 +173,17 @@ fn effect(
     let Some(head) = packet.tlp else {
         return Effect::Sync;
     };
-    let trusted = packet.prefix.t;
+    let came = ReadArrival {
+        end: at.end,
+        stream: unit.stream,
+        draw: unit.draw,
+        trusted: packet.prefix.t,
+    };
     let payload = packet.body;
     let tlp = TlpView { head, payload };
     match at.port.side {
-        Side::Device => access.deliver(at.interfaces, &tlp, trusted, unit),
-        Side::Host => requested(at, unit, trusted, &tlp, memory, access),
+        Side::Device => access.deliver(at.interfaces, &tlp, came),
+        Side::Host => requested(at, unit, came, &tlp, memory, access),
     }
 }
 
@@ -190,9 +198,10 @@ fn effects(
     requires spare { 8 ≤ memory.old.spare }
     requires pages { 16 ≤ access.old.guarded.spare }
     ensures came { UnitCame memory.old.contents.regions (grants_in at.now.manager.now)
-        (device_statuses access.old.floors at.now.interfaces.now) at.now.port unit packets.now
-        access.old.reads memory.old.contents access.old.guarded
-        result access.new.reads memory.new.contents access.new.guarded }
+        (device_statuses access.old.floors at.now.interfaces.now) at.now.end at.now.port unit packets.now
+        (reads_on at.now.port.side access.old) memory.old.contents access.old.guarded
+        result (reads_on at.now.port.side access.new) memory.new.contents access.new.guarded }
+    ensures others { other_reads at.now.port.side access.new ≡ other_reads at.now.port.side access.old }
     ensures regions { memory.new.contents.regions ≡ memory.old.contents.regions }
     ensures floors { access.new.floors ≡ access.old.floors }
     ensures sizes { access.new.guarded.sizes ≡ access.old.guarded.sizes }
@@ -218,11 +227,14 @@ fn unit_effects(
     requires pages { 16 ≤ access.old.guarded.spare }
     ensures effects { let xs = device_statuses access.old.floors at.now.interfaces.now in
         result ≡ of_unit arrival (λ unit. effects_from memory.old.contents.regions (grants_in at.now.manager.now) xs
-        (length access.old.reads) at.now.port unit packets.now) }
+        (length (reads_on at.now.port.side access.old)) at.now.port unit packets.now) }
     ensures reads { let xs = device_statuses access.old.floors at.now.interfaces.now in
-        access.new.reads ≡ access.old.reads ++ of_unit arrival (λ unit. reads_by unit.draw
-        (effects_from memory.old.contents.regions (grants_in at.now.manager.now) xs (length access.old.reads)
+        let ws = reads_on at.now.port.side access.old in
+        reads_on at.now.port.side access.new ≡ ws
+        ++ of_unit arrival (λ unit. reads_by (targets_at at.now.port.side xs) at.now.end unit
+        (effects_from memory.old.contents.regions (grants_in at.now.manager.now) xs (length ws)
         at.now.port unit packets.now) packets.now) }
+    ensures others { other_reads at.now.port.side access.new ≡ other_reads at.now.port.side access.old }
     ensures leads { let regions = memory.old.contents.regions in
         Leads memory.old.contents (unit_writes arrival (λ unit. map (packet_write regions (grants_in at.now.manager.now)
         at.now.port unit) packets.now)) memory.new.contents }
@@ -241,7 +253,7 @@ fn unit_effects(
 }
 
 /// The verdict of an arrival at an end of a line, which is at this port; `effects` are those of the unit, if one was
-/// accepted (this profile).
+/// accepted.
 pub(crate) fn verdict_with(
     end: PortName,
     port: PortName,
@@ -280,7 +292,7 @@ pub(crate) fn verdict_with(
 }
 
 /// The verdict of an arrival at an end that is at a host's or a device's port; `packets` are those of the unit, if one
-/// was accepted (this profile).
+/// was accepted.
 pub fn taken_verdict(
     at: &ReceivingPort,
     arrival: Arrival,
@@ -292,11 +304,14 @@ pub fn taken_verdict(
     requires pages { 16 ≤ access.old.guarded.spare }
     ensures verdict { let xs = device_statuses access.old.floors at.now.interfaces.now in
         result ≡ arrival_verdict at.now.end at.now.port arrival (λ unit. effects_from memory.old.contents.regions
-        (grants_in at.now.manager.now) xs (length access.old.reads) at.now.port unit packets.now) }
+        (grants_in at.now.manager.now) xs (length (reads_on at.now.port.side access.old)) at.now.port unit packets.now) }
     ensures reads { let xs = device_statuses access.old.floors at.now.interfaces.now in
-        access.new.reads ≡ access.old.reads ++ of_unit arrival (λ unit. reads_by unit.draw
-        (effects_from memory.old.contents.regions (grants_in at.now.manager.now) xs (length access.old.reads)
+        let ws = reads_on at.now.port.side access.old in
+        reads_on at.now.port.side access.new ≡ ws
+        ++ of_unit arrival (λ unit. reads_by (targets_at at.now.port.side xs) at.now.end unit
+        (effects_from memory.old.contents.regions (grants_in at.now.manager.now) xs (length ws)
         at.now.port unit packets.now) packets.now) }
+    ensures others { other_reads at.now.port.side access.new ≡ other_reads at.now.port.side access.old }
     ensures leads { let regions = memory.old.contents.regions in
         Leads memory.old.contents (unit_writes arrival (λ unit. map (packet_write regions (grants_in at.now.manager.now)
         at.now.port unit) packets.now)) memory.new.contents }

@@ -15,5 +15,6 @@ mod MemoryPackets
 pub mod MemoryComputed
 pub mod ReadsComputed
 pub mod MmioComputed
+pub mod DeviceReadsComputed
 mod HopLiterals
 pub mod HopComputed

@@ -20,6 +20,7 @@ use Rattle.tlp_layout.specs.Choice.{choice_of}
 use Rattle.tlp_layout.specs.Outgoing.{outgoing_of}
 use Rattle.spec_links.specs.Due.{before_tag, due, is_verified, t_sealed}
 use Rattle.spec_links.specs.Guarded.{link_happenings}
+use Rattle.spec_links.specs.Happens.{happenings_in_list}
 use Rattle.spec_links.specs.History.{ahead_of_unit, arrival_of_event, got_since, has_live_in, has_live_out}
 use Rattle.spec_links.specs.History.{packets_in_hold, port_keys, meets_counts, packet_of, posted_since_last}
 use Rattle.spec_links.specs.History.{sealed_packets, sub_stream_packets, total_in, units_got, units_since}
@@ -34,7 +35,8 @@ unfoldable pub due_on_literals : ⊤
 unfolding whole_reading walk_length walked_from verifies read_head_of read_of cut_of key_due base failed_there manager
     moments is_open keys devices interface_verdict_due device_floor peer_end sites managed_view stream_draw
     byte_last_written
-    completion_bytes choice_of outgoing_of before_tag due is_verified link_happenings ahead_of_unit arrival_of_event
+    completion_bytes choice_of outgoing_of before_tag due is_verified link_happenings happenings_in_list ahead_of_unit
+    arrival_of_event
     got_since
     has_live_in has_live_out packets_in_hold port_keys meets_counts packet_of posted_since_last sealed_packets
     sub_stream_packets total_in units_got

@@ -16,6 +16,7 @@ use Rattle.spec_links.specs.History.{packet_of}
 use Rattle.case_runs.specs.InterfaceCases.{interface_plan, small_key, write_tlp}
 use Rattle.case_runs.specs.MmioCases.{bar_write}
 use Rattle.case_runs.specs.ReadCases.{read_request}
+use Rattle.case_runs.specs.DeviceReadCases.{bar_read}
 use Rattle.case_runs.proofs.Cipher.{masked_is, tag_is}
 use Rattle.case_runs.proofs.MemoryKeys.{words_0_are, hash_0_is}
 use Rattle.case_runs.proofs.Literals.{due_on_literals}
@@ -34,6 +35,9 @@ write_of_unit t head body tag = record { prefix = prefix t Pr 0; head = head; bo
 
 abbrev read_of_unit : ℕ → List ℕ → Packet
 read_of_unit posted tag = record { prefix = prefix true Npr posted; head = read_request; body = []; tag = tag }
+
+abbrev bar_read_of_unit : Bool → ℕ → List ℕ → Packet
+bar_read_of_unit t posted tag = record { prefix = prefix t Npr posted; head = bar_read; body = []; tag = tag }
 
 abbrev pub packet_description : ℕ → PortName → SubKind → ℕ → Bool → ℕ → SealedPacket
 packet_description number port sub unit t posted = record {
@@ -172,3 +176,37 @@ pub first_read_is : packet_of interface_plan [] read_request (packet_description
     ≡ first_read
 unfolding due_on_literals masked_bytes
 first_read_is = ap (read_of_unit 0) first_read_tag_is
+
+-- ---- the host's read of a BAR after its write
+
+abbrev pub asked_tag : List ℕ
+asked_tag = 0x75 ∷ 0xfb ∷ 0xcb ∷ 0x1a ∷ 0x60 ∷ 0x14 ∷ 0x74 ∷ 0xe5 ∷ 0x0e ∷ 0x12 ∷ 0xec ∷ 0x60 ∷ []
+
+pub asked_tag_is : tag_of (small_key 0) (iv_of Npr 1) (clear true Npr 1 bar_read) [] ≡ asked_tag
+unfolding ghash blocks bits add_round_key shift_rows mix_columns mixed_byte
+asked_tag_is = tag_is _ _ _ _ words_0_are hash_0_is
+
+abbrev pub asked_read : Packet
+asked_read = bar_read_of_unit true 1 asked_tag
+
+pub asked_read_is : packet_of interface_plan [] bar_read (packet_description 2 (host_port 0) Npr 1 true 1) []
+    ≡ asked_read
+unfolding due_on_literals masked_bytes
+asked_read_is = ap (bar_read_of_unit true 1) asked_tag_is
+
+-- ---- the host's read of a BAR alone, without T
+
+abbrev pub untrusted_tag : List ℕ
+untrusted_tag = 0xc0 ∷ 0x84 ∷ 0x60 ∷ 0x00 ∷ 0x13 ∷ 0x43 ∷ 0x4e ∷ 0x6d ∷ 0xdf ∷ 0x24 ∷ 0x3e ∷ 0xac ∷ []
+
+pub untrusted_tag_is : tag_of (small_key 0) (iv_of Npr 1) (clear false Npr 0 bar_read) [] ≡ untrusted_tag
+unfolding ghash blocks bits add_round_key shift_rows mix_columns mixed_byte
+untrusted_tag_is = tag_is _ _ _ _ words_0_are hash_0_is
+
+abbrev pub untrusted_read : Packet
+untrusted_read = bar_read_of_unit false 0 untrusted_tag
+
+pub untrusted_read_is : packet_of interface_plan [] bar_read (packet_description 1 (host_port 0) Npr 1 false 0) []
+    ≡ untrusted_read
+unfolding due_on_literals masked_bytes
+untrusted_read_is = ap (bar_read_of_unit false 0) untrusted_tag_is

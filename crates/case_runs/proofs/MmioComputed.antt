@@ -29,7 +29,7 @@ abbrev write_unit : ℕ → UnitName
 write_unit n = record { stream = 5; sub = Pr; draw = 0; unit = n }
 
 -- the first write is stored, if these bytes bring it
-abbrev stored_from : List ℕ → History
+abbrev pub stored_from : List ℕ → History
 stored_from bytes = (Arrive (device_port 0) bytes, (taken_write 1 Stored).1) ∷ sent_write 1 true ∷ running_history
 
 -- each is a declaration of its own, since the checker counts its steps by declarations

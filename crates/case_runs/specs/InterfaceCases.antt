@@ -32,11 +32,11 @@ use Rattle.spec_links.specs.Due.{due}
 abbrev pub small_key : ℕ → List ℕ
 small_key n = replicate 31 0 ++ n ∷ []
 
--- link 0 has stream 5 with aggregation 1 and interface 0, which is bound to it; the pool has four draws, the device
--- three nonces
+-- link 0 has stream 5 with aggregation 1 and interface 0, which is bound to it and answers reads; the pool has four
+-- draws, the device three nonces
 abbrev pub interface_plan : Plan
 interface_plan = record {
-  version = 1;
+  version = 2;
   portion = 64;
   units_per_key = 4294967296;
   pool = replicate 24 (small_key 0);
@@ -63,6 +63,7 @@ interface_plan = record {
           tph = 0;
           pasid = 0;
           ats = 0;
+          reads = true;
           info = replicate 64 0;
           bars = record { base = 0x40000000; pages = 16; attributes = 0 } ∷ [];
         } ∷ [];

@@ -5,4 +5,5 @@ pub mod InterfaceCases
 pub mod MemoryCases
 pub mod ReadCases
 pub mod MmioCases
+pub mod DeviceReadCases
 pub mod HopCases

@@ -89,7 +89,8 @@ waiting_read = record {
     tc = 0;
     attr = 0;
   };
-  draw = 0;
+  came = record { end = host_port 0; stream = 5; draw = 0; trusted = true };
+  target = None;
 }
 
 abbrev pub answered_read : Event × Verdict
@@ -118,7 +119,7 @@ OneMore =
     effects_each interface_plan
     (record {
       grants = λ link requester. Some (record { stream = 5; floor = 0 });
-      waiting = λ link. 63;
+      waiting = λ port. 63;
       statuses = λ link. [];
     })
     63 (host_port 0) read_unit (read_packet ∷ read_packet ∷ [])

@@ -8,7 +8,15 @@ use Rattle.clap.specs.Words.{App, Shape, Text, fault_of, subcommand_of}
 use Rattle.clap.specs.Walk.{Row, Walk, finished, idle, nothing_held, rows_after, walk, walk_from, walked}
 use Rattle.clap.proofs.OnLiterals.{clap_on_literals}
 use Rattle.cli_words.specs.Ide.{cover_app, ide_app, judge_app, run_app}
-use Rattle.cli_words.specs.Words.{CommandRequest, IsName, command_asked, subcommand_asked, asks_both, cover, cover_events}
+use Rattle.cli_words.specs.Words.{
+  CommandRequest,
+  IsName,
+  command_asked,
+  subcommand_asked,
+  asks_both,
+  cover,
+  cover_events,
+}
 use Rattle.cli_words.specs.Words.{judge, judge_all, run, run_packets}
 use Rattle.cli_words.proofs.Forms.{words_reading, taken}
 use Rattle.cli_words.proofs.Generate.{given_row, level_rests, no_more, one_step, one_word, rest_fault, walk_on}
@@ -161,7 +169,8 @@ pub run_packets_form : (p a b : Text) → IsName a → IsName b
     → command_asked (p ∷ codes "run" ∷ a ∷ b ∷ codes "--packets" ∷ []) ≡ Some (run_packets a b)
 run_packets_form p a b h i =
     form_of_two run_level (codes "run") p a b (codes "--packets" ∷ []) (run_packets a b) run_takes h i
-    (run_packets_enters p a b (codes "--packets")) (run_packets_meets p a b (codes "--packets")) (run_packets_passes a b)
+    (run_packets_enters p a b (codes "--packets")) (run_packets_meets p a b (codes "--packets"))
+    (run_packets_passes a b)
     (run_packets_reads a b)
 
 -- ---- `cover`
@@ -225,7 +234,8 @@ pub cover_events_form : (p a b : Text) → IsName a → IsName b
     → command_asked (p ∷ codes "cover" ∷ a ∷ b ∷ codes "--events" ∷ []) ≡ Some (cover_events a b)
 cover_events_form p a b h i =
     form_of_two cover_level (codes "cover") p a b (codes "--events" ∷ []) (cover_events a b) cover_takes h i
-    (cover_events_enters p a b (codes "--events")) (cover_events_meets p a b (codes "--events")) (cover_events_passes a b)
+    (cover_events_enters p a b (codes "--events")) (cover_events_meets p a b (codes "--events"))
+    (cover_events_passes a b)
     (cover_events_reads a b)
 
 -- ---- `judge`

@@ -8,8 +8,8 @@ ghost use Rattle.clap.specs.Words.{app_of, found_of, new_app, rows_of, rule_of, 
 ghost use Rattle.clap.specs.Words.{with_subcommand};
 ghost use Rattle.clap.specs.declared.builder.command.Command.TheViews.{out-Command};
 ghost use Rattle.cli_words.specs.Ide.{check_app, cover_app, flag_rule, generate_app, ide_app, judge_app, name_rule};
-ghost use Rattle.cli_words.specs.Ide.{number_rule, numbers_app, run_app, scripts_app, show_app, top_app, topologies_app};
-ghost use Rattle.cli_words.specs.Ide.{why_app};
+ghost use Rattle.cli_words.specs.Ide.{number_rule, numbers_app, run_app, scripts_app, show_app, top_app};
+ghost use Rattle.cli_words.specs.Ide.{topologies_app, why_app};
 ghost use Rattle.cli_words.specs.Words.{HasFewRounds, IsName, NamesEvent, Refuses, command_asked, asked_by_name};
 ghost use Rattle.cli_words.specs.Words.{subcommand_asked, asks_both, check, check_asked, cover, cover_asked};
 ghost use Rattle.cli_words.specs.Words.{cover_events, generate, generate_script, generate_topology, generation_asked};

@@ -4,7 +4,7 @@ use Rattle.std.specs.Prelude.{if◌then◌else◌}
 use Rattle.std.specs.Str.{bytes_eq}
 use Rattle.ide_types.specs.Names.{Text}
 use Rattle.event_verdicts.specs.Terms.{BlockCause, NotTrusted, NotRunning, WrongStream, Stale, Outside, Crosses, Full}
-use Rattle.event_verdicts.specs.Terms.{AccessVerdict}
+use Rattle.event_verdicts.specs.Terms.{Moved, AccessVerdict}
 use Rattle.event_verdicts.specs.Terms.av
 use Rattle.event_verdicts.specs.Words.{block_word}
 use Rattle.event_verdicts.proofs.WordReadings.{word_at, number, bytes}
@@ -17,7 +17,8 @@ block_named w =
     else if bytes_eq w (codes "stale") then Stale
     else if bytes_eq w (codes "outside") then Outside
     else if bytes_eq w (codes "crosses") then Crosses
-    else Full
+    else if bytes_eq w (codes "full") then Full
+    else Moved
 
 pub block_back : (c : BlockCause) → block_named (block_word c) ≡ c
 block_back NotTrusted = refl
@@ -27,6 +28,7 @@ block_back Stale = refl
 block_back Outside = refl
 block_back Crosses = refl
 block_back Full = refl
+block_back Moved = refl
 
 -- the first word of such a verdict
 abbrev pub begins_access : Text → Bool

@@ -1,7 +1,7 @@
 -- No word of the line of a trusted read or of guarded memory has a space in it.
 use Rattle.std.proofs.Common.{rules}
 use Rattle.event_verdicts.specs.Terms.{BlockCause, NotTrusted, NotRunning, WrongStream, Stale, Outside, Crosses, Full}
-use Rattle.event_verdicts.specs.Terms.{AccessVerdict}
+use Rattle.event_verdicts.specs.Terms.{Moved, AccessVerdict}
 use Rattle.event_verdicts.specs.Terms.av
 use Rattle.event_verdicts.specs.Words.{block_word}
 use Rattle.event_verdicts.specs.AccessLines.{access_words, FitsAccessVerdict}
@@ -16,6 +16,7 @@ block_is_word Stale = search rules
 block_is_word Outside = search rules
 block_is_word Crosses = search rules
 block_is_word Full = search rules
+block_is_word Moved = search rules
 
 pub access_is_words : (x : AccessVerdict) → FitsAccessVerdict x → AreWords (access_words x)
 access_is_words (av.Empty l) h = let a = decimal_word l h in search rules

@@ -30,7 +30,8 @@ use Rattle.ide_types.specs.declared.status.StreamStatus.{StreamStatus}
 use Rattle.ide_types.specs.declared.sub.FailCause.TheVariants as fail
 use Rattle.ide_types.specs.declared.fault_word.FaultWord.TheVariants as fault
 use Rattle.event_verdicts.specs.Terms.{NotTrusted, NotRunning, WrongStream, Stale, Outside, Crosses, Full, Effect, Sync}
-use Rattle.event_verdicts.specs.Terms.{Delivered, Applied, Queued, Stored, Waiting, Blocked, SealedPacket, UnitName}
+use Rattle.event_verdicts.specs.Terms.{Moved, Delivered, Applied, Queued, Stored, Waiting, Blocked, SealedPacket}
+use Rattle.event_verdicts.specs.Terms.{UnitName}
 use Rattle.event_verdicts.specs.Terms.{Verdict, Nothing, Malformed, Plain, RefusedInsecure, RefusedNoKey}
 use Rattle.event_verdicts.specs.Terms.{RefusedUnfinished, RefusedWorn, Sealed, Unknown, Insecure, NotKeyed, Fail, Held}
 use Rattle.event_verdicts.specs.Terms.{
@@ -352,6 +353,7 @@ effect_back (Blocked Stale) = refl
 effect_back (Blocked Outside) = refl
 effect_back (Blocked Crosses) = refl
 effect_back (Blocked Full) = refl
+effect_back (Blocked Moved) = refl
 
 effects_back : (es : List Effect) → effects (effects_words es) ≡ es
 effects_back [] = refl

@@ -1,7 +1,7 @@
 -- The types of this crate with their variants.
 pub use Rattle.event_verdicts.specs.declared.verdict.BlockCause.{BlockCause}
 pub use Rattle.event_verdicts.specs.declared.verdict.BlockCause.TheVariants.{NotTrusted, NotRunning, WrongStream, Stale}
-pub use Rattle.event_verdicts.specs.declared.verdict.BlockCause.TheVariants.{Outside, Crosses, Full}
+pub use Rattle.event_verdicts.specs.declared.verdict.BlockCause.TheVariants.{Outside, Crosses, Full, Moved}
 pub use Rattle.event_verdicts.specs.declared.verdict.Effect.{Effect}
 pub use Rattle.event_verdicts.specs.declared.verdict.Effect.TheVariants.{Sync, Delivered, Applied, Queued, Stored}
 pub use Rattle.event_verdicts.specs.declared.verdict.Effect.TheVariants.{Waiting, Blocked}

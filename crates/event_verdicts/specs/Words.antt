@@ -3,6 +3,7 @@ use Rattle.std.specs.Prelude.{ℕ, Bool, true, false, List, [], ◌∷◌, ◌++
 use Rattle.hex.specs.Hex.{encode_lower}
 use Rattle.ide_types.specs.Names.{Text}
 use Rattle.event_verdicts.specs.Terms.{BlockCause, NotTrusted, NotRunning, WrongStream, Stale, Outside, Crosses, Full}
+use Rattle.event_verdicts.specs.Terms.{Moved}
 use Rattle.event_verdicts.specs.Terms.{Effect, Sync, Delivered, Applied, Queued, Stored, Waiting, Blocked, Operation}
 use Rattle.event_verdicts.specs.Terms.operation
 
@@ -14,6 +15,7 @@ block_word Stale = codes "stale"
 block_word Outside = codes "outside"
 block_word Crosses = codes "crosses"
 block_word Full = codes "full"
+block_word Moved = codes "moved"
 
 abbrev pub effect_word : Effect → Text
 effect_word Sync = codes "sync"

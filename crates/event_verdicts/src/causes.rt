@@ -1,4 +1,4 @@
-//! Why packets are blocked by the streams that an interface is bound to.
+//! Why packets are blocked by the streams that an interface is bound to (this profile).
 
 ghost use Rattle.std.specs.Prelude.{◌≡◌};
 ghost use Rattle.event_verdicts.specs.Causes.{binding_cause, is_stream, stale_cause};
@@ -16,7 +16,7 @@ fn is_stream(stream: u8, taken: Option<u8>) -> bool
     }
 }
 
-/// Why a draw is not admitted from a floor on: it is less (this profile).
+/// Why a draw is not admitted from a floor on: it is less.
 pub fn stale_cause(floor: u32, draw: u32) -> Option<BlockCause>
     ensures { result ≡ stale_cause floor draw }
 {
@@ -28,7 +28,7 @@ pub fn stale_cause(floor: u32, draw: u32) -> Option<BlockCause>
 }
 
 /// Why the binding of an interface does not admit what takes this stream, or none, under this draw: it is bound to
-/// another; the draw is less than its floor (this profile).
+/// another; the draw is less than its floor.
 pub fn binding_cause(binding: Binding, taken: Option<u8>, draw: u32) -> Option<BlockCause>
     ensures { result ≡ binding_cause binding taken draw }
 {

@@ -1,4 +1,4 @@
-//! The line of each verdict.
+//! The line of each verdict (this profile).
 
 ghost use Rattle.std.specs.Prelude.{◌≡◌, ◌++◌, ◌∷◌, ◌⊎◌, List, IfOk, OnOk, codes, string_bytes};
 ghost use Rattle.std.specs.Fmt.{decimal};
@@ -328,7 +328,7 @@ fn arrival_text(alloc: Global, number: u64, verdict: &Verdict) -> Result<String,
     }
 }
 
-/// The line of a verdict, as it is shown, after its event's number, from 1, with its line feed (this profile).
+/// The line of a verdict, as it is shown, after its event's number, from 1, with its line feed.
 pub fn line(alloc: Global, number: u64, verdict: &Verdict) -> Result<Vec<u8>, OutOfMemory>
     ensures { IfOk result (λ text. text.items ≡ line_of number verdict.now) }
 {
@@ -336,7 +336,7 @@ pub fn line(alloc: Global, number: u64, verdict: &Verdict) -> Result<Vec<u8>, Ou
     Ok(text.into_bytes())
 }
 
-/// The last line of a run that was read to its end, with its line feed (this profile).
+/// The last line of a run that was read to its end, with its line feed.
 pub fn totals_line(alloc: Global, totals: &Totals) -> Result<Vec<u8>, OutOfMemory>
     ensures { IfOk result (λ text. text.items ≡ totals_line_of totals.now) }
 {

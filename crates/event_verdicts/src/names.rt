@@ -18,6 +18,7 @@ impl fmt::Display for BlockCause {
             BlockCause::Outside => "outside",
             BlockCause::Crosses => "crosses",
             BlockCause::Full => "full",
+            BlockCause::Moved => "moved",
         })
     }
 }

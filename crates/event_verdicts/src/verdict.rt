@@ -1,4 +1,4 @@
-//! The verdict of each event of a script.
+//! The verdict of each event of a script (this profile).
 
 use crate::{AccessVerdict, Effects, SealedPackets};
 use ide_types::{
@@ -27,7 +27,7 @@ pub struct SealedPacket {
 }
 
 /// A unit: its stream and sub-stream, the draw of its key, and its counter under that draw, from 1 (PCI Express Base
-/// 6.0 section 6.33, in this profile).
+/// 6.0 section 6.33).
 #[derive(Clone, Copy, PartialEq, Eq)]
 pub struct UnitName {
     pub stream: u8,
@@ -40,7 +40,9 @@ pub struct UnitName {
 /// not trusted; its requester is no running interface; it came on another stream than that interface's own; its key is
 /// from before the interface started; its bytes are not in one region of the trusted memory; they cross a 4 KiB
 /// boundary; 64 reads wait. Of a write to a BAR of an interface it is the first of `Crosses`, `NotTrusted`,
-/// `NotRunning`, `WrongStream` and `Stale` that holds, of that interface (this profile).
+/// `NotRunning`, `WrongStream` and `Stale` that holds, of that interface; of a read of such a BAR at a device that
+/// answers them these, and then `Full`. `Moved`, of a read that is dropped alone: that interface and BAR claim its
+/// bytes no more.
 #[derive(Clone, Copy, PartialEq, Eq)]
 pub enum BlockCause {
     NotTrusted,
@@ -50,11 +52,12 @@ pub enum BlockCause {
     Outside,
     Crosses,
     Full,
+    Moved,
 }
 
 /// The effect of a packet of an accepted unit: `Sync` of a sync packet, `Applied` or `Blocked` of a memory write at a
 /// host's port, `Queued` or `Blocked` of a trusted read there, `Stored` or `Blocked` of a memory write to a BAR at a
-/// device's port, `Waiting` of any TLP at a switch, `Delivered` of any other TLP (this profile).
+/// device's port, `Waiting` of any TLP at a switch, `Delivered` of any other TLP.
 #[derive(Clone, Copy, Default, PartialEq, Eq)]
 pub enum Effect {
     #[default]
@@ -67,7 +70,7 @@ pub enum Effect {
     Blocked(BlockCause),
 }
 
-/// The manager's operations on a stream (this profile).
+/// The manager's operations on a stream.
 #[derive(Clone, Copy, PartialEq, Eq)]
 pub enum Operation {
     Establish,
@@ -75,7 +78,7 @@ pub enum Operation {
     Stop,
 }
 
-/// The verdict of an event (this profile). `place` is the first byte, from 0, at which no spelling goes on. A link is
+/// The verdict of an event. `place` is the first byte, from 0, at which no spelling goes on. A link is
 /// named by the number of its line, and so is a stream between two devices or of a hop; `port` is the end of a line,
 /// and of `Malformed`, `Plain`, `Unknown` and `Through` a port's name.
 #[derive(Drop)]
@@ -225,8 +228,7 @@ pub enum Verdict {
     },
 }
 
-/// The counts of a run: packets sealed, packets of accepted units, checks that failed, and blocked effects (this
-/// profile).
+/// The counts of a run: packets sealed, packets of accepted units, checks that failed, and blocked effects.
 #[derive(Clone, Copy, PartialEq, Eq)]
 pub struct Totals {
     pub sealed: u64,

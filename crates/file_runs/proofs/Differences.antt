@@ -1,6 +1,6 @@
 -- All lines in which two texts differ: which they are, and that two texts without such a line are one.
-use Rattle.std.proofs.Common.{◌≡◌, ◌≢◌, ◌+◌, ◌≤◌, ◌==◌, ◌++◌, ◌∙◌, ◌↔◌, ℕ, suc, zero, List, [], ◌∷◌, Bool, true, false}
-use Rattle.std.proofs.Common.{Option, Some, None, length, length-append, drop, refl, sym, ap, ap₂, inl, inr, arith}
+use Rattle.std.proofs.Common.{◌≡◌, ◌≢◌, ◌+◌, ◌==◌, ◌++◌, ◌∙◌, ℕ, suc, zero, List, [], ◌∷◌, Bool, true, false}
+use Rattle.std.proofs.Common.{Option, Some, None, length, refl, sym, ap, ap₂, inl, inr, arith}
 use Rattle.std.proofs.Common.{append_assoc, subst}
 use Rattle.std.specs.Prelude.{if◌then◌else◌, ◌&&◌, slice_get}
 use Rattle.std.specs.Bool.{beq}
@@ -12,14 +12,20 @@ use Rattle.std.proofs.lemmas.List.{append-nil}
 use Rattle.std.proofs.lemmas.Slice.Eq.{bytes_eq-Decides}
 use Rattle.std.proofs.lemmas.List.Splits.{join_with_byte-slice_split}
 use Rattle.file_runs.specs.Pieces.{pieces}
-use Rattle.file_runs.specs.declared.ends.End.{End}
-use Rattle.file_runs.specs.declared.ends.End.TheVariants as end
 use Rattle.file_runs.specs.Gain.{Text}
-use Rattle.file_runs.specs.Differing.{AreRising, DiffersAs, IsAmong, Line, Place, TellsAll, all_text, are_same, bytes_due}
-use Rattle.file_runs.specs.Differing.{differing, places_apart, is_same_line, line, lines_between, lines_of, places_at}
-use Rattle.file_runs.specs.Differing.{count_text, place_text, places_text}
+use Rattle.file_runs.specs.Differing.{
+  AreRising,
+  DiffersAs,
+  IsAmong,
+  Line,
+  Place,
+  TellsAll,
+  all_text,
+  are_same,
+  bytes_due,
+}
+use Rattle.file_runs.specs.Differing.{differing, places_apart, is_same_line, line, lines_between, lines_of}
 use Rattle.file_runs.proofs.Cuts.{some}
-use Rattle.file_runs.specs.Judging.{Differs, Finding, Same, finding_due, first_finding}
 
 -- ---- lines tell their text
 
@@ -246,69 +252,6 @@ all_are_told due claimed apart = record {
   told_is = refl;
 }
 
--- ---- line by line
-
-pub places_more : (a b : List Place) → places_text (a ++ b) ≡ places_text a ++ places_text b
-places_more [] b = refl
-places_more (p ∷ a) b = ap (λ (t : Text). place_text p ++ t) (places_more a b)
-    ∙ sym (append_assoc (place_text p) (places_text a) (places_text b))
-
-pub line_on : (n : ℕ) (due claimed : List Line) → places_apart n due claimed
-    ≡ places_at n (slice_get due 0) (slice_get claimed 0) ++ places_apart (n + 1) (drop 1 due) (drop 1 claimed)
-line_on n [] [] = refl
-line_on n [] (c ∷ claimed) = refl
-line_on n (d ∷ due) [] = refl
-line_on n (d ∷ due) (c ∷ claimed) = refl
-
--- the first lines are told, and the others are left
-pub told_on : (text more whole : Text) (n : ℕ) (due claimed due_left claimed_left : List Line) (d c : Option Line)
-    → d ≡ slice_get due 0 → c ≡ slice_get claimed 0 → due_left ≡ drop 1 due → claimed_left ≡ drop 1 claimed
-    → text ++ places_text (places_apart n due claimed) ≡ whole → more ≡ text ++ places_text (places_at n d c)
-    → more ++ places_text (places_apart (n + 1) due_left claimed_left) ≡ whole
-told_on text more whole n due claimed due_left claimed_left d c first second rest other told tells =
-    let here = places_at n d c in
-    let left = places_apart (n + 1) due_left claimed_left in
-    let all : places_apart n due claimed ≡ here ++ left =
-    line_on n due claimed
-    ∙ ap₂ (λ (x y : Option Line). places_at n x y ++ places_apart (n + 1) (drop 1 due) (drop 1 claimed)) (sym first)
-    (sym second)
-    ∙ ap₂ (λ (x y : List Line). here ++ places_apart (n + 1) x y) (sym rest) (sym other) in
-    ap (λ (t : Text). t ++ places_text left) tells ∙ append_assoc text (places_text here) (places_text left)
-    ∙ ap (λ (t : Text). text ++ t) (sym (places_more here left))
-    ∙ ap (λ (places : List Place). text ++ places_text places) (sym all) ∙ told
-
-pub counted_on : (count more total n : ℕ) (due claimed due_left claimed_left : List Line) (d c : Option Line)
-    → d ≡ slice_get due 0 → c ≡ slice_get claimed 0 → due_left ≡ drop 1 due → claimed_left ≡ drop 1 claimed
-    → count + length (places_apart n due claimed) ≡ total → more ≡ length (places_at n d c)
-    → (count + more) + length (places_apart (n + 1) due_left claimed_left) ≡ total
-counted_on count more total n due claimed due_left claimed_left d c first second rest other counted counts =
-    let here = places_at n d c in
-    let left = places_apart (n + 1) due_left claimed_left in
-    let all : places_apart n due claimed ≡ here ++ left =
-    line_on n due claimed
-    ∙ ap₂ (λ (x y : Option Line). places_at n x y ++ places_apart (n + 1) (drop 1 due) (drop 1 claimed)) (sym first)
-    (sym second)
-    ∙ ap₂ (λ (x y : List Line). here ++ places_apart (n + 1) x y) (sym rest) (sym other) in
-    omega (arith, counted, counts, ap length all, length-append here left)
-
-no_lines : (text : Text) → length text ≡ 0 → lines_of text ≡ []
-no_lines [] none = refl
-no_lines (x ∷ xs) none = absurd (omega (arith, none))
-
--- no line is left, and how many were told is told
-pub all_told : (text last : Text) (n count : ℕ) (due claimed : Text) (all : List Place) → length due ≡ 0
-    → length claimed ≡ 0
-    → text ++ places_text (places_apart n (lines_of due) (lines_of claimed)) ≡ places_text all
-    → count + length (places_apart n (lines_of due) (lines_of claimed)) ≡ length all
-    → last ≡ text ++ count_text count → last ≡ all_text all
-all_told text last n count due claimed all none no_other told counted tells =
-    let left : places_apart n (lines_of due) (lines_of claimed) ≡ [] =
-    ap₂ (places_apart n) (no_lines due none) (no_lines claimed no_other) in
-    let whole : text ≡ places_text all =
-    sym (append-nil text) ∙ ap (λ (places : List Place). text ++ places_text places) (sym left) ∙ told in
-    let number : count ≡ length all = omega (arith, counted, ap length left) in
-    tells ∙ ap₂ (λ (t : Text) (m : ℕ). t ++ count_text m) whole number
-
 -- ---- the first line of a text
 
 pub ends_first : (text line rest : Text) → pieces text ≡ line ∷ pieces rest
@@ -316,24 +259,3 @@ pub ends_first : (text line rest : Text) → pieces text ≡ line ∷ pieces res
 ends_first text line rest is =
     let next = some rest in
     rw (is, next.is) refl
-
-pub is_open : (text : Text) → pieces text ≡ text ∷ [] → (length text == 0) ≡ false
-    → lines_of text ≡ record { bytes = text; ended = false } ∷ []
-is_open text is long = rw (is, long) refl
-
-pub is_none : (text : Text) → pieces text ≡ text ∷ [] → (length text == 0) ≡ true → lines_of text ≡ []
-is_none text is none = rw (is, none) refl
-
--- what is told of a comparison that went on
-pub all_of : (due claimed : Text) (e : End) (text : Text) (found : Finding) → e ≡ end.Differs
-    → (e, text) ≡ finding_due false due claimed found
-    → (e, all_text (differing due claimed)) ≡ finding_due true due claimed found
-all_of due claimed e text (Same lines) is told =
-    let here : e ≡ end.Done = ap (λ (d : End × Text). d.0) told in
-    absurd cc
-all_of due claimed e text (Differs number at) is told = ap (λ (x : End). (x, all_text (differing due claimed))) is
-
-pub none_of : (due claimed : Text) (e : End) (text : Text) (found : Finding) → e ≢ end.Differs
-    → (e, text) ≡ finding_due false due claimed found → (e, text) ≡ finding_due true due claimed found
-none_of due claimed e text (Same lines) other told = told
-none_of due claimed e text (Differs number at) other told = absurd (other (ap (λ (d : End × Text). d.0) told))

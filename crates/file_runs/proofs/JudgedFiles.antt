@@ -31,18 +31,21 @@ front_in all due None read is = absurd is
 front_in all due (Some whole) read is = ap (λ (d : Due). Some d)
     (sym (ap (judgement_due all due) is ∙ same_judged all due whole (nat_lt verdicts_limit (length whole)) refl))
 
-pub judged_front : (all : Bool) (due : Text) (told : Option Contents) (name read : Text) → FrontIfTold told name 1073741825 read
+pub judged_front : (all : Bool) (due : Text) (told : Option Contents) (name read : Text)
+    → FrontIfTold told name 1073741825 read
     → IsDue told (λ contents. option_map (judgement_due all due) (contents name)) (judgement_due all due read)
 judged_front all due None name read is = tt
 judged_front all due (Some contents) name read is = front_in all due (contents name) read is
 
 -- ---- how it ends
 
-judged_ends : (all : Bool) (due name front : Text) (before now : ℕ) → length front ≤ 1073741825 → Gave before (length front) now
+judged_ends : (all : Bool) (due name front : Text) (before now : ℕ) → length front ≤ 1073741825
+    → Gave before (length front) now
     → EndsAs (judged_task all due name) before now (judgement_due all due front).0
 judged_ends all due name front before now most gave = by_size (nat_lt verdicts_limit (length front)) refl
   where
-    by_finding : (f : Finding) → length front ≤ 1073741824 → EndsAs (judged_task all due name) before now (finding_due all due front f).0
+    by_finding : (f : Finding) → length front ≤ 1073741824 → EndsAs (judged_task all due name) before now
+        (finding_due all due front f).0
     by_finding (Same lines) le = ends_done (judged_task all due name) before now (length front, le, gave)
     by_finding (Differs number line) le = record {
       usage_status = λ is. absurd cc;
@@ -66,14 +69,16 @@ pub gave_few : (r : Result End Fault) (n before now : ℕ) → Gave before n now
 gave_few (Ok e) n before now gave few = λ other. (n, few other, gave)
 gave_few (Err f) n before now gave few = few
 
-pub judged_cut : (all : Bool) (due name : Text) (s0 s1 : ShelfSeen) (o : SinkSeen) (e : Fault) → IsRead 1073741825 name s0 s1
+pub judged_cut : (all : Bool) (due name : Text) (s0 s1 : ShelfSeen) (o : SinkSeen) (e : Fault)
+    → IsRead 1073741825 name s0 s1
     → UnreadCause s0.faults s1.faults s0.contents name e → FileRun (judged_task all due name) s0 s1 o o (Err e)
 judged_cut all due name s0 s1 o e read cause =
     front_cut (judged_task all due name) 1073741825 name (front_first _ _ _ _ name) s0 s1 o e read
     (record {
       written = [];
       may_write = tt;
-      ran = stopped s0.contents (λ contents. option_map (judgement_due all due) (contents name)) name s0.faults s1.faults _
+      ran = stopped s0.contents (λ contents. option_map (judgement_due all due) (contents name)) name s0.faults
+          s1.faults _
           _
           o.held e (λ contents lacks. ap (option_map (judgement_due all due)) lacks) cause;
       alone = tt;
@@ -84,12 +89,14 @@ pub judged_ran : (all : Bool) (due name front : Text) (s0 s1 : ShelfSeen) (o0 o1
     → Gave s0.given (length front) s1.given → IsRead 1073741825 name s0 s1 → Ran (judgement_due all due front) o0 o1 r
     → FileRun (judged_task all due name) s0 s1 o0 o1 r
 judged_ran all due name front s0 s1 o0 o1 r is quiet most gave read ran =
-    front_ran (judged_task all due name) 1073741825 name (front_first _ _ _ _ name) s0 s1 o0 o1 (judgement_due all due front) r
+    front_ran (judged_task all due name) 1073741825 name (front_first _ _ _ _ name) s0 s1 o0 o1
+    (judgement_due all due front) r
     read
     (record {
       written = [];
       may_write = tt;
-      ran = ran_after s0.contents (λ contents. option_map (judgement_due all due) (contents name)) (judgement_due all due front)
+      ran = ran_after s0.contents (λ contents. option_map (judgement_due all due) (contents name))
+          (judgement_due all due front)
           s0.faults s1.faults o0.faults o1.faults (HasGained o0.held o1.held) r
           (judged_front all due s0.contents name front is) quiet ran;
       alone = tt;

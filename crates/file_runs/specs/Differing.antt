@@ -1,5 +1,23 @@
 -- All lines in which a text that is claimed differs from the one that is due.
-use Rattle.std.specs.Prelude.{ℕ, ◌≡◌, ◌≢◌, ◌+◌, ◌≤◌, ◌↔◌, ◌⊎◌, ◌==◌, ◌&&◌, Bool, true, false, List, [], ◌∷◌, ◌++◌, length}
+use Rattle.std.specs.Prelude.{
+  ℕ,
+  ◌≡◌,
+  ◌≢◌,
+  ◌+◌,
+  ◌≤◌,
+  ◌↔◌,
+  ◌⊎◌,
+  ◌==◌,
+  ◌&&◌,
+  Bool,
+  true,
+  false,
+  List,
+  [],
+  ◌∷◌,
+  ◌++◌,
+  length,
+}
 use Rattle.std.specs.Prelude.{Option, Some, None, codes, if◌then◌else◌, option_map, slice_get, unwrap_or}
 use Rattle.std.specs.Bool.{beq}
 use Rattle.std.specs.Fmt.{decimal}

@@ -1,5 +1,5 @@
 //! A file of lines, from its name to what is written for it: it is read in pieces, each piece is cut at its line feeds,
-//! and the text of the lines is gathered before it is written.
+//! and the text of the lines is gathered before it is written (this profile).
 ghost use Rattle.std.specs.Prelude.{◌≡◌, ◌≢◌, ◌≤◌, ◌<◌, ◌+◌, ◌++◌, ◌^◌, ℕ, [], List, Ok, IsErr, IfOk, IfErr, IfSome};
 ghost use Rattle.std.specs.Prelude.{OnOk, None, length, nat_lt, option_map, take, vec_capacity, vec_len};
 ghost use Rattle.cli_files.specs.Outside.{AsksFor, IsGiven, ShelfCause, given_by};
@@ -123,7 +123,7 @@ fn run_lines<S: Shelf, O: Sink, W: LineWork>(
     }
 }
 
-/// Reads the file of this name and writes the text of its lines, line by line (this profile). The file is read in
+/// Reads the file of this name and writes the text of its lines, line by line. The file is read in
 /// pieces of at most 4,096 bytes, and no byte after byte 16,777,217 of it is asked for; what is due to the lines that
 /// end in a piece is written before the next one is read. A line is refused at its 20,001st byte. Returns a `Fault` if
 /// a read or a write failed or there was no memory.
@@ -157,7 +157,7 @@ pub fn run_file<S: Shelf, O: Sink, W: LineWork>(
 
 // ---- the lines that end in a piece
 
-/// The lines of a file that is read in pieces (this profile): the number of the next one, and the bytes of it that came
+/// The lines of a file that is read in pieces: the number of the next one, and the bytes of it that came
 /// in earlier pieces, at most 20,000. Room for them is reserved once.
 #[derive(Drop)]
 pub struct Lines {
@@ -291,7 +291,7 @@ fn end_for_memory<O: Sink>(gathered: &[u8], out: &mut O) -> Fault
     }
 }
 
-/// The text of lines that waits to be written (this profile): between two lines at most 16,384 bytes. While the text of
+/// The text of lines that waits to be written: between two lines at most 16,384 bytes. While the text of
 /// a line is gathered, no more than that text is held besides.
 #[derive(Drop)]
 pub struct Gathered {

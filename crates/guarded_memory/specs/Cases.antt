@@ -39,7 +39,7 @@ abbrev pub case_bound : List Binding
 case_bound = record { stream = 5; floor = 1 } ∷ record { stream = 9; floor = 2 } ∷ []
 
 abbrev pub case_status : InterfaceState → List BarPlan → InterfaceStatus
-case_status state bars = record { state = state; memory_space = true; bars = bars; bound = case_bound }
+case_status state bars = record { state = state; memory_space = true; bars = bars; reads = false; bound = case_bound }
 
 -- ---- effects
 

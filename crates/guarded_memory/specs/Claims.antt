@@ -7,11 +7,14 @@ use Rattle.trusted_memory.specs.Spans.{span_byte_count}
 use Rattle.guarded_memory.specs.declared.status.InterfaceStatus.{InterfaceStatus}
 use Rattle.guarded_memory.specs.declared.claims.Claim.{Claim}
 
--- the bytes of all its double words are in the range: from the base up to, not including, the base and 4096 bytes for
--- each page, as whole numbers
+-- n bytes from an address on are in the range: from the base up to, not including, the base and 4096 bytes for each
+-- page, as whole numbers
+abbrev pub holds_bytes : BarPlan → ℕ → ℕ → Bool
+holds_bytes range at n = nat_le range.base at && nat_le (at + n) (range.base + 4096 * range.pages)
+
+-- so are the bytes of all its double words
 abbrev pub holds_span : BarPlan → Span → Bool
-holds_span range s = nat_le range.base s.address
-    && nat_le (s.address + span_byte_count s) (range.base + 4096 * range.pages)
+holds_span range s = holds_bytes range s.address (span_byte_count s)
 
 -- the first that passes a test, with its number, counted from n on
 abbrev pub first_passing : {X : Type 0} → (X → Bool) → ℕ → List X → Option (ℕ × X)

@@ -49,5 +49,6 @@ interface_status t floor = record {
   state = state_of_interface t.state;
   memory_space = has_bit 1 t.registers.command;
   bars = bars_of t.plan t.registers;
+  reads = t.plan.reads;
   bound = all_bindings floor t;
 }

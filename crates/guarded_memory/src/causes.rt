@@ -41,7 +41,13 @@ fn trusted_cause(status: &InterfaceStatus, stream: u8, draw: u32) -> Option<Bloc
     }
 }
 
-fn access_cause(claim: &Claim, trusted: bool, stream: u8, draw: u32) -> Option<BlockCause>
+/// The first cause that blocks a claimed request for its T, its stream and its draw; `None` if none does.
+pub(crate) fn access_cause(
+    claim: &Claim,
+    trusted: bool,
+    stream: u8,
+    draw: u32,
+) -> Option<BlockCause>
     ensures { result ≡ access_cause claim.now.status claim.now.range trusted stream draw }
 {
     if trusted {

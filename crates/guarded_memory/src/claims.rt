@@ -1,4 +1,4 @@
-//! Which BAR claims a write.
+//! Which BAR claims a write (this profile).
 
 ghost use Rattle.std.specs.Prelude.{◌≡◌, true, IfSome};
 ghost use Rattle.guarded_memory.specs.Claims.{holds_span, holding_bar, claimed_bar, claim_of};
@@ -8,7 +8,7 @@ use ide_types::BarPlan;
 use trusted_memory::Span;
 
 /// The BAR that claims a write, and the interface that has it, by their numbers and as they stand (PCI Express Base 6.0
-/// section 7.5.1.2.1, in this profile).
+/// section 7.5.1.2.1).
 #[derive(Drop)]
 pub struct Claim {
     /// The interface's number among those of the device.
@@ -56,7 +56,7 @@ fn claimed_bar(status: &InterfaceStatus, span: Span) -> Option<(usize, BarPlan)>
 }
 
 /// The claim on a memory write over these bytes: that of the least interface with memory space on that has a BAR whose
-/// range holds all of them, by the least such BAR; `None` if there is none (this profile).
+/// range holds all of them, by the least such BAR; `None` if there is none.
 pub fn claim_of<S: Statuses>(statuses: &S, span: Span) -> Option<Claim>
     ensures claim { result ≡ claim_of (S.stand statuses.now) span }
     ensures holds { IfSome result (λ c. holds_span c.range span ≡ true) }

@@ -14,13 +14,13 @@ use crate::claims::claim_of;
 use crate::names::{PageName, name_at, outlives_stop, put};
 use crate::sizes::{fits_range, sizes_of};
 use crate::{Claim, Statuses};
-use event_verdicts::{Effect, UnitName};
+use event_verdicts::Effect;
 use ide_types::{BarPlan, InterfacePlan, OutOfMemory};
 use std::alloc::Global;
 use std::collections::HashMap;
 use std::marker::Model;
 use tlp_layout::TlpView;
-use trusted_memory::{MemWriteView, PAGE_BYTES, Page, fill};
+use trusted_memory::{MemWriteView, PAGE_BYTES, Page, ReadArrival, fill};
 
 /// The memory behind the base address registers of a device's interfaces (PCI Express Base 6.0 chapter 11, in this
 /// profile). Contracts see the byte at each offset of each BAR of each interface; and beside that how large the BARs
@@ -182,25 +182,19 @@ impl Guarded {
     }
 
     // Stores a claimed write, unless something blocks it.
-    fn admit(
-        &mut self,
-        claim: &Claim,
-        write: &MemWriteView<'_>,
-        trusted: bool,
-        unit: UnitName,
-    ) -> Effect
+    fn admit(&mut self, claim: &Claim, write: &MemWriteView<'_>, came: ReadArrival) -> Effect
         requires spare { 2 ≤ self.old.spare }
         requires holds { holds_span claim.now.range write.now.span ≡ true }
         ensures effect { result ≡ cause_effect
-            (mmio_cause claim.now.status claim.now.range write.now.span trusted unit.stream unit.draw) }
+            (mmio_cause claim.now.status claim.now.range write.now.span came.trusted came.stream came.draw) }
         ensures bytes { (i b at : ℕ) → mmio_byte self.new i b at ≡ contents_if_happened (stored_unless
-            (mmio_cause claim.now.status claim.now.range write.now.span trusted unit.stream unit.draw)
+            (mmio_cause claim.now.status claim.now.range write.now.span came.trusted came.stream came.draw)
             claim.now (write_of write.now)) (mmio_byte self.old) i b at }
         ensures as_before { is_stored result ≡ false → self.new ≡ self.old }
         ensures sizes { self.new.sizes ≡ self.old.sizes }
         ensures spare { self.old.spare ≤ self.new.spare + 2 }
     {
-        match mmio_cause(claim, write.span, trusted, unit.stream, unit.draw) {
+        match mmio_cause(claim, write.span, came.trusted, came.stream, came.draw) {
             Some(cause) => Effect::Blocked(cause),
             None => {
                 self.store(claim, write);
@@ -214,14 +208,13 @@ impl Guarded {
         &mut self,
         statuses: &S,
         write: &MemWriteView<'_>,
-        trusted: bool,
-        unit: UnitName,
+        came: ReadArrival,
     ) -> Effect
         requires { 2 ≤ self.old.spare }
-        ensures effect { result ≡ mmio_effect (S.stand statuses.now) trusted unit.stream unit.draw
+        ensures effect { result ≡ mmio_effect (S.stand statuses.now) came.trusted came.stream came.draw
             (Some write.now.span) }
         ensures bytes { (i b at : ℕ) → mmio_byte self.new i b at ≡ contents_if_happened
-            (write_happened (S.stand statuses.now) trusted unit.stream unit.draw (Some (write_of write.now)))
+            (write_happened (S.stand statuses.now) came.trusted came.stream came.draw (Some (write_of write.now)))
             (mmio_byte self.old) i b at }
         ensures as_before { is_stored result ≡ false → self.new ≡ self.old }
         ensures sizes { self.new.sizes ≡ self.old.sizes }
@@ -229,41 +222,40 @@ impl Guarded {
     {
         match claim_of(statuses, write.span) {
             None => Effect::Delivered,
-            Some(claim) => self.admit(&claim, write, trusted, unit),
+            Some(claim) => self.admit(&claim, write, came),
         }
     }
 
     /// Gives a TLP of a unit that was accepted at the device's port its effect, by how its interfaces stand: a memory
     /// write that one of them claims is stored, or blocked for the first cause that holds (`BlockCause`); any other TLP
-    /// is delivered and changes nothing here. `trusted` is T of its packet. The payload's enabled bytes are written to
+    /// is delivered and changes nothing here. `came` says how its packet came. The payload's enabled bytes are written to
     /// ascending offsets in the range. It takes no memory, and at most two spare pages.
     pub fn deliver<S: Statuses>(
         &mut self,
         statuses: &S,
         tlp: &TlpView<'_>,
-        trusted: bool,
-        unit: UnitName,
+        came: ReadArrival,
     ) -> Effect
         requires { 2 ≤ self.old.spare }
-        ensures effect { result ≡ mmio_effect (S.stand statuses.now) trusted unit.stream unit.draw
+        ensures effect { result ≡ mmio_effect (S.stand statuses.now) came.trusted came.stream came.draw
             (write_span tlp.now.head) }
         ensures bytes { (i b at : ℕ) → mmio_byte self.new i b at ≡ contents_if_happened
-            (write_happened (S.stand statuses.now) trusted unit.stream unit.draw (write_of_tlp (viewed_tlp tlp.now)))
+            (write_happened (S.stand statuses.now) came.trusted came.stream came.draw (write_of_tlp (viewed_tlp tlp.now)))
             (mmio_byte self.old) i b at }
         ensures leads { MmioLeads self.old
-            (write_happened (S.stand statuses.now) trusted unit.stream unit.draw (write_of_tlp (viewed_tlp tlp.now))
+            (write_happened (S.stand statuses.now) came.trusted came.stream came.draw (write_of_tlp (viewed_tlp tlp.now))
             ∷ []) self.new }
         // A byte of a range that is not open, of an interface in CONFIG_LOCKED or RUN, changes only by a trusted write
         // in RUN, on a bound stream, under a draw from its floor on.
         ensures guarded { (i b at : ℕ) (x : InterfaceStatus) → slice_get (S.stand statuses.now) i ≡ Some x
-            → is_guarded x b ≡ true → is_admitted x trusted unit.stream unit.draw ≡ false
+            → is_guarded x b ≡ true → is_admitted x came.trusted came.stream came.draw ≡ false
             → mmio_byte self.new i b at ≡ mmio_byte self.old i b at }
         ensures as_before { is_stored result ≡ false → self.new ≡ self.old }
         ensures sizes { self.new.sizes ≡ self.old.sizes }
         ensures spare { self.old.spare ≤ self.new.spare + 2 }
     {
         match MemWriteView::of(tlp) {
-            Some(write) => self.deliver_write(statuses, &write, trusted, unit),
+            Some(write) => self.deliver_write(statuses, &write, came),
             None => Effect::Delivered,
         }
     }
@@ -318,12 +310,42 @@ impl Guarded {
         }
     }
 
-    fn copy(&self, interface: usize, bar: usize, offset: u64, buf: &mut [u8])
+    // Copies the bytes if they lie in one page that is there; else it is false.
+    fn copy_page(&self, interface: usize, bar: usize, offset: u64, buf: &mut [u8]) -> bool
+        ensures bytes { OnTrue result
+            (buf.new ≡ bytes_from (mmio_byte self.now interface bar) offset (length buf.old)) }
+        ensures others { OnFalse result (buf.new ≡ buf.old) }
+    {
+        let start = (offset % PAGE_BYTES as u64) as usize;
+        if buf.len() > PAGE_BYTES - start {
+            return false;
+        }
+        match self.pages.get(&name_at(interface, bar, offset)) {
+            None => false,
+            Some(page) => {
+                page.read(start, buf);
+                true
+            }
+        }
+    }
+
+    // Copies them one by one.
+    fn copy_bytes(&self, interface: usize, bar: usize, offset: u64, buf: &mut [u8])
         requires { offset + length buf.old < 2 ^ 64 }
         ensures { buf.new ≡ bytes_from (mmio_byte self.now interface bar) offset (length buf.old) }
     {
         for (i, byte) in buf.iter_mut().enumerate() {
             *byte = self.byte(interface, bar, offset + i as u64);
+        }
+    }
+
+    /// Copies the bytes from an offset in the range of a BAR on into `buf`, which does not pass 2^64.
+    pub(crate) fn copy(&self, interface: usize, bar: usize, offset: u64, buf: &mut [u8])
+        requires { offset + length buf.old < 2 ^ 64 }
+        ensures { buf.new ≡ bytes_from (mmio_byte self.now interface bar) offset (length buf.old) }
+    {
+        if !self.copy_page(interface, bar, offset, buf) {
+            self.copy_bytes(interface, bar, offset, buf);
         }
     }
 

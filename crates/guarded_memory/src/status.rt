@@ -1,4 +1,4 @@
-//! How an interface stands when a write arrives.
+//! How an interface stands when a request arrives.
 
 ghost use Rattle.std.specs.Prelude.{◌≡◌};
 ghost use Rattle.interface_state.specs.RegisterValues.{has_bit};
@@ -17,7 +17,7 @@ pub enum InterfaceState {
     Error,
 }
 
-/// What is asked of an interface when a write arrives (PCI Express Base 6.0 chapter 11, in this profile).
+/// What is asked of an interface when a request arrives (PCI Express Base 6.0 chapter 11, in this profile).
 #[derive(Drop)]
 pub struct InterfaceStatus {
     /// Its state.
@@ -27,6 +27,8 @@ pub struct InterfaceStatus {
     /// Its base address registers by their number, each with its base as it stands; one that the interface has not has
     /// no pages. Bit 2 of the attributes says that the range is open to writes that are not trusted.
     pub bars: [BarPlan; 6],
+    /// Whether its device answers memory reads of these.
+    pub reads: bool,
     /// The streams that it is bound to: that of its link first, and those between its device and others.
     pub bound: Bindings,
 }
@@ -93,6 +95,7 @@ impl InterfaceStatus {
             state: InterfaceState::of(interface.state_with_lock()),
             memory_space: has_memory_space(interface),
             bars: interface.bars(),
+            reads: interface.answers_reads(),
             bound: interface.bindings(floor),
         }
     }

@@ -48,6 +48,7 @@ the_interface = record {
   tph = 0;
   pasid = 0;
   ats = 0;
+  reads = false;
   info = replicate 64 0;
   bars = (record { base = 1073741824; pages = 16; attributes = 0 }) ∷ [];
 }

@@ -59,6 +59,7 @@ fn the_interface(alloc: Global) -> Result<InterfacePlan, OutOfMemory>
         tph: 0,
         pasid: 0,
         ats: 0,
+        reads: false,
         info,
         bars,
     })

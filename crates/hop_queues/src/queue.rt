@@ -1,4 +1,4 @@
-//! The TLPs that wait in one direction.
+//! The TLPs that wait in one direction (this profile).
 
 ghost use Rattle.std.specs.Prelude.{◌≡◌, ◌+◌, ◌≤◌, ◌++◌, [], ◌∷◌, true, false, drop, length, is_ok, if◌then◌else◌};
 ghost use Rattle.std.specs.Prelude.{IsSome, IfSome, ◌↔◌, ◌<◌, slice_index_or};
@@ -13,7 +13,7 @@ use std::marker::Model;
 pub const MOST_BYTES: usize = 4_112;
 
 /// A TLP on its way through a switch, in its sub-stream: its header and its payload in plain, and whether it is trusted
-/// (PCI Express Base 6.0 sections 2.2 and 6.33, in this profile).
+/// (PCI Express Base 6.0 sections 2.2 and 6.33).
 #[derive(Drop)]
 pub struct HopTlp {
     pub sub: SubKind,
@@ -21,7 +21,7 @@ pub struct HopTlp {
     pub t: bool,
 }
 
-/// The TLPs that wait in one direction (this profile). Contracts see the list of them, the first first, and whether
+/// The TLPs that wait in one direction. Contracts see the list of them, the first first, and whether
 /// there is room for one more.
 #[derive(Drop)]
 pub struct HopQueue {

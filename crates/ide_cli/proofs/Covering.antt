@@ -8,7 +8,7 @@ use Rattle.file_runs.specs.Gain.{Text, HasGained}
 use Rattle.file_runs.specs.Outcome.{Due}
 use Rattle.cli_words.specs.Words.{command_asked}
 use Rattle.ide_runs.specs.Cover.{covered_after, covered_last, events_rules}
-use Rattle.ide_runs.specs.Script.{AtEnd, Script, ScriptEnd, events_on, run_end}
+use Rattle.script_runs.specs.Script.{AtEnd, Script, ScriptEnd, events_on, run_end}
 use Rattle.ide_cli.specs.Headline.{CoveredEvents}
 use Rattle.ide_cli.specs.Meaning.{CallRan, command_task}
 use Rattle.ide_cli.specs.Seen.{CallSeen}

@@ -23,9 +23,9 @@ use Rattle.file_runs.specs.Gain.{Text}
 use Rattle.file_runs.specs.Lines.{cut_text, is_over}
 use Rattle.file_runs.specs.Outcome.{Due, EndsDue, EndsToldOrBlind}
 use Rattle.file_runs.specs.Pieces.{pieces}
-use Rattle.ide_runs.specs.declared.topologies.Loaded.TheVariants.{Sound}
-use Rattle.ide_runs.specs.Script.{AtEnd, Script, run_due, script_of_pieces, script_of, with_line}
-use Rattle.ide_runs.specs.Topologies.{loaded_topology}
+use Rattle.script_runs.specs.declared.topologies.Loaded.TheVariants.{Sound}
+use Rattle.script_runs.specs.Script.{AtEnd, Script, run_due, script_of_pieces, script_of, with_line}
+use Rattle.script_runs.specs.Topologies.{loaded_topology}
 use Rattle.ide_cli.specs.GeneratedRuns.{RunsGenerated, generated_run_due}
 use Rattle.ide_cli.specs.Meaning.{CallRan, command_task}
 use Rattle.ide_cli.specs.Seen.{CallSeen}

@@ -9,12 +9,12 @@ use Rattle.file_runs.specs.declared.ends.End.TheVariants as end
 use Rattle.file_runs.specs.declared.ends.Fault.{Fault}
 use Rattle.file_runs.specs.Gain.{Text, HasGained}
 use Rattle.file_runs.specs.Outcome.{Due, EndsBy}
-use Rattle.ide_runs.specs.{Tells, judgement_due}
-use Rattle.ide_runs.specs.declared.topologies.Loaded.TheVariants.{Sound}
-use Rattle.ide_runs.specs.Judge.{judge_due, judged_script_run, judged_run}
-use Rattle.ide_runs.specs.Script.{AtEnd, Script, due_after, run_end, events_on, run_due, script_of}
-use Rattle.ide_runs.specs.Topologies.{loaded_topology}
-use Rattle.ide_runs.proofs.{judged_tells}
+use Rattle.script_runs.specs.{Tells, judgement_due}
+use Rattle.script_runs.specs.declared.topologies.Loaded.TheVariants.{Sound}
+use Rattle.script_runs.specs.Judge.{judge_due, judged_script_run, judged_run}
+use Rattle.script_runs.specs.Script.{AtEnd, Script, due_after, run_end, events_on, run_due, script_of}
+use Rattle.script_runs.specs.Topologies.{loaded_topology}
+use Rattle.script_runs.proofs.{judged_tells}
 use Rattle.cli_words.specs.Words.{command_asked}
 use Rattle.ide_cli.specs.Headline.{JudgedEvents}
 use Rattle.ide_cli.specs.Meaning.{CallRan, command_task}
@@ -32,7 +32,8 @@ ran_is : (topology bytes : Text) (plan : Plan) (script : Script) → loaded_topo
     → script ≡ script_of bytes → run_due (Some topology) (Some bytes) ≡ Some (due_after plan [] script)
 ran_is topology bytes plan script plan_is read = rw (plan_is, read) refl
 
-judge_is : (all : Bool) (topology bytes claimed : Text) (plan : Plan) (script : Script) → loaded_topology topology ≡ Sound plan
+judge_is : (all : Bool) (topology bytes claimed : Text) (plan : Plan) (script : Script) → loaded_topology topology
+    ≡ Sound plan
     → script ≡ script_of bytes → script.ending ≡ AtEnd
     → judge_due all (Some topology) (Some bytes) (Some claimed)
     ≡ Some (judgement_due all (due_after plan [] script).1 claimed)

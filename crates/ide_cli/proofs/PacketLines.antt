@@ -19,9 +19,9 @@ use Rattle.law_text.specs.Statements.{DueFits}
 use Rattle.law_text.proofs.Fitting.{due_fits}
 use Rattle.law_text.proofs.Reading.{length-events}
 use Rattle.file_runs.specs.Gain.{Text}
-use Rattle.ide_runs.specs.Packets.{packets_text, sealed_lines}
-use Rattle.ide_runs.specs.Texts.{texts_on, texts_told}
-use Rattle.ide_runs.specs.Works.{EventText, verdict_line}
+use Rattle.script_runs.specs.Packets.{packets_text, sealed_lines}
+use Rattle.script_runs.specs.Texts.{texts_on, texts_told}
+use Rattle.script_runs.specs.Works.{EventText, verdict_line}
 
 -- ---- the lines of verdicts alone
 

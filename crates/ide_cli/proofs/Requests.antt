@@ -9,12 +9,12 @@ use Rattle.file_runs.specs.declared.ends.Fault.TheVariants as fault
 use Rattle.file_runs.specs.FileRuns.{FileRun}
 use Rattle.file_runs.proofs.FileRuns.{Starts, no_memory, starts_alone, without_memory}
 use Rattle.ide_runs.specs.Cover.{cover_due, covered_so_far}
-use Rattle.ide_runs.specs.Packets.{packets_due, packets_so_far}
-use Rattle.ide_runs.specs.Script.{script_due}
-use Rattle.ide_runs.specs.SoFar.{script_so_far}
+use Rattle.script_runs.specs.Packets.{packets_due, packets_so_far}
+use Rattle.script_runs.specs.Script.{script_due}
+use Rattle.script_runs.specs.SoFar.{script_so_far}
 use Rattle.ide_runs.specs.Why.{told_due, told_so_far}
-use Rattle.ide_runs.proofs.{failed_migration}
-use Rattle.ide_runs.proofs.Loads.{files_start}
+use Rattle.script_runs.proofs.{failed_migration}
+use Rattle.script_runs.proofs.Loads.{files_start}
 use Rattle.ide_cli.specs.Meaning.{command_task}
 
 -- what the words ask for was done

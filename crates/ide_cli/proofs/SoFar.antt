@@ -16,9 +16,9 @@ use Rattle.file_runs.specs.declared.ends.Fault.{Fault}
 use Rattle.file_runs.specs.declared.ends.Fault.TheVariants as fault
 use Rattle.file_runs.specs.Gain.{Text, HasGained, IsFront}
 use Rattle.file_runs.specs.Outcome.{Due, EndsBy}
-use Rattle.ide_runs.specs.Script.{ScriptEnd, events_on, last_line}
-use Rattle.ide_runs.specs.Texts.{texts_after, texts_on}
-use Rattle.ide_runs.specs.Works.{EventText}
+use Rattle.script_runs.specs.Script.{ScriptEnd, events_on, last_line}
+use Rattle.script_runs.specs.Texts.{texts_after, texts_on}
+use Rattle.script_runs.specs.Works.{EventText}
 use Rattle.ide_cli.specs.Headline.{WrittenSoFar, next_text, run_text}
 use Rattle.ide_cli.specs.Meaning.{CallRan}
 use Rattle.ide_cli.specs.Seen.{CallSeen}

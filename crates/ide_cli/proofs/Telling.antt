@@ -6,9 +6,9 @@ use Rattle.std.proofs.lemmas.List.{take-append-drop}
 use Rattle.ide_types.specs.declared.plan.Plan.{Plan}
 use Rattle.file_runs.specs.Gain.{Text, HasGained}
 use Rattle.file_runs.specs.Outcome.{Due}
-use Rattle.ide_runs.specs.declared.topologies.Loaded.TheVariants.{Sound}
-use Rattle.ide_runs.specs.Script.{Script, events_on, script_of}
-use Rattle.ide_runs.specs.Topologies.{loaded_topology}
+use Rattle.script_runs.specs.declared.topologies.Loaded.TheVariants.{Sound}
+use Rattle.script_runs.specs.Script.{Script, events_on, script_of}
+use Rattle.script_runs.specs.Topologies.{loaded_topology}
 use Rattle.ide_runs.specs.Why.{told_event_due, why_due}
 use Rattle.ide_runs.proofs.Whys.{told_event, told_none}
 use Rattle.cli_words.specs.Words.{command_asked}

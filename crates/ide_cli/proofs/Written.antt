@@ -25,14 +25,14 @@ use Rattle.file_runs.specs.Outcome.{Due, EndsBy, EndsDue, EndsToldOrBlind, Quiet
 use Rattle.file_runs.specs.declared.ends.End.{End}
 use Rattle.file_runs.specs.declared.ends.Fault.{Fault}
 use Rattle.file_runs.proofs.Joins.{front_of_front, gained_front}
-use Rattle.ide_runs.specs.declared.topologies.Loaded.TheVariants.{Sound}
-use Rattle.ide_runs.specs.Script.{Script, last_line, events_on, script_of}
-use Rattle.ide_runs.specs.Texts.{texts_after, texts_on, texts_told}
-use Rattle.ide_runs.specs.Generated.{generated_due, generated_history, generated_line}
-use Rattle.ide_runs.specs.Topologies.{loaded_topology}
-use Rattle.ide_runs.proofs.Events.{events_allowed}
-use Rattle.ide_runs.proofs.Plans.{loaded_fits}
-use Rattle.ide_runs.proofs.Scripts.{lines_after, lines_are_texts}
+use Rattle.script_runs.specs.declared.topologies.Loaded.TheVariants.{Sound}
+use Rattle.script_runs.specs.Script.{Script, last_line, events_on, script_of}
+use Rattle.script_runs.specs.Texts.{texts_after, texts_on, texts_told}
+use Rattle.script_runs.specs.Generated.{generated_due, generated_history, generated_line}
+use Rattle.script_runs.specs.Topologies.{loaded_topology}
+use Rattle.script_runs.proofs.Events.{events_allowed}
+use Rattle.script_runs.proofs.Plans.{loaded_fits}
+use Rattle.script_runs.proofs.Scripts.{lines_after, lines_are_texts}
 use Rattle.ide_cli.specs.Meaning.{CallRan, RanGenerated, command_task}
 use Rattle.ide_cli.specs.Laws.{IsDue}
 use Rattle.ide_cli.specs.Headline.{CountedEvents, WrittenEvents, InEvery, CallHasWritten, run_text}
@@ -94,7 +94,8 @@ few_written h later events same allowed = omega
 -- the lines of a history, with those of its packets or without, tell its verdicts
 told_cause : LinesTell → (packets : Bool) (plan : Plan) → FitsPlan plan → (h : History) (later : List Event)
     (rest last : Text) → AreAllowed (events_told h ++ later) → VerdictsFit plan h
-    → texts_told (run_text packets) plan h ++ rest ≡ texts_on (run_text packets) plan [] (events_told h ++ later) ++ last
+    → texts_told (run_text packets) plan h ++ rest ≡ texts_on (run_text packets) plan [] (events_told h ++ later)
+    ++ last
     → CauseLaw plan h
 told_cause tell false plan fits h later rest last allowed verdicts same =
     tell plan fits h later rest last allowed verdicts

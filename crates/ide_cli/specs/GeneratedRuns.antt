@@ -11,7 +11,7 @@ use Rattle.law_text.specs.Runs.{text_on, totals_of}
 use Rattle.file_runs.specs.declared.ends.End.TheVariants as end
 use Rattle.file_runs.specs.Gain.{Text}
 use Rattle.file_runs.specs.Outcome.{Due, RanOnShelf}
-use Rattle.ide_runs.specs.Generated.{generated_history}
+use Rattle.script_runs.specs.Generated.{generated_history}
 use Rattle.ide_cli.specs.Seen.{CallSeen}
 
 -- the verdict lines of the generated events, and the totals of their history, with which `generate` ends its line

@@ -9,11 +9,11 @@ use Rattle.spec_links.specs.Due.{due}
 use Rattle.law_text.specs.Runs.{history_on}
 use Rattle.law_text.specs.Telling.{VerdictsFit, events_told}
 use Rattle.file_runs.specs.Gain.{Text, IsFront}
-use Rattle.ide_runs.specs.Generated.{generated_history}
-use Rattle.ide_runs.specs.Packets.{packets_text}
-use Rattle.ide_runs.specs.Script.{Script, ScriptEnd, events_on, last_line}
-use Rattle.ide_runs.specs.Texts.{texts_told}
-use Rattle.ide_runs.specs.Works.{EventText, verdict_line}
+use Rattle.script_runs.specs.Generated.{generated_history}
+use Rattle.script_runs.specs.Packets.{packets_text}
+use Rattle.script_runs.specs.Script.{Script, ScriptEnd, events_on, last_line}
+use Rattle.script_runs.specs.Texts.{texts_told}
+use Rattle.script_runs.specs.Works.{EventText, verdict_line}
 use Rattle.ide_cli.specs.Seen.{CallSeen}
 use Rattle.ide_cli.specs.Went.{AsksCover, AsksRun, AsksToJudge, AsksWhy, WentOverCovered, WentOverGenerated}
 use Rattle.ide_cli.specs.Went.{WentOverJudged, WentUpTo}

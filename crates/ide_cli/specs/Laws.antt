@@ -35,6 +35,10 @@ use Rattle.law_memory.specs.ReadLaws.{ReadLaw}
 use Rattle.law_memory.specs.LocalLaws.{LocalOriginLaw, LocalReadOriginLaw}
 use Rattle.law_bytes.specs.LocalLaws.{LocalByteOriginLaw, LocalMmioOriginLaw}
 use Rattle.law_mmio.specs.Mmio.{MmioLaw}
+use Rattle.law_device_reads.specs.DeviceReads.{DeviceReadLaw}
+use Rattle.law_device_reads.specs.Exact.{DeviceEffectLaw, RespondLaw}
+use Rattle.law_device_reads.specs.Exposure.{ExposureLaw}
+use Rattle.law_device_reads.specs.Origins.{DeviceReadOriginLaw, ResponseOriginLaw}
 use Rattle.law_bindings.specs.Asked.{BindingsAreAsked, BindingsLast, StopsBreakViews, VerdictsTellBindings}
 use Rattle.law_bindings.specs.Keys.{BindingsHoldKeys, PeersAreNeverStale}
 use Rattle.law_bindings.specs.OverPeers.{PeerOriginLaw, PeerStoreLaw}
@@ -75,11 +79,11 @@ pub record SealingLaws (plan : Plan) (h : History) : Type 0 where
   pub choice_law : ChoiceLaw plan h
   -- exactly when no TLP goes out in clear at the host's port of a link, and none of a requester ID at its device's
   pub cover_law : (link : ℕ) → CoverLaw plan link
-  -- T of each packet: as the host asks; at a device, but on its hop never, exactly if its owner runs and is bound there
+  -- T of each packet: as the host asks; at a device as its read had it, or if its owner runs and is bound; not on a hop
   pub exact_trust_law : ExactTrustLaw plan h
   -- what is sent, forwarded or answered is sealed exactly if all is in order; else the first that is not is named
   pub send_law : SendLaw plan h
-  -- only sends, forwards and answers seal packets, each of a TLP that was given or waits, a read's completion, or none
+  -- only sends, forwards and answers at either end seal packets: of a TLP given or waiting, a completion, or none
   pub sealed_comes_from : SealedComesFrom plan h
 
 -- keys
@@ -170,7 +174,7 @@ pub record ViewsLaws (plan : Plan) (h : History) : Type 0 where
 pub record TrustedMemoryLaws (plan : Plan) (h : History) : Type 0 where
   -- exactly the admitted writes are applied; a byte that is shown is that of the last of them that names it, or 0
   pub memory_law : MemoryLaw plan h
-  -- exactly which packets are queued, find no room, are stored or wait; the first BAR that can claims a write
+  -- exactly which packets are queued at hosts, find no room, are stored or wait; the first BAR that can claims a write
   pub effect_law : EffectLaw plan h
   -- answers take the reads of a link in the order in which they were queued, with the bytes that stand then
   pub read_law : ReadLaw plan h
@@ -195,6 +199,21 @@ pub record DeviceMemoryLaws (plan : Plan) (h : History) : Type 0 where
   pub one_lock_per_stored_key : OneLockPerStoredKey plan h
   -- if no tag was forged, a stored write with T was sent with T by the host, or by a bound owner in RUN, for this RUN
   pub mmio_origin_law : LocalMmioOriginLaw plan h
+
+-- reads of that memory, which its device answers
+pub record DeviceReadsLaws (plan : Plan) (h : History) : Type 0 where
+  -- responses take a device's reads in the order in which they were queued, each with the bytes that `mmio` shows then
+  pub device_read_law : DeviceReadLaw plan h
+  -- exactly which reads a device queues, and by which cause it blocks the others that it would answer
+  pub device_effect_law : DeviceEffectLaw plan h
+  -- exactly when a read that waits at a device is dropped, and by which cause, and when its answer waits for a refresh
+  pub respond_law : RespondLaw plan h
+  -- a byte that a lock guards leaves its device by a response only with T, in RUN, and to a read of that very lock
+  pub exposure_law : ExposureLaw plan h
+  -- if no tag was forged, a queued read with T was sent with T by the host, or by a bound owner in RUN, for this RUN
+  pub device_read_origin_law : DeviceReadOriginLaw plan h
+  -- if no tag was forged, a completion with T at the host has the bytes that stood in the RUN in which they were asked
+  pub response_origin_law : ResponseOriginLaw plan h
 
 -- streams between devices, and the interfaces that are bound to them
 pub record DeviceStreamsLaws (plan : Plan) (h : History) : Type 0 where
@@ -268,6 +287,7 @@ pub record Laws (plan : Plan) (h : History) : Type 0 where
   pub views : ViewsLaws plan h
   pub trusted_memory : TrustedMemoryLaws plan h
   pub device_memory : DeviceMemoryLaws plan h
+  pub device_reads : DeviceReadsLaws plan h
   pub device_streams : DeviceStreamsLaws plan h
   pub hops : HopsLaws plan h
   pub stillness : StillnessLaws plan h

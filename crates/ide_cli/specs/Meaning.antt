@@ -10,8 +10,9 @@ use Rattle.file_runs.specs.Gain.{Text}
 use Rattle.file_runs.specs.Gathering.{GoesOn, ended_text}
 use Rattle.file_runs.specs.Lines.{file_due}
 use Rattle.file_runs.specs.Outcome.{Due}
-use Rattle.ide_runs.specs.Generated.{generated_due}
-use Rattle.ide_runs.specs.Tasks.{check_task, cover_task, judge_task, migrate_task, packets_task, run_task, why_task}
+use Rattle.script_runs.specs.Generated.{generated_due}
+use Rattle.ide_runs.specs.Tasks.{cover_task, why_task}
+use Rattle.script_runs.specs.Tasks.{check_task, judge_task, migrate_task, packets_task, run_task}
 use Rattle.ide_cli.specs.Packets.{nothing_due, shown_line}
 use Rattle.ide_cli.specs.Seen.{CallSeen}
 

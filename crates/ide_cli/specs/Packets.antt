@@ -9,7 +9,7 @@ use Rattle.file_runs.specs.Showing.{line_shown}
 use Rattle.file_runs.specs.declared.ends.End.TheVariants as end
 use Rattle.file_runs.specs.Gain.{Text}
 use Rattle.file_runs.specs.Outcome.{Due, IsWholeLines}
-use Rattle.ide_runs.specs.LineLaws.{whole_line}
+use Rattle.script_runs.specs.LineLaws.{whole_line}
 
 abbrev pub packet_shown_at : ℕ → Result (Option Text) LineFault → Result (Unit {0} × Text) LineFault
 packet_shown_at n (Err fault) = Err fault

@@ -16,12 +16,12 @@ use Rattle.file_runs.specs.declared.ends.End.{End}
 use Rattle.file_runs.specs.declared.ends.End.TheVariants as end
 use Rattle.file_runs.specs.declared.ends.Fault.{Fault}
 use Rattle.file_runs.specs.Gain.{Text}
-use Rattle.ide_runs.specs.{Tells}
-use Rattle.ide_runs.specs.declared.topologies.Loaded.TheVariants.{Sound}
+use Rattle.script_runs.specs.{Tells}
+use Rattle.script_runs.specs.declared.topologies.Loaded.TheVariants.{Sound}
 use Rattle.ide_runs.specs.Cover.{counts_text, events_rules}
-use Rattle.ide_runs.specs.Generated.{generated_history, generated_line}
-use Rattle.ide_runs.specs.Script.{AtEnd, Script, due_after, run_end, events_on, script_of}
-use Rattle.ide_runs.specs.Topologies.{loaded_topology}
+use Rattle.script_runs.specs.Generated.{generated_history, generated_line}
+use Rattle.script_runs.specs.Script.{AtEnd, Script, due_after, run_end, events_on, script_of}
+use Rattle.script_runs.specs.Topologies.{loaded_topology}
 use Rattle.ide_runs.specs.Why.{event_told, left_line, no_event_line}
 use Rattle.ide_cli.specs.Seen.{CallSeen}
 
@@ -173,7 +173,8 @@ IsExplained call = IfOk call.outcome (λ e. (plan : Plan) (script : Script) (n :
 
 -- The sink gained what is due of the rules: of each event, in order, those that are told of it, if they are asked for;
 -- then of each rule that can answer the count of the events, and effects of their packets, that it answers in the
--- history of all events; and at last at how many arrivals a tag was forged there: at none exactly if no forgery was made.
+-- history of all events; and at last at how many arrivals a tag was forged there: at none exactly if no forgery was
+-- made.
 pub record HasCounted (events : Bool) (plan : Plan) (script : Script) (held : Text) (call : CallSeen) (e : End) :
     Type 0
   where

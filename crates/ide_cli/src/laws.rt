@@ -18,6 +18,10 @@ use law_delivery::{
     count_law, delivery_law, draws_never_fall, order_is_no_forgery, order_law, prefix_law,
     whole_law,
 };
+use law_device_reads::{
+    device_effect_law, device_read_law, device_read_origin_law, exposure_law, respond_law,
+    response_origin_law,
+};
 use law_honest::{fresh_law, honest_delivery, honest_law, pass_law, whole_law_by_order};
 use law_hops::hop_law;
 use law_key_facts::keys_have_causes;
@@ -100,6 +104,12 @@ pub fn laws_hold()
     mmio_law();
     one_lock_per_stored_key();
     mmio_origin_law();
+    device_read_law();
+    device_effect_law();
+    respond_law();
+    exposure_law();
+    device_read_origin_law();
+    response_origin_law();
     bind_law();
     bindings_are_asked();
     bindings_last();

@@ -18,11 +18,10 @@ use crate::texts::{generate_script, generate_topology};
 use cli_files::{Shelf, Sink};
 use cli_words::{Request, WordsError, read_words};
 use file_runs::{End, Fault, finish};
-use ide_runs::{
-    check_topology, cover, generate, judge, migrate_topology, run_files, run_packets, why,
-};
+use ide_runs::{cover, why};
 use law_text::lines_tell;
 use rule_counts::forgeries_are_counted;
+use script_runs::{check_topology, generate, judge, migrate_topology, run_files, run_packets};
 use std::alloc::Global;
 
 // Does what the words ask for.

@@ -12,6 +12,7 @@ pub mod Both
 pub use Rattle.ide_port.specs.Ends.{PortEnd, Found, found_stream, changed_states, stream_end_at, new_port, reset_port}
 pub use Rattle.ide_port.specs.Units.{PortUnitsAtMost, UnitsGrow}
 pub use Rattle.ide_port.specs.Sends.{Trusting, SendStep, send_step, sent_verdict, lengths_sent, IsSentAtPort}
+pub use Rattle.ide_port.specs.Sends.{seal_step, IsSealedAtPort}
 pub use Rattle.ide_port.specs.Arrivals.{TakeStep, take_step}
 pub use Rattle.ide_port.specs.Calls.{slot_pair_at, unfinished_at, called_port, port_stream_status, live_in_port}
 pub use Rattle.ide_port.specs.Calls.{sealing_draw_in, receiving_draw_in}

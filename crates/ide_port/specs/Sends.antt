@@ -1,5 +1,5 @@
 -- What becomes of a send at a port.
-use Rattle.std.specs.Prelude.{ℕ, ◌≡◌, Bool, List, [], map, Option, Some, None, Result, Ok, Err, IfSome}
+use Rattle.std.specs.Prelude.{ℕ, ◌≡◌, Bool, false, List, [], map, Option, Some, None, Result, Ok, Err, IfSome}
 use Rattle.ide_types.specs.declared.port.PortName.{PortName}
 use Rattle.event_verdicts.specs.declared.verdict.Verdict.{Verdict}
 use Rattle.event_verdicts.specs.declared.verdict.Verdict.TheVariants as v
@@ -12,6 +12,8 @@ use Rattle.tlp_layout.specs.Class.{class_of}
 use Rattle.tlp_layout.specs.Faults.{place_in}
 use Rattle.tlp_layout.specs.Head.{head_bytes}
 use Rattle.tlp_layout.specs.Tlp.{header, body}
+use Rattle.tlp_layout.specs.Reading.{read_of}
+use Rattle.tlp_layout.specs.declared.fault.TlpFault.{TlpFault}
 use Rattle.ide_prefix.specs.Packet.{Packet}
 use Rattle.ide_prefix.specs.FaultWords.{tlp_word}
 use Rattle.tlp_layout.specs.Outgoing.{Outgoing, NoTlp, OnNone, OnStream, outgoing_of, stream_taken}
@@ -63,6 +65,11 @@ send_step e OnNone more sets number = unsealed_step e (v.Plain e.name)
 send_step e (OnStream t id) more sets number = stream_step e t more (sets (header t) id) number
     (found_stream e.plans e.states id)
 
+-- a TLP that is the last of its unit on the stream of this ID, with this T, whatever stream association gives it
+abbrev pub seal_step : PortEnd → Result Tlp TlpFault → ℕ → Bool → ℕ → SendStep
+seal_step e (Err fault) id trusted number = unsealed_step e (v.Malformed e.name (tlp_word fault) (place_in fault))
+seal_step e (Ok t) id trusted number = stream_step e t false trusted number (found_stream e.plans e.states id)
+
 -- the stream that bytes take at a port, if they take one, with its place
 pub record IsStreamTaken (e : PortEnd) (bytes : List ℕ) (stream : Option ChosenStream) : Type 0 where
   pub id : chosen_stream (choice_of_stream stream) ≡ stream_taken (outgoing_of e.plans e.name.side bytes)
@@ -89,6 +96,10 @@ pub record IsSendStep (name : PortName) (number : ℕ) (answer : Sent) (new : Po
   pub lengths : lengths_sent answer ≡ packet_lengths step.packets
   pub bytes : sealed ≡ joined_packets step.packets
   pub port : new ≡ step.port
+
+abbrev pub IsSealedAtPort : PortEnd → List ℕ → ℕ → Bool → ℕ → Sent → PortEnd → List ℕ → Type 0
+IsSealedAtPort old bytes id trusted number answer new sealed =
+    IsSendStep old.name number answer new sealed (seal_step old (read_of bytes) id trusted number)
 
 abbrev pub IsSentAtPort : PortEnd → List ℕ → Bool → Trusting → ℕ → Sent → PortEnd → List ℕ → Type 0
 IsSentAtPort old bytes more sets number answer new sealed =

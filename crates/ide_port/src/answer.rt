@@ -1,4 +1,4 @@
-//! What a port answers.
+//! What a port answers (this profile).
 
 use crate::{MeasuredPackets, SendRefusal};
 use event_verdicts::UnitName;
@@ -6,7 +6,7 @@ use ide_prefix::PacketFault;
 use ide_types::{FailCause, SubKind};
 use tlp_layout::TlpFault;
 
-/// What becomes of a send (this profile).
+/// What becomes of a send.
 #[derive(Drop)]
 pub enum Sent {
     /// The bytes are no TLP.
@@ -19,7 +19,7 @@ pub enum Sent {
     Sealed(MeasuredPackets),
 }
 
-/// What becomes of arriving bytes (this profile).
+/// What becomes of arriving bytes.
 #[derive(Clone, Copy, PartialEq, Eq)]
 pub enum Arrival {
     /// They are no packet.

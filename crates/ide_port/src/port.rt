@@ -112,11 +112,18 @@ fn reset_streams(streams: &mut Vec<Stream>)
     }
 }
 
+// A stream of a port: its ID, and its place among the port's.
+#[derive(Clone, Copy)]
+struct StreamAt {
+    id: u8,
+    place: usize,
+}
+
 impl Port {
     ghost use Rattle.ide_port.specs.Ends.{new_port, found_stream, reset_port};
     ghost use Rattle.ide_prefix.specs.Reading.{cut_of};
     ghost use Rattle.tlp_layout.specs.Outgoing.{outgoing_of, stream_taken};
-    ghost use Rattle.ide_port.specs.Sends.{IsSendStep, IsSentAtPort, IsStreamTaken, stream_step};
+    ghost use Rattle.ide_port.specs.Sends.{IsSealedAtPort, IsSendStep, IsSentAtPort, IsStreamTaken, stream_step};
     ghost use Rattle.ide_port.specs.Arrivals.{take_step, packet_step};
     ghost use Rattle.ide_port.specs.Units.{PortUnitsAtMost};
     ghost use Rattle.ide_port.specs.Calls.{port_stream_status, live_in_port, sealing_draw_in, receiving_draw_in};
@@ -172,9 +179,9 @@ impl Port {
         self.send_chosen(stream, tlp, more, trusting, out)
     }
 
-    /// Sends them, as `send` does, on the stream that `choose` gave.
+    // Sends them on the stream that `choose` gave.
     #[tactic(auto, unfolding(tlp_layout::specs::Outgoing::outgoing_of))]
-    pub fn send_chosen<T: Trusting>(
+    fn send_chosen<T: Trusting>(
         &mut self,
         stream: Option<ChosenStream>,
         tlp: &OutgoingTlp,
@@ -198,7 +205,39 @@ impl Port {
             }
             (Ok(view), Some(stream)) => {
                 let trusted = trusting.is_trusted(&view.head(), stream.id);
-                self.send_on_stream(stream, tlp.bytes(), &view, more, trusted, out)
+                let chosen = StreamAt {
+                    id: stream.id,
+                    place: stream.place,
+                };
+                self.send_on_stream(chosen, tlp.bytes(), &view, more, trusted, out)
+            }
+        }
+    }
+
+    /// Sends a TLP's bytes on the stream of this ID, with this T, whatever stream association gives the TLP; its unit
+    /// ends with it. `out` is left with what was sealed, in place of what it had.
+    pub fn send_on(
+        &mut self,
+        stream: u8,
+        tlp: &OutgoingTlp,
+        trusted: bool,
+        out: &mut SendBuffer,
+    ) -> Sent
+        requires { PortUnitsAtMost (2 ^ 40) self.old }
+        ensures { (number : ℕ) → IsSealedAtPort self.old tlp.now stream trusted number result self.new out.new }
+    {
+        match (tlp.tlp(), place(self.plans.as_slice(), stream)) {
+            (Err(fault), _) => {
+                out.clear();
+                Sent::Malformed(fault)
+            }
+            (Ok(_), None) => {
+                out.clear();
+                Sent::Plain
+            }
+            (Ok(view), Some(place)) => {
+                let chosen = StreamAt { id: stream, place };
+                self.send_on_stream(chosen, tlp.bytes(), &view, false, trusted, out)
             }
         }
     }
@@ -206,7 +245,7 @@ impl Port {
     // Sends a TLP on a stream.
     fn send_on_stream(
         &mut self,
-        chosen: ChosenStream,
+        chosen: StreamAt,
         bytes: &[u8],
         tlp: &TlpView,
         more: bool,

@@ -1,4 +1,4 @@
-//! Packets and their prefix.
+//! Packets and their prefix (this profile).
 
 ghost use Rattle.std.specs.Prelude.{◌≡◌};
 ghost use Rattle.ide_prefix.specs.Packet.{prefix_bytes};
@@ -12,7 +12,7 @@ pub const PACKET_FIRST: u8 = 0x92;
 /// The first header byte of a sync packet.
 pub const SYNC_FIRST: u8 = 0x34;
 
-/// What stands before a TLP's header: four bytes (this profile).
+/// What stands before a TLP's header: four bytes.
 #[derive(Clone, Copy, PartialEq, Eq)]
 pub struct Prefix {
     /// Whether a tag ends the packet, which is the last of its unit.
@@ -29,7 +29,7 @@ pub struct Prefix {
     pub posted: u8,
 }
 
-/// The four bytes of the prefix (this profile).
+/// The four bytes of the prefix.
 pub fn write_prefix(prefix: &Prefix) -> [u8; 4]
     ensures { result ≡ prefix_bytes prefix.now }
 {
@@ -42,7 +42,7 @@ pub fn write_prefix(prefix: &Prefix) -> [u8; 4]
     ]
 }
 
-/// A packet's parts, lent (PCI Express Base 6.0 section 6.33; the layout is this profile's).
+/// A packet's parts, lent (PCI Express Base 6.0 section 6.33).
 #[derive(Clone, Copy)]
 pub struct PacketView<'a> {
     /// The prefix, bytes 0 to 3.
@@ -57,7 +57,7 @@ pub struct PacketView<'a> {
     pub tlp: Option<HeadView>,
 }
 
-/// What bytes are: a plain TLP's, or a packet (this profile).
+/// What bytes are: a plain TLP's, or a packet.
 #[derive(Clone, Copy)]
 pub enum Cut<'a> {
     /// Byte 0 is not 0x92.

@@ -1,4 +1,4 @@
-//! The packets of one unit.
+//! The packets of one unit (this profile).
 
 ghost use Rattle.std.specs.Prelude.{◌≡◌, ◌+◌, ◌*◌, ◌<◌, ◌≤◌, ◌++◌, [], ◌∷◌, IfOk, is_ok, Some, length, slice_get};
 ghost use Rattle.std.specs.Prelude.{slice_index_or, slice_range, vec_len, vec_capacity};
@@ -10,10 +10,10 @@ use ide_types::OutOfMemory;
 use std::alloc::Global;
 use std::marker::Model;
 
-/// The most packets of a unit (this profile).
+/// The most packets of a unit.
 pub const MAX_PACKETS: usize = 8;
 
-/// The bytes that may come before the first packet's head, once a unit (this profile).
+/// The bytes that may come before the first packet's head, once a unit.
 pub const AHEAD_BYTES: usize = 8;
 
 /// The most bytes of a packet's head: 4 of its prefix and 16 of its TLP's header (PCI Express Base 6.0 section 2.2).
@@ -25,11 +25,11 @@ const HEADER_BYTES: usize = 16;
 /// The most bytes of a packet's body: 1,024 double words (PCI Express Base 6.0 section 2.2).
 pub const BODY_BYTES: usize = 4_096;
 
-/// The unit has as many packets as its aggregation allows (this profile).
+/// The unit has as many packets as its aggregation allows.
 #[derive(Clone, Copy, PartialEq, Eq)]
 pub struct UnitFull;
 
-/// The packets of one unit (PCI Express Base 6.0 section 6.33, in this profile). A packet is its head, which is sent
+/// The packets of one unit (PCI Express Base 6.0 section 6.33). A packet is its head, which is sent
 /// in clear (prefix and header), and its body. Contracts see the aggregation, what comes ahead and the packets.
 #[derive(Drop)]
 pub struct UnitBuf {

@@ -1,4 +1,4 @@
-//! The words that stand for faults of TLPs and of packets.
+//! The words that stand for faults of TLPs and of packets (this profile).
 
 ghost use Rattle.std.specs.Prelude.{◌≡◌};
 ghost use Rattle.ide_prefix.specs.FaultWords.{packet_word as packet_word_of, tlp_word as tlp_word_of};
@@ -7,7 +7,7 @@ use crate::PacketFault;
 use ide_types::FaultWord;
 use tlp_layout::TlpFault;
 
-/// The word of a TLP's fault (this profile).
+/// The word of a TLP's fault.
 pub fn tlp_word(fault: TlpFault) -> FaultWord
     ensures { result ≡ tlp_word_of fault }
 {
@@ -20,7 +20,7 @@ pub fn tlp_word(fault: TlpFault) -> FaultWord
     }
 }
 
-/// The word of a packet's fault, which is the TLP's if its header is at fault (this profile).
+/// The word of a packet's fault, which is the TLP's if its header is at fault.
 pub fn packet_word(fault: PacketFault) -> FaultWord
     ensures { result ≡ packet_word_of fault }
 {

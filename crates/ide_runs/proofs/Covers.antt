@@ -26,11 +26,11 @@ use Rattle.file_runs.specs.Pieces.{pieces}
 use Rattle.ide_runs.specs.Cover.{CoverCame, CoverPast, CoverView, FollowsCover, cover_by_meaning, cover_closing}
 use Rattle.ide_runs.specs.Cover.{cover_due, cover_line, covered_after, covered_last, covered_so_far, events_rules}
 use Rattle.ide_runs.specs.Cover.{cover_past_with, if_shown, ran_cover}
-use Rattle.ide_runs.specs.Reads.{ScriptGoesOn}
-use Rattle.ide_runs.specs.Script.{AtEnd, Script, events_on, run_end, script_ended, script_of_pieces, unended_line}
-use Rattle.ide_runs.specs.Script.{with_line}
-use Rattle.ide_runs.specs.Works.{Follows, RunningView, VerdictCame}
-use Rattle.ide_runs.proofs.Scripts.{follows_nothing}
+use Rattle.script_runs.specs.Reads.{ScriptGoesOn}
+use Rattle.script_runs.specs.Script.{AtEnd, Script, events_on, run_end, script_ended, script_of_pieces, unended_line}
+use Rattle.script_runs.specs.Script.{with_line}
+use Rattle.script_runs.specs.Works.{Follows, RunningView, VerdictCame}
+use Rattle.script_runs.proofs.Scripts.{follows_nothing}
 
 -- ---- what is kept follows the past
 
@@ -126,7 +126,8 @@ pub event_covers : (past : CoverPast) (e : Event) (old : CoverView) (running : R
     → VerdictCame past.script e running w → rules ≡ event_rules e w b.facts
     → length (event_rules e w b.facts) ≤ 9
     → ((h : History) → WorldStandsFor running.world h → after ≡ draws h) → length past.script.history < 2 ^ 32
-    → FollowsCover (record { events = old.events; running = running; coverage = coverage_with old.coverage e w b rules after })
+    → FollowsCover (record
+    { events = old.events; running = running; coverage = coverage_with old.coverage e w b rules after })
     (ran_cover past e).0
 event_covers past e old running w b rules after follows looks came rules_are few drawn short =
     let h = past.script.history in

@@ -20,12 +20,12 @@ use Rattle.file_runs.specs.Gathering.{GoesOn, ended_text}
 use Rattle.file_runs.specs.Lines.{after, cut_text, file_due, go_on, is_over, process, unended_due}
 use Rattle.file_runs.specs.Outcome.{Due}
 use Rattle.file_runs.specs.Pieces.{pieces}
-use Rattle.ide_runs.specs.Reads.{ScriptGoesOn}
-use Rattle.ide_runs.specs.Script.{AtEnd, AtLimit, Refused, Script, ScriptEnd, run_end, events_on, script_of_pieces}
-use Rattle.ide_runs.specs.Script.{script_ended, unended_line, with_line}
+use Rattle.script_runs.specs.Reads.{ScriptGoesOn}
+use Rattle.script_runs.specs.Script.{AtEnd, AtLimit, Refused, Script, ScriptEnd, run_end, events_on, script_of_pieces}
+use Rattle.script_runs.specs.Script.{script_ended, unended_line, with_line}
 use Rattle.ide_runs.specs.Why.{FollowsWhy, WhyPast, event_told, told_event_due, told_due, no_event_line, left_line}
 use Rattle.ide_runs.specs.Why.{told_last, numbered_event_text, told_so_far, why_by_meaning, why_closing, why_line}
-use Rattle.ide_runs.proofs.Scripts.{follows_nothing}
+use Rattle.script_runs.proofs.Scripts.{follows_nothing}
 
 -- ---- what is kept follows the past
 

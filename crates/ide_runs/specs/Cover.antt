@@ -16,9 +16,9 @@ use Rattle.file_runs.specs.declared.ends.End.TheVariants as end
 use Rattle.file_runs.specs.Gain.{Text}
 use Rattle.file_runs.specs.Outcome.{Due}
 use Rattle.file_runs.specs.Pieces.{pieces}
-use Rattle.ide_runs.specs.Script.{AtEnd, AtLimit, Refused, Script, ScriptEnd, events_on, run_end, script_of}
-use Rattle.ide_runs.specs.Script.{script_of_pieces}
-use Rattle.ide_runs.specs.Works.{Follows, RunningView, ScriptPast, past_with}
+use Rattle.script_runs.specs.Script.{AtEnd, AtLimit, Refused, Script, ScriptEnd, events_on, run_end, script_of}
+use Rattle.script_runs.specs.Script.{script_of_pieces}
+use Rattle.script_runs.specs.Works.{Follows, RunningView, ScriptPast, past_with}
 
 -- ---- the text
 

@@ -6,7 +6,7 @@ use Rattle.ide_why.specs.{facts_due}
 use Rattle.why_facts.specs.{why_text_of}
 use Rattle.file_runs.specs.Gain.{Text}
 use Rattle.ide_runs.specs.declared.explaining.Explained.{Explained}
-use Rattle.ide_runs.specs.Works.{EventCame, RunningView, ScriptPast, ran_event}
+use Rattle.script_runs.specs.Works.{EventCame, RunningView, ScriptPast, ran_event}
 
 -- the rule that answers an event after a past, and facts of the state before it
 abbrev pub event_reasons : ScriptPast → Event → Text

@@ -21,9 +21,18 @@ use Rattle.file_runs.specs.Gain.{Text}
 use Rattle.file_runs.specs.Lines.{after}
 use Rattle.file_runs.specs.Outcome.{Due}
 use Rattle.file_runs.specs.Pieces.{pieces}
-use Rattle.ide_runs.specs.Script.{AtEnd, AtLimit, Refused, Script, ScriptEnd, due_of_files, events_on, script_of_pieces}
-use Rattle.ide_runs.specs.Script.{script_of}
-use Rattle.ide_runs.specs.Works.{Follows, RunningView, ScriptPast, past_with}
+use Rattle.script_runs.specs.Script.{
+  AtEnd,
+  AtLimit,
+  Refused,
+  Script,
+  ScriptEnd,
+  due_of_files,
+  events_on,
+  script_of_pieces,
+}
+use Rattle.script_runs.specs.Script.{script_of}
+use Rattle.script_runs.specs.Works.{Follows, RunningView, ScriptPast, past_with}
 
 -- the line of the verdict that is due to an event after a history, and what that came from
 abbrev pub event_told : Plan → History → Event → Text

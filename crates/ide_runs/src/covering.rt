@@ -10,18 +10,17 @@ ghost use Rattle.rule_counts.specs.Lines.{told_line};
 ghost use Rattle.ide_runs.specs.Cover.{CoverCame, CoverPast, FollowsCover, cover_closing, cover_due, cover_line};
 ghost use Rattle.ide_runs.specs.Cover.{covered_so_far, if_shown, ran_cover, ran_script_cover};
 ghost use Rattle.ide_runs.specs.LineLaws.{long_covered, whole_covered};
-ghost use Rattle.ide_runs.specs.Tasks.{cover_task, on_plan_task};
-ghost use Rattle.ide_runs.specs.Works.{IsEarly};
+ghost use Rattle.ide_runs.specs.Tasks.{cover_task};
+ghost use Rattle.script_runs.specs.Tasks.{on_plan_task};
+ghost use Rattle.script_runs.specs.Works.{IsEarly};
 
-use crate::script::{Running, asked};
-use crate::topologies::{Loaded, load, refuse};
 use cli_files::{Shelf, Sink};
 use file_runs::{End, Fault, LineWork, run_file};
 use history_events::{event_of, events_are_allowed};
 use ide_types::{Bytes, OutOfMemory, Plan};
-use ide_why::World;
 use rule_counts::{Coverage, counts_text, draws, rules_line};
 use script_events::{Event, LineError, ScriptEvent};
+use script_runs::{Loaded, Running, World, asked, load, refuse};
 use std::alloc::Global;
 use std::marker::Model;
 
@@ -178,9 +177,9 @@ fn cover_script<S: Shelf, O: Sink>(
     }
 }
 
-/// `cover TOPOLOGY SCRIPT [--events]`: how often each rule that can answer did, over the events of a script on the lines
-/// of a topology, and at how many arrivals a tag verified on a unit that its partner had not sealed; before that, if
-/// `events` is set, the rules of each event, as it comes.
+/// `cover TOPOLOGY SCRIPT [--events]`: how often each rule that can answer did, over the events of a script on the
+/// lines of a topology, and at how many arrivals a tag verified on a unit that its partner had not sealed; before that,
+/// if `events` is set, the rules of each event, as it comes.
 #[inline(never)]
 pub fn cover<S: Shelf, O: Sink>(
     alloc: Global,

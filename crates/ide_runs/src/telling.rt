@@ -6,19 +6,19 @@ ghost use Rattle.file_runs.specs.FileRuns.{FileRun};
 ghost use Rattle.script_events.specs.Spells.{IsAllowed, IsAllowedInScript};
 ghost use Rattle.event_verdicts.specs.Lines.{line_of};
 ghost use Rattle.ide_runs.specs.LineLaws.{long_told, whole_told};
-ghost use Rattle.ide_runs.specs.Tasks.{on_plan_task, why_task};
+ghost use Rattle.ide_runs.specs.Tasks.{why_task};
+ghost use Rattle.script_runs.specs.Tasks.{on_plan_task};
 ghost use Rattle.ide_runs.specs.Why.{EventIsTold, FollowsWhy, WhyCame, WhyPast, no_event_line, ran_script_why, ran_why};
 ghost use Rattle.ide_runs.specs.Why.{told_due, told_so_far, why_closing, why_line};
-ghost use Rattle.ide_runs.specs.Works.{Follows, IsEarly, ScriptPast};
+ghost use Rattle.script_runs.specs.Works.{Follows, IsEarly, ScriptPast};
 
-use crate::script::{Running, asked};
-use crate::topologies::{Loaded, load, refuse};
 use cli_files::{Shelf, Sink};
 use file_runs::{End, Fault, LineWork, run_file};
 use history_events::{event_of, events_are_allowed};
 use ide_types::{Bytes, OutOfMemory, Plan};
-use ide_why::{World, facts, why_text};
+use ide_why::{facts, why_text};
 use script_events::{Event, LineError, ScriptEvent};
+use script_runs::{Loaded, Running, World, asked, load, refuse};
 use std::alloc::Global;
 use std::marker::Model;
 

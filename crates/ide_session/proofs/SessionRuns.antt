@@ -19,13 +19,13 @@ use Rattle.file_runs.specs.Outcome.{Due}
 use Rattle.file_runs.specs.Pieces.{pieces}
 use Rattle.file_runs.proofs.Cuts.{some}
 use Rattle.file_runs.proofs.Cuttings.{cut_short}
-use Rattle.ide_runs.specs.declared.topologies.Loaded.TheVariants.{Sound}
-use Rattle.ide_runs.specs.Script.{AtEnd, Script, due_by_topology, events_on, run_due, script_due, script_ended}
-use Rattle.ide_runs.specs.Script.{script_of, script_of_pieces, with_line}
-use Rattle.ide_runs.specs.Topologies.{loaded_topology}
-use Rattle.ide_runs.specs.Works.{Follows, RunningView, ScriptPast, by_meaning, closing_due, closing_line}
-use Rattle.ide_runs.specs.Works.{ran_line, ran_script_event}
-use Rattle.ide_runs.proofs.Scripts.{file_is_run}
+use Rattle.script_runs.specs.declared.topologies.Loaded.TheVariants.{Sound}
+use Rattle.script_runs.specs.Script.{AtEnd, Script, due_by_topology, events_on, run_due, script_due, script_ended}
+use Rattle.script_runs.specs.Script.{script_of, script_of_pieces, with_line}
+use Rattle.script_runs.specs.Topologies.{loaded_topology}
+use Rattle.script_runs.specs.Works.{Follows, RunningView, ScriptPast, by_meaning, closing_due, closing_line}
+use Rattle.script_runs.specs.Works.{ran_line, ran_script_event}
+use Rattle.script_runs.proofs.Scripts.{file_is_run}
 use Rattle.ide_cli.specs.Laws.{LawsHold}
 use Rattle.ide_cli.proofs.Written.{first_is_due}
 use Rattle.ide_session.specs.declared.answer.Answer.TheVariants as Answer

@@ -11,10 +11,10 @@ use Rattle.file_runs.specs.Gain.{Text}
 use Rattle.file_runs.specs.Lines.{file_limit}
 use Rattle.file_runs.specs.Outcome.{Due}
 use Rattle.file_runs.specs.Pieces.{pieces}
-use Rattle.ide_runs.specs.declared.topologies.Loaded.TheVariants.{Sound}
-use Rattle.ide_runs.specs.Script.{events_on, run_due, script_of}
-use Rattle.ide_runs.specs.Topologies.{loaded_topology}
-use Rattle.ide_runs.specs.Works.{Follows}
+use Rattle.script_runs.specs.declared.topologies.Loaded.TheVariants.{Sound}
+use Rattle.script_runs.specs.Script.{events_on, run_due, script_of}
+use Rattle.script_runs.specs.Topologies.{loaded_topology}
+use Rattle.script_runs.specs.Works.{Follows}
 use Rattle.ide_cli.specs.Laws.{Laws}
 use Rattle.ide_session.specs.declared.answer.Answer.{Answer}
 use Rattle.ide_session.specs.declared.answer.Answer.TheVariants.{Done, Script, Room, Open}

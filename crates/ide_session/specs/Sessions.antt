@@ -14,10 +14,10 @@ use Rattle.script_events.specs.Words.{fault_line_of}
 use Rattle.ide_types.specs.declared.plan.Plan.{Plan}
 use Rattle.file_runs.specs.declared.ends.End.TheVariants as end
 use Rattle.file_runs.specs.Gain.{Text}
-use Rattle.ide_runs.specs.declared.topologies.Loaded.TheVariants.{Sound}
+use Rattle.script_runs.specs.declared.topologies.Loaded.TheVariants.{Sound}
 use Rattle.ide_runs.specs.Explaining.{event_reasons}
-use Rattle.ide_runs.specs.Topologies.{check_due, loaded_topology}
-use Rattle.ide_runs.specs.Works.{Follows, RunningView, ScriptPast, by_meaning, closing_line, ran_line}
+use Rattle.script_runs.specs.Topologies.{check_due, loaded_topology}
+use Rattle.script_runs.specs.Works.{Follows, RunningView, ScriptPast, by_meaning, closing_line, ran_line}
 use Rattle.ide_session.specs.declared.answer.Answer.{Answer}
 use Rattle.ide_session.specs.declared.answer.Answer.TheVariants.{Done, Topology, Script, Memory, TooLong, Room, Closed}
 use Rattle.ide_session.specs.declared.answer.Answer.TheVariants.{Open, Absent}

@@ -1,8 +1,8 @@
-//! What a call answers.
+//! What a call answers (this profile).
 
 ghost use Rattle.std.specs.Prelude.{◌≡◌};
 
-/// The answer of a call: the numbers are those of the program's exit codes, and four more (this profile).
+/// The answer of a call: the numbers are those of the program's exit codes, and four more.
 #[derive(Clone, Copy, Debug, PartialEq, Eq)]
 pub enum Answer {
     /// Done; a text is in the buffer.
@@ -28,7 +28,7 @@ pub enum Answer {
 impl Answer {
     ghost use Rattle.ide_session.specs.Answers.{answer_code_of};
 
-    /// The number of the answer, by this profile's table of answers.
+    /// The number of the answer, by the table of answers.
     pub fn code(self) -> u32
         ensures { result ≡ answer_code_of self }
     {

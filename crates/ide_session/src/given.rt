@@ -3,12 +3,13 @@
 ghost use Rattle.std.specs.Prelude.{◌≡◌, ◌<◌, ◌+◌, ◌^◌, ◌∷◌, ◌++◌, IfOk, OnOk, Some, []};
 ghost use Rattle.hex.specs.Hex.{encode_lower};
 ghost use Rattle.script_events.specs.Spells.{IsAllowedInScript};
-ghost use Rattle.ide_runs.specs.Works.{IsEarly};
+ghost use Rattle.script_runs.specs.Works.{IsEarly};
 ghost use Rattle.ide_session.specs.Sessions.{MeaningGave, MeaningTold, kept_if};
 
-use ide_runs::ScriptWork;
+use ide_runs::explain_script_event;
 use ide_types::{Bytes, OutOfMemory};
 use script_events::ScriptEvent;
+use script_runs::ScriptWork;
 use std::alloc::Global;
 
 /// What a line gave: its text, and what its verdict came from, if that is kept.
@@ -44,6 +45,7 @@ pub(crate) fn no_event(alloc: Global, explains: bool) -> Given
 
 /// What an event gives.
 pub(crate) fn event_given(
+    alloc: Global,
     work: &mut ScriptWork,
     event: ScriptEvent,
     number: u64,
@@ -57,7 +59,7 @@ pub(crate) fn event_given(
     ensures early { OnOk result (IsEarly work.new (number + 1)) }
 {
     if explains {
-        let explained = work.explain_script_event(event, number)?;
+        let explained = explain_script_event(alloc, work, event, number)?;
         return Ok(Given {
             text: explained.line,
             reasons: Some(explained.reasons),

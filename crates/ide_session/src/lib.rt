@@ -18,9 +18,9 @@ pub mod session;
 
 use answer::Answer;
 use held::{Handle, hold, unhold};
-use ide_runs::{Loaded, World, load_bytes, refusal};
 use ide_types::Plan;
 use script_events::fault_line;
+use script_runs::{Loaded, World, load_bytes, refusal};
 use session::{NotRun, Session};
 use std::alloc::Global;
 

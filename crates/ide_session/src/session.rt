@@ -2,13 +2,13 @@
 
 ghost use Rattle.std.specs.Prelude.{◌≡◌, ◌<◌, ◌+◌, ◌^◌, ◌↔◌, IfOk, IfSome, IsTrue, IsSome, None, Some, [], false};
 ghost use Rattle.std.specs.Option.{option_map};
-ghost use Rattle.ide_runs.specs.Works.{Follows, IsEarly, MayAsk, ScriptPast};
+ghost use Rattle.script_runs.specs.Works.{Follows, IsEarly, MayAsk, ScriptPast};
 
 use crate::given::{Given, event_given, hex_line, no_event};
 use file_runs::LineWork;
-use ide_runs::{ScriptWork, World, asked};
 use ide_types::{Bytes, OutOfMemory};
 use script_events::{LineError, LineFault, ScriptEvent};
+use script_runs::{ScriptWork, World, asked};
 use std::alloc::Global;
 
 /// How many lines a session takes (this profile).
@@ -76,7 +76,7 @@ impl Live {
         let lines = lines + 1;
         match event {
             None => Ok((Live { work, lines }, no_event(alloc, explains))),
-            Some(event) => match event_given(&mut work, event, lines, explains) {
+            Some(event) => match event_given(alloc, &mut work, event, lines, explains) {
                 Err(_) => Err(OutOfMemory),
                 Ok(given) => Ok((Live { work, lines }, given)),
             },

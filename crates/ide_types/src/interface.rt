@@ -1,8 +1,8 @@
-//! Device interfaces.
+//! Device interfaces (this profile).
 
 use crate::{Bytes, Items};
 
-/// A device interface and the registers that it begins with (PCI Express Base 6.0 chapter 11, and this profile).
+/// A device interface and the registers that it begins with (PCI Express Base 6.0 chapter 11).
 #[derive(Drop)]
 pub struct InterfacePlan {
     /// Its requester ID.
@@ -27,13 +27,15 @@ pub struct InterfacePlan {
     pub pasid: u16,
     /// The ATS control register, 0 in version 1.
     pub ats: u16,
+    /// Whether its device answers memory reads of its base address registers, false in version 1.
+    pub reads: bool,
     /// Device information, which its report ends with; up to 1,024 bytes.
     pub info: Bytes,
     /// Its base address registers, by their number; up to 6.
     pub bars: Items<BarPlan>,
 }
 
-/// A base address register and its range of addresses (PCI Express Base 6.0 chapter 11, and this profile).
+/// A base address register and its range of addresses (PCI Express Base 6.0 chapter 11).
 #[derive(Clone, Copy, PartialEq, Eq)]
 pub struct BarPlan {
     /// The byte address that it begins with.

@@ -1,4 +1,4 @@
-//! The kinds of lines.
+//! The kinds of lines (this profile).
 
 ghost use Rattle.std.specs.Prelude.{◌≡◌, Some};
 ghost use Rattle.ide_types.specs.Lines.{line_kind};
@@ -6,10 +6,10 @@ ghost use Rattle.ide_types.specs.Names.{kind_word};
 
 use std::fmt;
 
-/// The line of the first stream between devices: that of stream P is P more (this profile).
+/// The line of the first stream between devices: that of stream P is P more.
 pub const FIRST_PEER_LINE: u8 = 24;
 
-/// What a line is: a link, one of the two segments of a link's hop, or a stream between two devices (this profile).
+/// What a line is: a link, one of the two segments of a link's hop, or a stream between two devices.
 #[derive(Clone, Copy, PartialEq, Eq)]
 pub enum LineKind {
     Link,

@@ -1,4 +1,4 @@
-//! A topology, and its links.
+//! A topology, and its links (this profile).
 
 ghost use Rattle.std.specs.Prelude.{◌≡◌, option_map, slice_get};
 ghost use Rattle.ide_types.specs.Plans.{has_stream_id};
@@ -6,7 +6,7 @@ ghost use Rattle.ide_types.specs.Ends.{link_hop, own_has_id};
 
 use crate::{InterfacePlan, Items, StreamPlan};
 
-/// What there is before the first event of a run (this profile).
+/// What there is before the first event of a run.
 #[derive(Drop)]
 pub struct Plan {
     /// The version of the topology, 1 or 2.
@@ -54,7 +54,7 @@ impl Plan {
     }
 }
 
-/// A link: a host's port and a device's (PCI Express Base 6.0 section 6.33 and chapter 11, in this profile).
+/// A link: a host's port and a device's (PCI Express Base 6.0 section 6.33 and chapter 11).
 #[derive(Drop)]
 pub struct LinkPlan {
     /// What the device gives in answer to lock requests, in order; up to 1,024 of them.
@@ -68,7 +68,7 @@ pub struct LinkPlan {
 }
 
 /// A stream that protects a link hop by hop: one between the host's port and a switch, and one between the switch and
-/// the device's port, both with aggregation 1 (PCI Express Base 6.0 section 6.33, in this profile).
+/// the device's port, both with aggregation 1 (PCI Express Base 6.0 section 6.33).
 #[derive(Drop)]
 pub struct HopPlan {
     /// Its stream ID at all four ends.
@@ -77,7 +77,7 @@ pub struct HopPlan {
     pub classes: Items<u8>,
 }
 
-/// A stream between the devices of two links (PCI Express Base 6.0 section 6.33, in this profile).
+/// A stream between the devices of two links (PCI Express Base 6.0 section 6.33).
 #[derive(Clone, Copy, PartialEq, Eq)]
 pub struct PeerPlan {
     /// Its stream ID at both ends.
@@ -90,7 +90,7 @@ pub struct PeerPlan {
     pub aggregation: u8,
 }
 
-/// A region of trusted memory, in bytes; both are multiples of 4,096 (this profile).
+/// A region of trusted memory, in bytes; both are multiples of 4,096.
 #[derive(Clone, Copy, PartialEq, Eq)]
 pub struct Region {
     /// The address of its first byte.

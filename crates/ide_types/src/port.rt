@@ -1,4 +1,4 @@
-//! Ends of lines, by which ports are named.
+//! Ends of lines, by which ports are named (this profile).
 
 ghost use Rattle.std.specs.Prelude.{◌≡◌, ◌==◌, Some};
 ghost use Rattle.std.specs.List.{list_any};
@@ -6,7 +6,7 @@ ghost use Rattle.ide_types.specs.Names.{side_word, port_word};
 
 use std::fmt;
 
-/// The near or the far end of a line: of a link its host's port or its device's (this profile).
+/// The near or the far end of a line: of a link its host's port or its device's.
 #[derive(Clone, Copy, Default, PartialEq, Eq)]
 pub enum Side {
     #[default]
@@ -16,7 +16,7 @@ pub enum Side {
 
 /// The end of a line, by the line's number: line L below 8 is link L, from its host's port to its device's; 8 + L is
 /// the hop of link L from its host to its switch, 16 + L from its switch to its device; 24 + P is stream P between two
-/// devices (this profile). A port is named as an end: a host's and a device's as that of their link, a switch's as that
+/// devices. A port is named as an end: a host's and a device's as that of their link, a switch's as that
 /// of a hop.
 #[derive(Clone, Copy, Default, PartialEq, Eq)]
 pub struct PortName {
@@ -24,7 +24,7 @@ pub struct PortName {
     pub line: u8,
 }
 
-/// Whether one of these ends is of the line (this profile).
+/// Whether one of these ends is of the line.
 pub fn has_end_of_line(ends: &[PortName], line: u8) -> bool
     ensures { result ≡ list_any (λ e. e.line == line) ends.now }
 {

@@ -6,7 +6,7 @@ ghost use Rattle.ide_types.specs.Fits.{FitsPlan};
 use crate::Plan;
 use std::marker::Model;
 
-/// A topology that meets every bound and rule, so that a call which takes one asks nothing of it (this profile).
+/// A topology that meets every bound and rule, so that a call which takes one asks nothing of it.
 #[derive(Drop)]
 pub struct ValidPlan {
     plan: Plan,

@@ -9,5 +9,3 @@ mod SeenInterfaces
 mod Read
 mod Reading
 mod Taken
-mod Planned
-mod Portions

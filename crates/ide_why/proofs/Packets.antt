@@ -16,8 +16,9 @@ use Rattle.tlp_layout.specs.Class.{class_of}
 use Rattle.tlp_layout.specs.Tlp.{header}
 use Rattle.tlp_layout.specs.declared.head.HeadView.{HeadView}
 use Rattle.spec_interfaces.specs.Cause.{owner_id, owners_link}
-use Rattle.spec_interfaces.specs.Sites.{sites}
-use Rattle.machine_whole.specs.Interfaces.{with_requester}
+use Rattle.spec_interfaces.specs.Sites.{Site, sites}
+use Rattle.machine_whole.specs.Interfaces.{Face, with_requester}
+use Rattle.why_facts.specs.declared.appends.faces.FaceSeen.{FaceSeen}
 use Rattle.spec_links.specs.History.{ArrivedBytes}
 use Rattle.spec_links.specs.Plan.{is_closed}
 use Rattle.spec_links.specs.Ports.{goes_through, port_of}
@@ -28,7 +29,7 @@ use Rattle.spec_stream.specs.Stream.{slot_in_set}
 use Rattle.sub_stream.specs.Facts.{held_packets, lane_seen, slot_facts, stream_facts}
 use Rattle.sub_stream.specs.declared.facts.SlotFacts.{SlotFacts}
 use Rattle.machine_whole.specs.Accesses.{face_statuses}
-use Rattle.why_facts.specs.declared.fact.Fact.{Fact}
+use Rattle.told_facts.specs.declared.fact.Fact.{Fact}
 use Rattle.why_facts.specs.Due.{sets_own_t}
 use Rattle.why_facts.specs.Forms.{Readings, arrives_fact, at_port, sends_fact, state_fact, unit_facts}
 use Rattle.why_facts.specs.Kept.{arrival_facts_in, asks_by_state, asks_live, known_facts, owner_found, owner_in}
@@ -50,10 +51,13 @@ set_is closed x Npr false = refl
 set_is closed x Cpl true = refl
 set_is closed x Cpl false = refl
 
--- `known` says of each interface what is known of it, and `stand` how those of a link's device stand
+-- `known` says of each interface what is known of it, `numbered` its number, and `stand` how those of a link's device
+-- stand
 module _ (plan : Plan) (s : WholeLinks) (h : History) (stood : WorldStandsFor (world_of plan s) h)
     (known : (link requester : ℕ)
     → known_read (requester_read s link requester) ≡ known_facts (with_requester plan stood.whole.faces link requester))
+    (numbered : (link requester : ℕ) → option_map (λ (f : FaceSeen). f.number) (requester_read s link requester)
+    ≡ option_map (λ (y : Site × Face). y.0.number) (with_requester plan stood.whole.faces link requester))
     (stand : (link : ℕ) → statuses_read s link
     ≡ face_statuses link (sites plan) stood.whole.faces.list stood.whole.accesses.floors)
   where
@@ -71,10 +75,11 @@ module _ (plan : Plan) (s : WholeLinks) (h : History) (stood : WorldStandsFor (w
 
     -- ---- requests
 
-    readings_are : readings_read s ≡ readings_of_whole plan stood.whole
+    pub readings_are : readings_read s ≡ readings_of_whole plan stood.whole
     readings_are = λ i. record {
       known = λ link requester. known link requester i;
-      waiting = λ link. length (stood.is.accesses.reads link i);
+      numbered = λ link requester. numbered link requester i;
+      waiting = λ port. length (stood.is.accesses.reads port i);
       statuses = λ link. stand link i;
     }
 

@@ -3,7 +3,7 @@ use Rattle.std.proofs.Common.{◌≡◌, ℕ, ◌==◌, ◌&&◌, ◌<◌, ◌�
 use Rattle.std.proofs.Common.{◌∙◌, arith, Option, Some, None, ⊎_elim, ◌⊎◌, subst}
 use Rattle.std.proofs.lemmas.Bool.{cases_Bool, cases_lt, and_parts, and_from, eqb-true, eq-eqb}
 use Rattle.std.proofs.lemmas.Option.{same_Some, slice_get_within}
-use Rattle.std.specs.Option.{option_and_then}
+use Rattle.std.specs.Option.{option_and_then, option_map}
 use Rattle.std.specs.Prelude.{slice_get}
 use Rattle.ide_types.specs.declared.plan.Plan.{Plan}
 use Rattle.ide_types.specs.declared.interface.InterfacePlan.{InterfacePlan}
@@ -17,8 +17,8 @@ use Rattle.interface_host.specs.Views.{HostTdi, Seen, IsUnlocked, IsLocked, IsRu
 use Rattle.interface_host.specs.Views.{grant_by, is_requester, view_of}
 use Rattle.interface_state.specs.{DeviceTdi, state_code}
 use Rattle.ide_types.specs.declared.view.View.{View}
-use Rattle.why_facts.specs.declared.fact.InterfaceFact.TheVariants as face
-use Rattle.why_facts.specs.declared.fact.Fact.TheVariants as fact
+use Rattle.told_facts.specs.declared.fact.InterfaceFact.TheVariants as face
+use Rattle.told_facts.specs.declared.fact.Fact.TheVariants as fact
 use Rattle.why_facts.specs.Forms.{bound_facts, face_facts, interface_fact, reported_facts, shown_facts}
 use Rattle.why_facts.specs.Kept.{known_facts, shown_in}
 use Rattle.world.specs.{AreLinks, WorldStandsFor, WholeLinks, interface_of_ends, world_of, IsPlaced}
@@ -31,26 +31,36 @@ use Rattle.why_facts.specs.{face_seen, reported_seen}
 use Rattle.ide_why.specs.Facts.{known_read, shown_read, shown_seen}
 use Rattle.ide_why.specs.Faces.{AreFacesSeen, IsFaceSeen}
 use Rattle.ide_why.specs.Reading.{face_located, face_of, face_read, requester_read, device_interface_read}
-use Rattle.ide_why.specs.Reading.{interface_planned}
-use Rattle.ide_why.proofs.Planned.{planned}
+use Rattle.told_facts.specs.Exchanges.{interface_planned}
+use Rattle.told_facts.proofs.Planned.{planned}
 
 abbrev is_site_requester : ℕ → ℕ → Site → Bool
 is_site_requester link requester x = (x.link == link) && (x.plan.requester == requester)
 
 -- ---- the lines of an interface that is seen
 
-pub face_is : (draw : ℕ → ℕ → ℕ) (tdis : ℕ → Option DeviceTdi) (plans : ℕ → Option InterfacePlan) (y : Site × Face) (f : FaceSeen)
+pub face_is : (draw : ℕ → ℕ → ℕ) (tdis : ℕ → Option DeviceTdi) (plans : ℕ → Option InterfacePlan) (y : Site × Face)
+    (f : FaceSeen)
     → IsFaceSeen draw tdis plans y f → face_seen f ≡ face_facts y.0 y.1.tdi y.1.managed
 face_is draw tdis plans y f is =
     (λ i. interface_fact (is.number i) (is.state i) ∷ fact.Interface (face.View (is.view i))
     ∷ fact.Interface (face.Needs (is.needs i)) ∷ bound_facts (is.bound i))
 
-pub known_is : (draw : ℕ → ℕ → ℕ) (tdis : ℕ → Option DeviceTdi) (plans : ℕ → Option InterfacePlan) (o : Option (Site × Face)) (f : Option FaceSeen)
+pub known_is : (draw : ℕ → ℕ → ℕ) (tdis : ℕ → Option DeviceTdi) (plans : ℕ → Option InterfacePlan)
+    (o : Option (Site × Face)) (f : Option FaceSeen)
     → AreFacesSeen draw tdis plans o f → known_read f ≡ known_facts o
 known_is draw tdis plans None None is = refl
 known_is draw tdis plans None (Some f) is = absurd is
 known_is draw tdis plans (Some y) None is = absurd is
 known_is draw tdis plans (Some y) (Some f) is = face_is draw tdis plans y f is
+
+pub number_is : (draw : ℕ → ℕ → ℕ) (tdis : ℕ → Option DeviceTdi) (plans : ℕ → Option InterfacePlan)
+    (o : Option (Site × Face)) (f : Option FaceSeen) → AreFacesSeen draw tdis plans o f
+    → option_map (λ (g : FaceSeen). g.number) f ≡ option_map (λ (y : Site × Face). y.0.number) o
+number_is draw tdis plans None None is = refl
+number_is draw tdis plans None (Some f) is = absurd is
+number_is draw tdis plans (Some y) None is = absurd is
+number_is draw tdis plans (Some y) (Some f) is = ap (λ (n : ℕ). Some n) is.number
 
 -- ---- an interface that is seen
 
@@ -128,21 +138,26 @@ module _ (plan : Plan) (s : WholeLinks) (links : AreLinks plan s.links.ends s.li
       (find_face (λ x. x.number == i) (sites plan) stood.whole.faces.list) (face_read s i)
   face_read_is i = ⊎_elim here nowhere (cases_lt i (length (sites plan)))
     where
-      here : i < length (sites plan) → AreFacesSeen stood.whole.draw (device_interface_read s) (interface_planned plan.links)
+      here : i < length (sites plan) → AreFacesSeen stood.whole.draw (device_interface_read s)
+          (interface_planned plan.links)
           (find_face (λ x. x.number == i) (sites plan) stood.whole.faces.list) (face_read s i)
       here lt =
           let x = get_there (sites plan) i lt in
           let p = stood.is.beside.placed i x.0 x.1 in
-          subst (λ o. AreFacesSeen stood.whole.draw (device_interface_read s) (interface_planned plan.links) o (face_read s i))
+          subst (λ o. AreFacesSeen stood.whole.draw (device_interface_read s) (interface_planned plan.links) o
+          (face_read s i))
           (sym (face_found plan stood.whole.faces.list i x.0 p.face x.1 p.face_is))
-          (subst (λ f. AreFacesSeen stood.whole.draw (device_interface_read s) (interface_planned plan.links) (Some (x.0, p.face)) f)
+          (subst (λ f. AreFacesSeen stood.whole.draw (device_interface_read s) (interface_planned plan.links)
+          (Some (x.0, p.face)) f)
           (sym (face_there i x.0 p x.1))
           (placed_seen i x.0 p x.1))
 
-      nowhere : length (sites plan) ≤ i → AreFacesSeen stood.whole.draw (device_interface_read s) (interface_planned plan.links)
+      nowhere : length (sites plan) ≤ i → AreFacesSeen stood.whole.draw (device_interface_read s)
+          (interface_planned plan.links)
           (find_face (λ x. x.number == i) (sites plan) stood.whole.faces.list) (face_read s i)
       nowhere le =
-          subst (λ o. AreFacesSeen stood.whole.draw (device_interface_read s) (interface_planned plan.links) o (face_read s i))
+          subst (λ o. AreFacesSeen stood.whole.draw (device_interface_read s) (interface_planned plan.links) o
+          (face_read s i))
           (sym (face_absent plan stood.whole.faces.list i le))
           (subst (λ f. AreFacesSeen stood.whole.draw (device_interface_read s) (interface_planned plan.links) None f)
           (sym (ap (face_located s i) (interface_absent plan s.links.ends.links
@@ -239,7 +254,8 @@ module _ (plan : Plan) (s : WholeLinks) (links : AreLinks plan s.links.ends s.li
           let no : true ≡ false = sym passes ∙ fails k z.0 z.1 in absurd cc)
           (λ not_so. not_so) cases
 
-  pub requester_read_is : (link requester : ℕ) → AreFacesSeen stood.whole.draw (device_interface_read s) (interface_planned plan.links)
+  pub requester_read_is : (link requester : ℕ) → AreFacesSeen stood.whole.draw (device_interface_read s)
+      (interface_planned plan.links)
       (with_requester plan stood.whole.faces link requester) (requester_read s link requester)
   requester_read_is link requester =
       ⊎_elim here nowhere (site_or_none (is_site_requester link requester) (sites plan))
@@ -249,11 +265,13 @@ module _ (plan : Plan) (s : WholeLinks) (links : AreLinks plan s.links.ends s.li
           (with_requester plan stood.whole.faces link requester) (requester_read s link requester)
       here t =
           let p = stood.is.beside.placed t.place t.site t.site_is in
-          subst (λ o. AreFacesSeen stood.whole.draw (device_interface_read s) (interface_planned plan.links) o (requester_read s link requester))
+          subst (λ o. AreFacesSeen stood.whole.draw (device_interface_read s) (interface_planned plan.links) o
+          (requester_read s link requester))
           (sym (requester_found plan s.links.ends.links s.links.keeper.interfaces s.links.trusted.contents stood.whole
           stood.is.beside
           links.fits links.many link requester t.place t.site p t.site_is t.passes))
-          (subst (λ f. AreFacesSeen stood.whole.draw (device_interface_read s) (interface_planned plan.links) (Some (t.site, p.face)) f)
+          (subst (λ f. AreFacesSeen stood.whole.draw (device_interface_read s) (interface_planned plan.links)
+          (Some (t.site, p.face)) f)
           (sym (ap (option_and_then (face_read s)) (reader_known link requester t.place t.site t.site_is t.passes)
           ∙ face_there t.place t.site p t.site_is))
           (placed_seen t.place t.site p t.site_is))
@@ -262,7 +280,8 @@ module _ (plan : Plan) (s : WholeLinks) (links : AreLinks plan s.links.ends s.li
           → AreFacesSeen stood.whole.draw (device_interface_read s) (interface_planned plan.links)
           (with_requester plan stood.whole.faces link requester) (requester_read s link requester)
       nowhere fails =
-          subst (λ o. AreFacesSeen stood.whole.draw (device_interface_read s) (interface_planned plan.links) o (requester_read s link requester))
+          subst (λ o. AreFacesSeen stood.whole.draw (device_interface_read s) (interface_planned plan.links) o
+          (requester_read s link requester))
           (sym (requester_nowhere plan s.links.ends.links s.links.keeper.interfaces s.links.trusted.contents stood.whole
           stood.is.beside
           links.fits links.many link requester fails))
@@ -272,5 +291,11 @@ module _ (plan : Plan) (s : WholeLinks) (links : AreLinks plan s.links.ends s.li
   pub known : (link requester : ℕ) → known_read (requester_read s link requester) ≡ known_facts
       (with_requester plan stood.whole.faces link requester)
   known link requester = known_is stood.whole.draw (device_interface_read s) (interface_planned plan.links)
+      (with_requester plan stood.whole.faces link requester)
+      (requester_read s link requester) (requester_read_is link requester)
+
+  pub numbered : (link requester : ℕ) → option_map (λ (f : FaceSeen). f.number) (requester_read s link requester)
+      ≡ option_map (λ (y : Site × Face). y.0.number) (with_requester plan stood.whole.faces link requester)
+  numbered link requester = number_is stood.whole.draw (device_interface_read s) (interface_planned plan.links)
       (with_requester plan stood.whole.faces link requester)
       (requester_read s link requester) (requester_read_is link requester)

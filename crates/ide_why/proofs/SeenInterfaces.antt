@@ -6,7 +6,8 @@ use Rattle.std.specs.List.{slice_index_or}
 use Rattle.std.specs.Option.{option_map, option_map_or}
 use Rattle.ide_types.specs.declared.direction.Direction.{Direction}
 use Rattle.ide_types.specs.declared.port.PortName.{PortName}
-use Rattle.ide_types.specs.declared.port.Side.TheVariants.{Host}
+use Rattle.ide_types.specs.declared.port.Side.{Side}
+use Rattle.ide_types.specs.declared.port.Side.TheVariants.{Host, Device}
 use Rattle.ide_types.specs.declared.sub.SubKind.TheVariants.{Cpl}
 use Rattle.ide_types.specs.Ports.{host_port}
 use Rattle.ide_types.specs.declared.plan.Plan.{Plan}
@@ -26,36 +27,38 @@ use Rattle.spec_stream.specs.Stream.{StreamState}
 use Rattle.sub_stream.specs.Facts.{stream_facts}
 use Rattle.trusted_memory.specs.declared.queue.WaitingRead.{WaitingRead}
 use Rattle.machine_whole.specs.Machine.{live_draw_at_end, op_or_idle, whole_streams}
-use Rattle.why_facts.specs.declared.fact.Fact.{Fact}
-use Rattle.why_facts.specs.declared.fact.InterfaceFact.TheVariants as face
-use Rattle.why_facts.specs.declared.fact.Fact.TheVariants as fact
+use Rattle.told_facts.specs.declared.fact.Fact.{Fact}
+use Rattle.told_facts.specs.declared.fact.InterfaceFact.TheVariants as face
+use Rattle.told_facts.specs.declared.fact.Fact.TheVariants as fact
 use Rattle.why_facts.specs.Forms.{asked_besides, bind_facts, draw_fact, draws_fact, face_facts, peer_facts, pool_of}
-use Rattle.why_facts.specs.Forms.{read_fact, state_fact, takes_facts, waiting_fact}
-use Rattle.why_facts.specs.Kept.{answer_facts_in, asked_face, asked_facts_in_state, completion_facts, first_tlp_facts}
-use Rattle.why_facts.specs.Kept.{forward_facts_in, oldest_read_facts, reader_in}
+use Rattle.why_facts.specs.Forms.{queue_facts, read_fact, response_facts, state_fact, takes_facts, waiting_fact}
+use Rattle.why_facts.specs.Kept.{asked_face, asked_facts_in_state, completion_facts, first_tlp_facts, forward_facts_in}
+use Rattle.why_facts.specs.Kept.{queue_in, reader_in, waiting_in}
 use Rattle.world.specs.{AreLinks, WorldStandsFor, WholeLinks, carried_on_link, peer_live, world_of}
 use Rattle.world.proofs.{live_is, peer_line_is}
 use Rattle.spec_keys.specs.History.{History}
 use Rattle.why_facts.specs.declared.appends.faces.FaceSeen.{FaceSeen}
-use Rattle.ide_why.specs.Facts.{answer_read, asked_by_face, asked_by_number, besides_read, bind_read, completion_read}
-use Rattle.ide_why.specs.Facts.{exchanges_of, first_read, forward_read, oldest_read, reader_read, state_of_whole}
+use Rattle.ide_why.specs.Facts.{asked_by_face, asked_by_number, besides_read, bind_read, completion_read, exchanges_of}
+use Rattle.ide_why.specs.Facts.{first_read, forward_read, queue_read, reader_read, state_of_whole, waiting_read}
 use Rattle.ide_why.specs.Faces.{AreFacesSeen, IsFaceSeen}
 use Rattle.ide_why.specs.Reading.{bindings_read, face_read, requester_read, stream_read, device_interface_read}
-use Rattle.ide_why.specs.Reading.{interface_planned}
-use Rattle.ide_why.proofs.SeenFaces.{face_is, face_read_is, known, requester_read_is}
+use Rattle.told_facts.specs.Exchanges.{interface_planned}
+use Rattle.ide_why.proofs.SeenFaces.{face_is, face_read_is, known, numbered, requester_read_is}
 use Rattle.ide_why.proofs.SeenStatuses.{stand}
-use Rattle.ide_why.proofs.Packets.{sending_is, state_is}
+use Rattle.ide_why.proofs.Packets.{readings_are, sending_is, state_is}
 use Rattle.ide_why.proofs.SeenStreams.{sender_is}
 
 module _ (plan : Plan) (s : WholeLinks) (links : AreLinks plan s.links.ends s.links.keeper.keys)
     (whole : length s.accesses ≡ length s.links.ends.links) (h : History) (stood : WorldStandsFor (world_of plan s) h)
   where
     st_is : state_of_whole plan s ≡ stood.whole.links
-    st_is = state_is plan s h stood (known plan s links h stood) (stand plan s links whole h stood)
+    st_is = state_is plan s h stood (known plan s links h stood) (numbered plan s links h stood)
+        (stand plan s links whole h stood)
 
     -- ---- events on interfaces
 
-    bindings_are : (y : Site × Face) (f : FaceSeen) → IsFaceSeen stood.whole.draw (device_interface_read s) (interface_planned plan.links) y f
+    bindings_are : (y : Site × Face) (f : FaceSeen) → IsFaceSeen stood.whole.draw (device_interface_read s)
+        (interface_planned plan.links) y f
         → bindings_read s f.number ≡ y.1.tdi.bindings
     bindings_are y f seen = ap (λ (o : Option DeviceTdi). option_map_or (λ (t : DeviceTdi). t.bindings) o []) seen.tdi
 
@@ -75,7 +78,8 @@ module _ (plan : Plan) (s : WholeLinks) (links : AreLinks plan s.links.ends s.li
         ∙ ap (λ (st : LinkState). live_by_id (live_draw_at_end plan st) plan.peers link stream) st_is
 
     bind_is : (y : Site × Face) (f : FaceSeen) (line stream : ℕ)
-        → IsFaceSeen stood.whole.draw (device_interface_read s) (interface_planned plan.links) y f → has_peer plan.peers y.0.link line stream ≡ true
+        → IsFaceSeen stood.whole.draw (device_interface_read s) (interface_planned plan.links) y f
+        → has_peer plan.peers y.0.link line stream ≡ true
         → bind_read plan s f line stream ≡ bind_facts
         (asked_state_of_face plan (whole_streams plan stood.whole) stood.whole.faces.used y.0 y.1) line stream
     bind_is y f line stream seen has =
@@ -98,7 +102,8 @@ module _ (plan : Plan) (s : WholeLinks) (links : AreLinks plan s.links.ends s.li
         by false same = refl
 
     besides_are : (e : InterfaceEvent) (y : Site × Face) (f : FaceSeen)
-        → IsFaceSeen stood.whole.draw (device_interface_read s) (interface_planned plan.links) y f → besides_read plan s f e
+        → IsFaceSeen stood.whole.draw (device_interface_read s) (interface_planned plan.links) y f
+        → besides_read plan s f e
         ≡ asked_besides plan y.0
         (asked_state_of_face plan (whole_streams plan stood.whole) stood.whole.faces.used y.0 y.1) e
     besides_are (ie.Lock i loss) y f seen =
@@ -142,12 +147,18 @@ module _ (plan : Plan) (s : WholeLinks) (links : AreLinks plan s.links.ends s.li
 
     -- ---- answers to reads
 
-    completion_is : (link stream : ℕ) (o : Option StreamState)
-        → completion_read (option_map (stream_facts (is_closed plan link stream)) o)
-        ≡ completion_facts plan (host_port link) stream o
-    completion_is link stream None = refl
-    completion_is link stream (Some x) =
-        ap (λ (fs : List Fact). state_fact (stream_status x) ∷ fs) (sender_is (is_closed plan link stream) x Cpl)
+    completion_is : (end : PortName) (stream : ℕ) (o : Option StreamState)
+        → completion_read (option_map (stream_facts (is_closed plan end.line stream)) o)
+        ≡ completion_facts plan end stream o
+    completion_is end stream None = refl
+    completion_is end stream (Some x) =
+        ap (λ (fs : List Fact). state_fact (stream_status x) ∷ fs) (sender_is (is_closed plan end.line stream) x Cpl)
+
+    completion_there : (end : PortName) (stream : ℕ) → completion_read (stream_read plan s end stream)
+        ≡ completion_facts plan end stream (find plan stood.whole.links end stream)
+    completion_there end stream =
+        completion_is end stream (find plan (state_of_whole plan s) end stream)
+        ∙ ap (λ (st : LinkState). completion_facts plan end stream (find plan st end stream)) st_is
 
     reader_is : (o : Option (Site × Face)) (f : Option FaceSeen)
         → AreFacesSeen stood.whole.draw (device_interface_read s) (interface_planned plan.links) o f
@@ -159,33 +170,31 @@ module _ (plan : Plan) (s : WholeLinks) (links : AreLinks plan s.links.ends s.li
         (λ j. face_is stood.whole.draw (device_interface_read s) (interface_planned plan.links) y f are j
         ++ completion_read (stream_read plan s (host_port (are.link j)) (are.stream j)))
         ∙ ap (λ (fs : List Fact). face_facts y.0 y.1.tdi y.1.managed ++ fs)
-        (completion_is y.0.link y.0.plan.stream
-        (find plan (state_of_whole plan s) (host_port y.0.link) y.0.plan.stream)
-        ∙ ap (λ (st : LinkState). completion_facts plan (host_port y.0.link) y.0.plan.stream
-        (find plan st (host_port y.0.link) y.0.plan.stream)) st_is)
+        (completion_there (host_port y.0.link) y.0.plan.stream)
 
-    oldest_is : (link : ℕ) (rs : List WaitingRead) → oldest_read plan s link rs
-        ≡ oldest_read_facts plan stood.whole link rs
-    oldest_is link [] = refl
-    oldest_is link (r ∷ rs) =
-        ap (λ (fs : List Fact). read_fact r.draw ∷ fs)
+    waiting_is : (side : Side) (link : ℕ) (r : WaitingRead) → waiting_read plan s side link r
+        ≡ waiting_in plan stood.whole side link r
+    waiting_is Host link r =
+        ap (λ (fs : List Fact). read_fact r.came.draw ∷ fs)
         (reader_is (with_requester plan stood.whole.faces link r.read.requester)
         (requester_read s link r.read.requester)
         (requester_read_is plan s links h stood link r.read.requester))
+    waiting_is Device link r = λ j.
+        response_facts plan (readings_are plan s h stood (known plan s links h stood) (numbered plan s links h stood)
+        (stand plan s links whole h stood) j)
+        link r (completion_there r.came.end r.came.stream j)
 
-    pub answer_is : (link : ℕ) → answer_read plan s link ≡ answer_facts_in plan stood.whole link
-    answer_is link =
-        (λ j. if has_link plan link then waiting_fact (length (stood.is.accesses.reads link j))
-        ∷ oldest_read plan s link (stood.is.accesses.reads link j) else [])
-        ∙ ap (λ (fs : List Fact). if has_link plan link then waiting_fact (length (stood.whole.accesses.waiting link))
-        ∷ fs else [])
-        (oldest_is link (stood.whole.accesses.waiting link))
+    pub queue_is : (side : Side) (link : ℕ) → queue_read plan s side link ≡ queue_in plan stood.whole side link
+    queue_is side link = λ j.
+        queue_facts (has_link plan link) (λ r. waiting_is side link r j)
+        (stood.is.accesses.reads (record { side = side; line = link }) j)
 
     -- ---- forwards
 
     first_is : (end : PortName) (xs : List HopTlp) → first_read plan s end xs ≡ first_tlp_facts plan stood.whole end xs
     first_is end [] = refl
-    first_is end (x ∷ xs) = sending_is plan s h stood (known plan s links h stood) (stand plan s links whole h stood)
+    first_is end (x ∷ xs) = sending_is plan s h stood (known plan s links h stood) (numbered plan s links h stood)
+        (stand plan s links whole h stood)
         end (outgoing_at plan end x.bytes)
 
     abbrev waits : ℕ → Direction → List HopTlp → List Fact

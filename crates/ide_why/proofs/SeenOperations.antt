@@ -23,16 +23,25 @@ use Rattle.machine_operations.specs.{find, is_live_at, port_at, ports_of}
 use Rattle.spec_stream.specs.Slots.{is_live_slot, slots_at}
 use Rattle.spec_stream.specs.Stream.{LaneSlot, Empty, Programmed, Armed, Live, LaneSlots, StreamState, slot_in_set}
 use Rattle.sub_stream.specs.Facts.{lane_seen, set_facts, slot_facts, stream_facts}
-use Rattle.why_facts.specs.declared.fact.Fact.{Fact}
-use Rattle.why_facts.specs.declared.fact.Fact.TheVariants as fact
-use Rattle.why_facts.specs.declared.fact.OperationFact.TheVariants as of
-use Rattle.why_facts.specs.Exchanges.{key_exchanges}
+use Rattle.told_facts.specs.declared.fact.Fact.{Fact}
+use Rattle.told_facts.specs.declared.fact.Fact.TheVariants as fact
+use Rattle.told_facts.specs.declared.fact.OperationFact.TheVariants as of
+use Rattle.told_facts.specs.Exchanges.{key_exchanges}
 use Rattle.why_facts.specs.Forms.{exchange_facts, open_facts, opens_facts, refuses_fact, refusing_facts}
 use Rattle.world.specs.{WholeLinks}
 use Rattle.why_facts.specs.declared.appends.places.Place.{Place}
-use Rattle.why_facts.specs.{is_last_seen, is_live_seen, key_place, open_seen, seen_place_at, set_seen}
-use Rattle.ide_why.specs.Facts.{exchanges_read, opens_read, opens_seen, refusal_facts, state_of_whole}
-use Rattle.ide_why.specs.Places.{first_refusing, if_refusing, is_refusing, place_or, refuses_seen, refusing_on_line}
+use Rattle.why_facts.specs.{
+  is_last_seen,
+  is_live_seen,
+  key_place,
+  open_seen,
+  opens_seen,
+  refuses_seen,
+  seen_place_at,
+  set_seen,
+}
+use Rattle.ide_why.specs.Facts.{exchanges_read, opens_read, refusal_facts, state_of_whole}
+use Rattle.ide_why.specs.Places.{first_refusing, if_refusing, is_refusing, place_or, refusing_on_line}
 use Rattle.ide_why.specs.Places.{refusing_or_next, lane_sets}
 use Rattle.ide_why.specs.Reading.{stream_read}
 

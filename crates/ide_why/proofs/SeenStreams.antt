@@ -4,7 +4,7 @@ use Rattle.ide_types.specs.declared.sub.SubKind.{SubKind}
 use Rattle.ide_types.specs.declared.sub.SubKind.TheVariants.{Pr, Npr, Cpl}
 use Rattle.spec_stream.specs.Stream.{LaneSlot, Empty, Programmed, Armed, Live, StreamState, LaneSlots}
 use Rattle.sub_stream.specs.Facts.{set_facts as sets_of, slot_facts, stream_facts}
-use Rattle.why_facts.specs.declared.fact.Fact.{Fact}
+use Rattle.told_facts.specs.declared.fact.Fact.{Fact}
 use Rattle.why_facts.specs.Forms.{counts_facts, each_looked_at, posted_fact, facts_of_sets, state_fact, total_facts}
 use Rattle.why_facts.specs.Kept.{receiver_fact_list, sender_facts_of, set_state_of_slot}
 use Rattle.spec_stream.specs.Slots.{stream_status}

@@ -2,11 +2,12 @@
 use Rattle.std.specs.Prelude.{ℕ, Bool, not, if◌then◌else◌, List, [], ◌∷◌, ◌++◌, length, Option, Some, None, Result}
 use Rattle.std.specs.Prelude.{Ok, Err}
 use Rattle.std.specs.List.{slice_index_or}
+use Rattle.std.specs.Option.{option_map}
 use Rattle.ide_types.specs.{is_hosted, is_link_line}
 use Rattle.ide_types.specs.declared.direction.Direction.{Direction}
 use Rattle.ide_types.specs.declared.port.PortName.{PortName}
-use Rattle.ide_types.specs.declared.port.Side.TheVariants.{Host}
-use Rattle.ide_types.specs.declared.sub.SubKind.TheVariants.{Pr, Npr, Cpl}
+use Rattle.ide_types.specs.declared.port.Side.{Side}
+use Rattle.ide_types.specs.declared.port.Side.TheVariants.{Host, Device}
 use Rattle.ide_types.specs.Ports.{host_port}
 use Rattle.ide_types.specs.declared.plan.Plan.{Plan}
 use Rattle.ide_types.specs.declared.interface.InterfacePlan.{InterfacePlan}
@@ -40,24 +41,25 @@ use Rattle.machine_operations.specs.{LinkState, find_op, machine_status}
 use Rattle.sub_stream.specs.declared.facts.StreamFacts.{StreamFacts}
 use Rattle.sub_stream.specs.Facts.{lane_seen}
 use Rattle.machine_whole.specs.Machine.{arrival_of, op_or_idle}
-use Rattle.why_facts.specs.declared.fact.Fact.{Fact}
-use Rattle.why_facts.specs.declared.fact.InterfaceFact.TheVariants as face
-use Rattle.why_facts.specs.declared.fact.OperationFact.TheVariants as of
-use Rattle.why_facts.specs.declared.fact.Fact.TheVariants as fact
+use Rattle.told_facts.specs.declared.fact.Fact.{Fact}
+use Rattle.told_facts.specs.declared.fact.InterfaceFact.TheVariants as face
+use Rattle.told_facts.specs.declared.fact.OperationFact.TheVariants as of
+use Rattle.told_facts.specs.declared.fact.Fact.TheVariants as fact
 use Rattle.why_facts.specs.Due.{sets_own_t}
 use Rattle.why_facts.specs.Forms.{Readings, arrives_fact, at_port, clears_fact, draw_fact, draws_fact, manager_fact}
-use Rattle.why_facts.specs.Forms.{may_go, memory_facts, packets_fact, peer_facts, pool_of, read_fact, refuses_fact}
-use Rattle.why_facts.specs.Forms.{sends_fact, shown_facts, state_fact, takes_facts, unit_facts, waiting_fact}
+use Rattle.why_facts.specs.Forms.{may_go, memory_facts, packets_fact, peer_facts, pool_of, queue_facts, read_fact}
+use Rattle.why_facts.specs.Forms.{refuses_fact, response_facts, sends_fact, shown_facts, state_fact, takes_facts}
+use Rattle.why_facts.specs.Forms.{unit_facts, waiting_fact}
 use Rattle.why_facts.specs.Kept.{if_found}
-use Rattle.why_facts.specs.Exchanges.{interface_exchanges, key_exchanges}
+use Rattle.told_facts.specs.Exchanges.{interface_exchanges, interface_planned, key_exchanges}
 use Rattle.world.specs.{WholeLinks, carried_on_link, links_state, peer_live, reads_at}
 use Rattle.why_facts.specs.declared.appends.faces.FaceSeen.{FaceSeen}
 use Rattle.why_facts.specs.declared.appends.places.Place.{Place}
-use Rattle.why_facts.specs.{face_seen, is_live_seen, key_place, open_seen, receiver_seen, reported_seen}
-use Rattle.why_facts.specs.{sender_seen, senders_seen, set_seen}
+use Rattle.why_facts.specs.{completion_seen, face_seen, is_live_seen, key_place, opens_seen, receiver_seen}
+use Rattle.why_facts.specs.{reported_seen, senders_seen, set_seen}
 use Rattle.ide_why.specs.Places.{refusing_on_line}
 use Rattle.ide_why.specs.Reading.{bindings_read, face_read, held_read, owner_face, requester_read, statuses_read}
-use Rattle.ide_why.specs.Reading.{stream_read, device_interface_read, interface_planned}
+use Rattle.ide_why.specs.Reading.{stream_read, device_interface_read}
 
 abbrev pub state_of_whole : Plan → WholeLinks → LinkState
 state_of_whole plan s = links_state plan s.links
@@ -94,7 +96,8 @@ sent_facts plan s port bytes =
 abbrev pub readings_read : WholeLinks → Readings
 readings_read s = record {
   known = λ link requester. known_read (requester_read s link requester);
-  waiting = λ link. length (reads_at s.accesses link);
+  numbered = λ link requester. option_map (λ (f : FaceSeen). f.number) (requester_read s link requester);
+  waiting = λ port. length (reads_at s.accesses port);
   statuses = statuses_read s;
 }
 
@@ -163,9 +166,6 @@ establish_read plan s line stream =
     let st = state_of_whole plan s in
     if_found (find_op plan st line stream) (λ q. manager_fact q ∷ draws_fact st.draws (pool_of plan)
     ∷ exchanges_read plan s op.Establish line stream q)
-
-abbrev pub opens_seen : Option StreamFacts → Bool → List Fact
-opens_seen f set = open_seen f set Pr ++ open_seen f set Npr ++ open_seen f set Cpl
 
 -- at the host's port, where a refresh begins
 abbrev pub opens_read : Plan → WholeLinks → ℕ → ℕ → StreamStage → List Fact
@@ -237,21 +237,23 @@ asked_by_number plan s e (Some i) = asked_by_face plan s e (face_read s i)
 
 abbrev pub completion_read : Option StreamFacts → List Fact
 completion_read None = []
-completion_read (Some f) = state_fact f.status ∷ sender_seen f Cpl
+completion_read (Some f) = completion_seen f
 
 abbrev pub reader_read : Plan → WholeLinks → Option FaceSeen → List Fact
 reader_read plan s None = []
 reader_read plan s (Some f) =
     face_seen f ++ completion_read (stream_read plan s (host_port f.manager.link) f.manager.stream)
 
-abbrev pub oldest_read : Plan → WholeLinks → ℕ → List WaitingRead → List Fact
-oldest_read plan s link [] = []
-oldest_read plan s link (r ∷ rs) = read_fact r.draw ∷ reader_read plan s (requester_read s link r.read.requester)
+abbrev pub waiting_read : Plan → WholeLinks → Side → ℕ → WaitingRead → List Fact
+waiting_read plan s Host link r =
+    read_fact r.came.draw ∷ reader_read plan s (requester_read s link r.read.requester)
+waiting_read plan s Device link r =
+    response_facts plan (readings_read s) link r (completion_read (stream_read plan s r.came.end r.came.stream))
 
-abbrev pub answer_read : Plan → WholeLinks → ℕ → List Fact
-answer_read plan s link =
-    if has_link plan link
-    then waiting_fact (length (reads_at s.accesses link)) ∷ oldest_read plan s link (reads_at s.accesses link) else []
+abbrev pub queue_read : Plan → WholeLinks → Side → ℕ → List Fact
+queue_read plan s side link =
+    queue_facts (has_link plan link) (waiting_read plan s side link)
+    (reads_at s.accesses (record { side = side; line = link }))
 
 abbrev pub first_read : Plan → WholeLinks → PortName → List HopTlp → List Fact
 first_read plan s end [] = []
@@ -298,7 +300,8 @@ facts_read plan s (event.Refresh line stream loss) = refresh_read plan s line st
 facts_read plan s (event.Stop line stream loss) = stop_read plan s line stream
 facts_read plan s (event.Status line stream) = status_read plan s line stream
 facts_read plan s (event.Interface e) = asked_by_number plan s e (number_in e)
-facts_read plan s (event.Access (ae.Answer link)) = answer_read plan s link
+facts_read plan s (event.Access (ae.Answer link)) = queue_read plan s Host link
+facts_read plan s (event.Access (ae.Respond link)) = queue_read plan s Device link
 facts_read plan s (event.Access (ae.Mmio interface bar offset len)) = shown_read s interface bar
 facts_read plan s (event.Forward link d) = forward_read plan s link d
 facts_read plan s (event.Reset link ends) = if has_link plan link then reset_read plan s ends else []

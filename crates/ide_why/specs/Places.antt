@@ -13,7 +13,7 @@ use Rattle.sub_stream.specs.declared.facts.StreamFacts.{StreamFacts}
 use Rattle.sub_stream.specs.Facts.{lane_seen}
 use Rattle.world.specs.{WholeLinks}
 use Rattle.why_facts.specs.declared.appends.places.Place.{Place}
-use Rattle.why_facts.specs.{is_last_seen, key_place, seen_place_at}
+use Rattle.why_facts.specs.{key_place, refuses_seen, seen_place_at}
 use Rattle.ide_why.specs.Reading.{stream_read}
 
 abbrev pub lane_sets : Place → StreamFacts → SetFacts
@@ -21,9 +21,6 @@ lane_sets p f = if p.sends then (lane_seen f p.sub).sender.sets else (lane_seen 
 
 abbrev pub sets_at : Plan → WholeLinks → Place → Option SetFacts
 sets_at plan s p = option_map (lane_sets p) (stream_read plan s (record { side = p.side; line = p.line }) p.stream)
-
-abbrev pub refuses_seen : Bool → SetFacts → Bool
-refuses_seen set sets = if set then is_last_seen sets.one sets.zero else is_last_seen sets.zero sets.one
 
 -- it has a KEY_PROG of this set from an exchange on, which it refuses
 abbrev pub is_refusing : Plan → WholeLinks → Operation → Bool → ℕ → Place → Bool

@@ -1,11 +1,9 @@
 -- What is read of a world.
-use Rattle.std.specs.Prelude.{ℕ, ◌-◌, nat_lt, Bool, if◌then◌else◌, List, [], ◌∷◌, length, Option, Some, None, slice_get}
+use Rattle.std.specs.Prelude.{ℕ, Bool, List, [], Option, Some, None, slice_get}
 use Rattle.std.specs.Option.{option_and_then, option_map, option_map_or}
 use Rattle.ide_types.specs.declared.port.PortName.{PortName}
 use Rattle.ide_types.specs.declared.sub.SubKind.{SubKind}
 use Rattle.ide_types.specs.declared.plan.Plan.{Plan}
-use Rattle.ide_types.specs.declared.plan.LinkPlan.{LinkPlan}
-use Rattle.ide_types.specs.declared.interface.InterfacePlan.{InterfacePlan}
 use Rattle.ide_port.specs.Facts.{held_by}
 use Rattle.ide_prefix.specs.Packet.{Packet}
 use Rattle.guarded_memory.specs.declared.status.InterfaceStatus.{InterfaceStatus}
@@ -67,10 +65,3 @@ statuses_read s link = statuses_of_ends (slice_get s.links.ends.links link) (sli
 -- the packets of the next unit of a sub-stream that its receiver at an end holds in a key set
 abbrev pub held_read : Plan → WholeLinks → PortName → ℕ → SubKind → Bool → List Packet
 held_read plan s end stream u k = option_map_or (held_by u k) (find plan (links_state plan s.links) end stream) []
-
--- the interface of a number over all these links, as it is laid out
-abbrev pub interface_planned : List LinkPlan → ℕ → Option InterfacePlan
-interface_planned [] i = None
-interface_planned (l ∷ ls) i =
-    if nat_lt i (length l.interfaces) then slice_get l.interfaces i
-    else interface_planned ls (i - length l.interfaces)

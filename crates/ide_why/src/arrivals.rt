@@ -17,19 +17,8 @@ use ide_types::{OutOfMemory, PortName, SubKind};
 use line_routes::{goes_through, partner, reached};
 use std::alloc::Global;
 use sub_stream::{Delivered, StreamFacts};
-use why_facts::{
-    Fact, StreamFact, arrives_fact, is_live, push, push_port, push_receiver, push_status,
-};
-
-// A copy of the bytes, with the one at `at` combined with `mask`.
-fn altered(alloc: Global, bytes: &[u8], at: usize, mask: u8) -> Result<Vec<u8>, OutOfMemory>
-    requires { at < length bytes.now }
-    ensures { IfOk result (λ copy. copy.items ≡ slice_set bytes.now at (bit_xor (slice_index bytes.now at) mask)) }
-{
-    let mut copy = Vec::from_slice(alloc, bytes)?;
-    copy[at] ^= mask;
-    Ok(copy)
-}
+use told_facts::{Fact, StreamFact, push};
+use why_facts::{altered, arrives_fact, is_live, push_port, push_receiver, push_status};
 
 impl Reader<'_> {
     // The packets of the next unit of a sub-stream that its receiver at an end holds in a key set.
@@ -133,7 +122,7 @@ impl Reader<'_> {
         ensures { IfOk result (λ _. facts.new.items ≡ facts.old.items ++ sealed_facts self.now.plan.now
             self.now.links.now) }
     {
-        let packets = self.packets() as u64;
+        let packets = self.links.links.packets.count() as u64;
         push(
             facts,
             Fact::Stream {

@@ -7,12 +7,13 @@ ghost use Rattle.world.specs.{IsWorld, WorldStandsFor};
 ghost use Rattle.ide_why.specs.Facts.{arrived_facts, facts_read, sent_facts};
 
 use crate::reader::Reader;
-use ide_types::{OutOfMemory, PortName};
+use ide_types::{OutOfMemory, PortName, Side};
 use line_routes::{has_port, may_send, sealing_end};
 use script_events::{AccessEvent, Event};
 use std::alloc::Global;
 use tlp_layout::OutgoingTlp;
-use why_facts::{Fact, facts_stand};
+use told_facts::Fact;
+use why_facts::facts_stand;
 use world::World;
 
 impl Reader<'_> {
@@ -84,7 +85,10 @@ impl Reader<'_> {
             Event::Interface { event } => self.push_asked(alloc, facts, event),
             Event::Access {
                 event: AccessEvent::Answer { link },
-            } => self.push_answer(facts, *link),
+            } => self.push_queue(facts, Side::Host, *link),
+            Event::Access {
+                event: AccessEvent::Respond { link },
+            } => self.push_queue(facts, Side::Device, *link),
             Event::Access {
                 event: AccessEvent::Mmio { interface, bar, .. },
             } => self.push_shown(facts, *interface, *bar),

@@ -10,10 +10,12 @@ mod operations;
 mod peers;
 mod places;
 mod reader;
+mod reads;
 mod requests;
 mod resets;
 mod sends;
 
 pub use events::facts;
-pub use why_facts::{Fact, why_text};
+pub use told_facts::Fact;
+pub use why_facts::why_text;
 pub use world::World;

@@ -4,9 +4,10 @@ ghost use Rattle.std.specs.Prelude.{◌≡◌, ◌∷◌, ◌++◌, ◌<◌, [],
 ghost use Rattle.ide_types.specs.Ports.{host_port};
 ghost use Rattle.machine_operations.specs.{machine_status};
 ghost use Rattle.key_host.specs.Facts.{op_seen};
-ghost use Rattle.why_facts.specs.Forms.{draws_fact, pool_of};
+ghost use Rattle.why_facts.specs.{opens_seen};
+ghost use Rattle.why_facts.specs.Forms.{state_fact};
 ghost use Rattle.world.specs.{IsWorld};
-ghost use Rattle.ide_why.specs.Facts.{establish_read, exchanges_read, opens_read, opens_seen, refresh_read};
+ghost use Rattle.ide_why.specs.Facts.{establish_read, exchanges_read, opens_read, refresh_read};
 ghost use Rattle.ide_why.specs.Facts.{state_of_whole, status_read, stop_read};
 ghost use Rattle.ide_why.specs.Reading.{stream_read};
 
@@ -15,9 +16,10 @@ use event_verdicts::Operation;
 use ide_types::{OutOfMemory, PortName, Side, StreamStatus, SubKind};
 use key_host::StageFacts;
 use std::alloc::Global;
+use told_facts::{ExchangesLeft, Fact, OperationFact, key_draw, push_key_exchanges};
 use why_facts::{
-    ExchangesLeft, Fact, OperationFact, first_exchange, key_draw, key_set, last_exchange, may_go,
-    push_key_exchanges, push_manager, push_of_operation, push_open, push_status,
+    first_exchange, key_set, last_exchange, may_go, push_draws, push_manager, push_of_operation,
+    push_opens, push_status,
 };
 
 impl Reader<'_> {
@@ -36,11 +38,7 @@ impl Reader<'_> {
         let side = Side::Host;
         match self.stream(PortName { side, line }, stream) {
             None => Ok(()),
-            Some(seen) => {
-                push_open(facts, &seen, set, SubKind::Pr)?;
-                push_open(facts, &seen, set, SubKind::Npr)?;
-                push_open(facts, &seen, set, SubKind::Cpl)
-            }
+            Some(seen) => push_opens(facts, &seen, set),
         }
     }
 
@@ -56,21 +54,6 @@ impl Reader<'_> {
             }
             _ => Ok(()),
         }
-    }
-
-    /// Appends how many of the pool's draws were made.
-    pub fn push_draws(&self, facts: &mut Vec<Fact>) -> Result<(), OutOfMemory>
-        ensures { IfOk result (λ _. facts.new.items ≡ facts.old.items ++ draws_fact
-            (state_of_whole self.now.plan.now self.now.links.now).draws (pool_of self.now.plan.now) ∷ []) }
-    {
-        let pool = self.plan.plan().pool.as_slice().len() as u64 / 6;
-        push_of_operation(
-            facts,
-            OperationFact::Draws {
-                made: u64::from(self.draws()),
-                pool,
-            },
-        )
     }
 
     // Appends the exchanges that are left to an operation, the first that an end refuses, and each with its messages.
@@ -116,15 +99,19 @@ impl Reader<'_> {
         }
     }
 
-    /// The status of a stream at the host's port, Idle if there is none.
-    pub fn host_status(&self, line: u8, stream: u8) -> StreamStatus
+    /// Appends the status of a stream at the host's port, Idle if there is none.
+    pub fn push_host_status(
+        &self,
+        facts: &mut Vec<Fact>,
+        line: u8,
+        stream: u8,
+    ) -> Result<(), OutOfMemory>
         requires { IsWorld self.now.plan.now self.now.links.now }
-        ensures { result ≡ machine_status self.now.plan.now (state_of_whole self.now.plan.now self.now.links.now)
-            Side.Host line
-            stream }
+        ensures { IfOk result (λ _. facts.new.items ≡ facts.old.items ++ state_fact (machine_status self.now.plan.now
+            (state_of_whole self.now.plan.now self.now.links.now) Side.Host line stream) ∷ []) }
     {
         let side = Side::Host;
-        self.status(PortName { side, line }, stream)
+        push_status(facts, self.status(PortName { side, line }, stream))
     }
 
     /// Appends the facts of an establish.
@@ -143,7 +130,7 @@ impl Reader<'_> {
             None => Ok(()),
             Some(seen) => {
                 push_manager(facts, seen.stage)?;
-                self.push_draws(facts)?;
+                push_draws(facts, self.plan, self.draws())?;
                 self.push_exchanges(alloc, facts, Operation::Establish, seen)
             }
         }
@@ -166,8 +153,8 @@ impl Reader<'_> {
             None => Ok(()),
             Some(seen) => {
                 push_manager(facts, seen.stage)?;
-                push_status(facts, self.host_status(seen.line, seen.stream))?;
-                self.push_draws(facts)?;
+                self.push_host_status(facts, seen.line, seen.stream)?;
+                push_draws(facts, self.plan, self.draws())?;
                 self.push_opens(facts, seen)?;
                 self.push_exchanges(alloc, facts, Operation::Refresh, seen)
             }

@@ -14,9 +14,9 @@ ghost use Rattle.ide_why.specs.Reading.{bindings_read, device_interface_read};
 use crate::reader::Reader;
 use ide_types::{FIRST_PEER_LINE, OutOfMemory};
 use interface_state::Interface;
+use told_facts::{Fact, ManagerState, OperationFact};
 use why_facts::{
-    FaceSeen, Fact, InterfaceFact, ManagerState, OperationFact, manager_state, push_bar_if_there,
-    push_draw, push_live, push_of_interface, push_of_operation, push_takes,
+    FaceSeen, manager_state, push_draw, push_live, push_of_operation, push_shown, push_takes,
 };
 
 impl Reader<'_> {
@@ -27,15 +27,10 @@ impl Reader<'_> {
     {
         match self.links.links.interface(number) {
             None => None,
-            Some((link, place)) => Some(
-                self.links
-                    .links
-                    .ends
-                    .link(link)
-                    .device
-                    .interfaces
-                    .interface(place),
-            ),
+            Some((link, place)) => {
+                let device = &self.links.links.ends.link(link).device;
+                Some(device.interfaces.interface(place))
+            }
         }
     }
 
@@ -111,12 +106,8 @@ impl Reader<'_> {
             seen.now.manager.link line stream
             then takes_facts (bindings_read self.now.links.now seen.now.number) else [])) }
     {
-        if self
-            .links
-            .links
-            .ends
-            .has_peer(seen.manager.link, line, stream)
-        {
+        let link = seen.manager.link;
+        if self.links.links.ends.has_peer(link, line, stream) {
             self.push_bindings(facts, seen.number)
         } else {
             Ok(())
@@ -137,17 +128,7 @@ impl Reader<'_> {
     {
         match self.device(number) {
             None => Ok(()),
-            Some(interface) => {
-                push_of_interface(
-                    facts,
-                    InterfaceFact::Interface {
-                        interface: number as u8,
-                        state: interface.state(),
-                    },
-                )?;
-                let bars = interface.bars();
-                push_bar_if_there(facts, &bars, bar)
-            }
+            Some(interface) => push_shown(facts, number as u8, interface, bar),
         }
     }
 }

@@ -10,12 +10,9 @@ ghost use Rattle.ide_why.specs.Places.{first_refusing, is_refusing, refusing_on_
 use crate::reader::{Reader, StageSeen};
 use event_verdicts::Operation;
 use ide_types::{OutOfMemory, PortName, Side, SubKind};
-use line_routes::port_of;
 use sub_stream::SetFacts;
-use why_facts::{
-    Fact, OperationFact, Place, first_exchange, is_last, key_set, place_at, program_at,
-    push_of_operation,
-};
+use told_facts::{Fact, push};
+use why_facts::{Place, first_exchange, key_set, place_at, program_at, refuses, refuses_fact};
 
 impl Reader<'_> {
     // What both key sets hold at a place; `None` if there is no such stream.
@@ -47,14 +44,7 @@ impl Reader<'_> {
     {
         match self.sets(place) {
             None => false,
-            Some(sets) => {
-                let (slot, other) = if set {
-                    (sets.one, sets.zero)
-                } else {
-                    (sets.zero, sets.one)
-                };
-                u64::from(first) <= program_at(operation, place) && is_last(slot, other)
-            }
+            Some(sets) => { u64::from(first) <= program_at(operation, place) && refuses(set, sets) }
         }
     }
 
@@ -139,19 +129,7 @@ impl Reader<'_> {
         let first = first_exchange(operation, seen.stage);
         match self.refusing_on_line(operation, set, first, seen.line, seen.stream) {
             None => Ok(()),
-            Some(place) => {
-                let end = PortName {
-                    side: place.side,
-                    line: place.line,
-                };
-                let refuses = OperationFact::Refuses {
-                    exchange: program_at(operation, place),
-                    port: port_of(self.plan, end),
-                    sends: place.sends,
-                    sub: place.sub,
-                };
-                push_of_operation(facts, refuses)
-            }
+            Some(place) => push(facts, refuses_fact(self.plan, operation, place)),
         }
     }
 }

@@ -1,6 +1,6 @@
 //! A world as it is read.
 
-ghost use Rattle.std.specs.Prelude.{◌≡◌, IfSome, length};
+ghost use Rattle.std.specs.Prelude.{◌≡◌, IfSome};
 ghost use Rattle.std.specs.Option.{option_map};
 ghost use Rattle.machine_operations.specs.{find_op};
 ghost use Rattle.key_host.specs.Facts.{op_seen};
@@ -70,13 +70,6 @@ impl Reader<'_> {
         self.links.links.keeper.keys.draws()
     }
 
-    /// How many packets were sealed.
-    pub fn packets(&self) -> usize
-        ensures { result ≡ length (links_state self.now.plan.now self.now.links.now.links).packets }
-    {
-        self.links.links.packets.count()
-    }
-
     /// The interface of a number; `None` if there is none.
     pub fn face(&self, number: u64) -> Option<FaceSeen>
         requires { IsWorld self.now.plan.now self.now.links.now }
@@ -84,17 +77,14 @@ impl Reader<'_> {
     {
         match self.links.links.interface(number) {
             None => None,
-            Some((link, place)) => Some(FaceSeen {
-                number: number as u8,
-                state: self.links.links.ends.link(link).device.state(place),
-                manager: self
-                    .links
-                    .links
-                    .keeper
-                    .interfaces
-                    .manager()
-                    .facts(number as usize),
-            }),
+            Some((link, place)) => {
+                let manager = self.links.links.keeper.interfaces.manager();
+                Some(FaceSeen {
+                    number: number as u8,
+                    state: self.links.links.ends.link(link).device.state(place),
+                    manager: manager.facts(number as usize),
+                })
+            }
         }
     }
 

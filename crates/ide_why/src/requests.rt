@@ -6,8 +6,8 @@ ghost use Rattle.ide_prefix.specs.Packet.{HasTlp};
 ghost use Rattle.ide_types.specs.declared.port.Side.TheVariants.{Device, Host};
 ghost use Rattle.guarded_memory.specs.{claim_of};
 ghost use Rattle.spec_links.specs.Ports.{port_of as port_of_end};
-ghost use Rattle.why_facts.specs.Forms.{claim_facts, device_facts, host_facts, known_to, request_facts};
-ghost use Rattle.why_facts.specs.Forms.{requester_at, requests_facts, unit_facts};
+ghost use Rattle.why_facts.specs.Forms.{claim_facts, claimed_facts, claimed_read_facts, device_facts, host_facts};
+ghost use Rattle.why_facts.specs.Forms.{known_to, request_facts, requests_facts, unit_facts};
 ghost use Rattle.world.specs.{IsWorld, reads_at};
 ghost use Rattle.ide_why.specs.Facts.{readings_read};
 ghost use Rattle.ide_why.specs.Reading.{statuses_read};
@@ -15,37 +15,26 @@ ghost use Rattle.ide_why.specs.Reading.{statuses_read};
 use crate::reader::Reader;
 use guarded_memory::Claim;
 use ide_prefix::PacketView;
-use ide_types::{OutOfMemory, PortName, Side, ValidPlan};
+use ide_types::{OutOfMemory, PortName, Side};
 use line_routes::{at_switch, port_of};
 use sub_stream::Delivered;
 use tlp_layout::{HeadView, owner};
+use told_facts::{Fact, InterfaceFact, push};
 use trusted_memory::{MemReadView, Span};
 use why_facts::{
-    Fact, InterfaceFact, packet_fact, push, push_adds, push_bar, push_bytes, push_face,
-    push_of_interface, push_span, push_takes,
+    packet_fact, push_adds, push_bar, push_bytes, push_face, push_of_interface, push_span,
+    push_takes, requester_at,
 };
 
-// The requester ID of the interface at a place of a link.
-fn requester_at(plan: &ValidPlan, link: u8, place: usize) -> Option<u16>
-    ensures { result ≡ requester_at plan.now link place }
-{
-    match plan.plan().links.as_slice().get(link as usize) {
-        None => None,
-        Some(link) => match link.interfaces.as_slice().get(place) {
-            None => None,
-            Some(interface) => Some(interface.requester),
-        },
-    }
-}
-
 impl Reader<'_> {
-    // How many trusted reads of a link wait.
-    fn waiting(&self, link: u8) -> u64
+    // How many reads wait at a port.
+    fn waiting(&self, port: PortName) -> u64
         requires { IsWorld self.now.plan.now self.now.links.now }
-        ensures { result ≡ length (reads_at self.now.links.now.accesses link) }
+        ensures { result ≡ length (reads_at self.now.links.now.accesses port) }
     {
-        if (link as usize) < self.links.links.ends.count() {
-            self.links.accesses.at(link).reads.waiting() as u64
+        if (port.line as usize) < self.links.links.ends.count() {
+            let accesses = self.links.accesses.at(port.line);
+            accesses.reads(port.side).waiting() as u64
         } else {
             0
         }
@@ -94,7 +83,8 @@ impl Reader<'_> {
         push_span(facts, self.plan, Span::of(head))?;
         self.push_known(facts, link, owner(head))?;
         if reads {
-            let waiting = self.waiting(link);
+            let (side, line) = (Side::Host, link);
+            let waiting = self.waiting(PortName { side, line });
             push_of_interface(facts, InterfaceFact::Waiting { waiting })?;
         }
         Ok(())
@@ -102,8 +92,8 @@ impl Reader<'_> {
 
     // ---- at a device's port
 
-    // The claim of the interfaces of a link's device on a write over these bytes.
-    fn claim(&self, link: u8, span: Span) -> Option<Claim>
+    /// The claim of the interfaces of a link's device on these bytes.
+    pub fn claim(&self, link: u8, span: Span) -> Option<Claim>
         requires { IsWorld self.now.plan.now self.now.links.now }
         ensures { result ≡ claim_of (statuses_read self.now.links.now link) span }
     {
@@ -115,7 +105,7 @@ impl Reader<'_> {
         }
     }
 
-    // Appends what claims a write.
+    // Appends what claims a request.
     fn push_claim(
         &self,
         facts: &mut Vec<Fact>,
@@ -137,7 +127,50 @@ impl Reader<'_> {
         }
     }
 
-    // Appends what a write with this header looks at that is in a packet at a place of its unit.
+    /// Appends these bytes, and what claims them.
+    pub fn push_claimed(
+        &self,
+        facts: &mut Vec<Fact>,
+        link: u8,
+        span: Span,
+        claim: Option<Claim>,
+    ) -> Result<(), OutOfMemory>
+        requires { IsWorld self.now.plan.now self.now.links.now }
+        ensures { IfOk result (λ _. facts.new.items ≡ facts.old.items ++ claimed_facts self.now.plan.now
+            (readings_read self.now.links.now) link span claim) }
+    {
+        push_bytes(facts, span)?;
+        self.push_claim(facts, link, claim)
+    }
+
+    // Appends what a read of these bytes looks at, if the device answers reads of what claims it.
+    fn push_device_read(
+        &self,
+        facts: &mut Vec<Fact>,
+        link: u8,
+        place: u64,
+        t: bool,
+        span: Span,
+    ) -> Result<(), OutOfMemory>
+        requires { IsWorld self.now.plan.now self.now.links.now }
+        ensures { IfOk result (λ _. facts.new.items ≡ facts.old.items ++ claimed_read_facts self.now.plan.now
+            (readings_read self.now.links.now) link place t span
+            (claim_of (statuses_read self.now.links.now link) span)) }
+    {
+        let Some(claim) = self.claim(link, span) else {
+            return Ok(());
+        };
+        if !claim.status.reads {
+            return Ok(());
+        }
+        push(facts, packet_fact(place, t))?;
+        self.push_claimed(facts, link, span, Some(claim))?;
+        let (side, line) = (Side::Device, link);
+        let waiting = self.waiting(PortName { side, line });
+        push_of_interface(facts, InterfaceFact::Waiting { waiting })
+    }
+
+    // Appends what a request with this header looks at that is in a packet at a place of its unit.
     fn push_asked_of_device(
         &self,
         facts: &mut Vec<Fact>,
@@ -150,13 +183,15 @@ impl Reader<'_> {
         ensures { IfOk result (λ _. facts.new.items ≡ facts.old.items ++ device_facts self.now.plan.now
             (readings_read self.now.links.now) link place t (Ok head.now)) }
     {
-        match Span::of_write(head) {
-            None => Ok(()),
-            Some(span) => {
-                push(facts, packet_fact(place, t))?;
-                push_bytes(facts, span)?;
-                self.push_claim(facts, link, self.claim(link, span))
-            }
+        match MemReadView::of(head) {
+            Some(read) => self.push_device_read(facts, link, place, t, read.span),
+            None => match Span::of_write(head) {
+                None => Ok(()),
+                Some(span) => {
+                    push(facts, packet_fact(place, t))?;
+                    self.push_claimed(facts, link, span, self.claim(link, span))
+                }
+            },
         }
     }
 

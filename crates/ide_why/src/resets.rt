@@ -9,8 +9,8 @@ ghost use Rattle.ide_why.specs.Facts.{cleared_read, reset_read, state_of_whole, 
 
 use crate::reader::Reader;
 use ide_types::{OutOfMemory, PortName, StreamPlan};
-use line_routes::port_of;
-use why_facts::{Fact, OperationFact, push_of_operation};
+use told_facts::{Fact, push};
+use why_facts::clears_fact;
 
 impl Reader<'_> {
     // Appends the state of a stream at an end that is cleared, and what the manager knows of it.
@@ -26,14 +26,8 @@ impl Reader<'_> {
             stream)
             ∷ status_read self.now.plan.now self.now.links.now end.line stream) }
     {
-        push_of_operation(
-            facts,
-            OperationFact::Clears {
-                port: port_of(self.plan, end),
-                stream,
-                status: self.status(end, stream),
-            },
-        )?;
+        let status = self.status(end, stream);
+        push(facts, clears_fact(self.plan, end, stream, status))?;
         self.push_stage(facts, u64::from(end.line), u64::from(stream))
     }
 

@@ -11,9 +11,8 @@ ghost use Rattle.ide_why.specs.Reading.{stream_read};
 use crate::reader::Reader;
 use ide_types::{OutOfMemory, PortName};
 use tlp_layout::{HeadView, OutgoingTlp};
-use why_facts::{
-    Fact, owners_link, push, push_face, push_port, push_senders, sends_fact, sets_own_t,
-};
+use told_facts::{Fact, push};
+use why_facts::{owners_link, push_face, push_port, push_senders, sends_fact, sets_own_t};
 
 impl Reader<'_> {
     // Appends the interface that owns a TLP with this header, where it sets T.

@@ -1,4 +1,4 @@
-//! The interfaces of a device.
+//! The interfaces of a device (this profile).
 
 ghost use Rattle.std.specs.Prelude.{◌≡◌, ◌+◌, ◌<◌, ◌≤◌, ◌^◌, ◌++◌, ℕ, Bool, IfOk, IfSome, IsSome, All, Some, true};
 ghost use Rattle.std.specs.Prelude.{length, map, position, slice_get, slice_set, slice_index, vec_len, vec_capacity};
@@ -27,7 +27,7 @@ use tdisp_codec::RequestView;
 pub const TDISP_REPLY_ROOM: usize = 1_200;
 
 /// The interfaces of a link's device, by their place on the link, and the nonces that it gives to locks, in order
-/// (TDISP section 11.3, in this profile).
+/// (TDISP section 11.3).
 #[derive(Drop)]
 pub struct DeviceInterfaces {
     interfaces: Vec<Interface>,
@@ -63,7 +63,7 @@ fn made(alloc: Global, plans: &[InterfacePlan]) -> Result<Vec<Interface>, OutOfM
 }
 
 /// What the interfaces of a device ask of it: whether its streams are Secure there, those of its link and those between
-/// it and others (this profile).
+/// it and others.
 pub trait StreamStates {
     /// Whether the device has the stream, and it is Secure there.
     ghost is_secure: { Self → ℕ → Bool };

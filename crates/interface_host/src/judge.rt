@@ -1,4 +1,4 @@
-//! How a reply is judged.
+//! How a reply is judged (this profile).
 
 ghost use Rattle.std.specs.Prelude.{◌≡◌, ◌+◌, ◌≤◌, length};
 ghost use Rattle.tdisp_codec.specs.Replies.{reply_shown, reply_answer, reply_reading};
@@ -11,7 +11,7 @@ use key_host::ExchangeReply;
 use tdisp_codec::{ReplyView, reply_read};
 
 /// What was carried in answer to a request: the expected reply with its value, a refusal with its code, nothing at all,
-/// or anything else (this profile).
+/// or anything else.
 #[derive(Clone, Copy, PartialEq, Eq)]
 pub(crate) enum Answer<'a> {
     Passed,
@@ -128,7 +128,7 @@ fn of_bytes<'a>(step: Step, function: u32, asked: u16, read: usize, bytes: &'a [
 }
 
 /// Judges what was carried in answer to a request of this exchange with the interface of this function ID: `asked` is
-/// the number of bytes that were asked for of a report, `read` how many were read before (this profile).
+/// the number of bytes that were asked for of a report, `read` how many were read before.
 pub(crate) fn judge<'a>(
     step: Step,
     function: u32,

@@ -1,8 +1,8 @@
-//! Operations of the manager on interfaces, and what becomes of them.
+//! Operations of the manager on interfaces, and what becomes of them (this profile).
 
 use ide_types::{StreamStatus, View};
 
-/// An operation on an interface. Each begins anew whenever it is asked for (TDISP section 11.3, and this profile).
+/// An operation on an interface. Each begins anew whenever it is asked for (TDISP section 11.3).
 #[derive(Clone, Copy, PartialEq, Eq)]
 pub enum InterfaceOperation {
     /// Locks the interface, and gets the nonce of the lock.
@@ -21,7 +21,7 @@ pub enum InterfaceOperation {
     Unbind(PeerStream),
 }
 
-/// A stream between two devices, as the manager of keys has it (this profile).
+/// A stream between two devices, as the manager of keys has it.
 #[derive(Clone, Copy, PartialEq, Eq)]
 pub struct PeerStream {
     /// Its line, from 24 on.
@@ -32,8 +32,7 @@ pub struct PeerStream {
     pub draw: u32,
 }
 
-/// The outcome of an exchange: the operation's next one is to be asked; the operation is at its end; it is over (this
-/// profile).
+/// The outcome of an exchange: the operation's next one is to be asked; the operation is at its end; it is over.
 #[derive(Clone, Copy, PartialEq, Eq)]
 pub enum InterfaceOutcome {
     Next,
@@ -60,7 +59,7 @@ pub enum InterfaceResult {
     Unbound(u8),
 }
 
-/// Why an operation does not begin, or is over before its end (this profile). Exchanges are numbered from 1.
+/// Why an operation does not begin, or is over before its end. Exchanges are numbered from 1.
 #[derive(Clone, Copy, PartialEq, Eq)]
 pub enum InterfaceRefusal {
     /// The view does not allow it.

@@ -1,4 +1,4 @@
-//! A device interface and its calls.
+//! A device interface and its calls (this profile).
 
 ghost use Rattle.std.specs.Prelude.{◌≡◌, ◌<◌, ◌≤◌, ◌^◌, ◌%◌, ◌&&◌, not, IfOk, IfSome, Some, [], false, length, true};
 ghost use Rattle.std.specs.Option.{option_copied, option_map};
@@ -22,13 +22,13 @@ use std::alloc::Global;
 use std::marker::Model;
 use tdisp_codec::{Ranges, ReportView};
 
-/// The flags that a lock may have in this profile: bits 0 to 4.
+/// The flags that a lock may have: bits 0 to 4.
 const LOCK_FLAGS: u16 = 0x001f;
 
 /// How many streams between two devices an interface can be bound to, as many as a topology has.
 const MOST_BINDINGS: usize = 8;
 
-/// A device interface (TDISP, PCI Express Base 6.0 chapter 11, in this profile): its registers, its state, the report
+/// A device interface (TDISP, PCI Express Base 6.0 chapter 11): its registers, its state, the report
 /// of the lock that stands, for which it has room from the start, and the streams between its device and others that it
 /// is bound to. No call but `make` takes memory.
 #[derive(Drop)]
@@ -73,6 +73,7 @@ fn copied(alloc: Global, plan: &InterfacePlan) -> Result<InterfacePlan, OutOfMem
         tph: plan.tph,
         pasid: plan.pasid,
         ats: plan.ats,
+        reads: plan.reads,
         info,
         bars: Items::new(bars),
     })
@@ -463,6 +464,13 @@ impl Interface {
         ensures { result ≡ self.now.plan.requester }
     {
         self.plan.requester
+    }
+
+    /// Whether its device answers memory reads of its base address registers.
+    pub fn answers_reads(&self) -> bool
+        ensures { result ≡ self.now.plan.reads }
+    {
+        self.plan.reads
     }
 
     /// The six base address registers by their number, each with its base as it stands; one that the interface has not

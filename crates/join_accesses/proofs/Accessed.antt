@@ -1,20 +1,18 @@
--- What stands at links for reads and for the memory of devices says of effects, of answers and of what is shown what
--- the machine says: the interfaces of a link stand at their places as the machine's do (`statuses_are`), a reader's
--- interface is that of the manager (`reader_is`), and a completion has the same bytes and takes the same stream.
+-- What stands at links for reads and for the memory of devices says of effects and of what is shown what the machine
+-- says: the interfaces of a link stand at their places as the machine's do (`statuses_are`), and a reader's interface
+-- is that of the manager (`reader_is`).
 use Rattle.std.proofs.Common.{◌≡◌, ℕ, ◌+◌, ◌<◌, ◌≤◌, ◌==◌, ◌&&◌, ◌∷◌, zero, suc, Bool, true, false, List, [], length}
 use Rattle.std.proofs.Common.{refl, sym, ap, ◌∙◌, arith, Option, Some, None, ⊎_elim, ◌⊎◌}
-use Rattle.std.proofs.lemmas.Bool.{cases_lt, cases_Bool, eqb-true, eq-eqb, ne_eqb, and_parts, and_from, lt-ltb}
-use Rattle.std.proofs.lemmas.Bool.{le-leb, le-ltb}
+use Rattle.std.proofs.lemmas.Bool.{cases_lt, cases_Bool, eqb-true, eq-eqb, ne_eqb, and_parts, and_from}
+use Rattle.std.proofs.lemmas.Bool.{le-leb}
 use Rattle.std.proofs.lemmas.Option.{none-some, same_Some, slice_get-map, slice_get_within, slice_get_past}
 use Rattle.std.specs.Option.{option_map, option_map_or, option_and_then}
-use Rattle.std.specs.Prelude.{◌*◌, drop, find, map, slice_get, slice_index, unwrap_or, if◌then◌else◌, Err}
+use Rattle.std.specs.Prelude.{◌*◌, drop, find, map, slice_get, slice_index, unwrap_or, if◌then◌else◌}
 use Rattle.ide_types.specs.Fits.{FitsPlan}
-use Rattle.ide_types.specs.declared.binding.Binding.{Binding}
 use Rattle.ide_types.specs.declared.interface.InterfacePlan.{InterfacePlan}
 use Rattle.ide_types.specs.declared.plan.LinkPlan.{LinkPlan}
 use Rattle.ide_types.specs.declared.plan.Plan.{Plan}
 use Rattle.event_verdicts.specs.declared.verdict.Verdict.{Verdict}
-use Rattle.event_verdicts.specs.declared.verdict.Verdict.TheVariants as v
 use Rattle.interface_state.specs.Machine.{DeviceTdi}
 use Rattle.interface_host.specs.Managers.{interface_of_requester}
 use Rattle.interface_host.specs.Views.{HostTdi, is_requester as is_reader}
@@ -23,26 +21,20 @@ use Rattle.guarded_memory.specs.Statuses.{interface_status}
 use Rattle.guarded_memory.specs.Contents.{page_counts, fits_range, has_bytes}
 use Rattle.guarded_memory.specs.Happenings.{byte_shown}
 use Rattle.trusted_memory.specs.{MemoryContents, bytes_from}
-unfoldable use Rattle.trusted_memory.specs.{byte_last_written, completion_bytes}
-use Rattle.trusted_memory.specs.declared.queue.WaitingRead.{WaitingRead}
-use Rattle.tlp_layout.specs.Outgoing.{outgoing_of, stream_taken}
 use Rattle.spec_interfaces.specs.Sites.{Site, sites, site_of_requester, site_at}
 use Rattle.spec_interfaces.specs.Floors.{place_of, interfaces_before}
-use Rattle.machine_whole.specs.Interfaces.{Face, grant_of}
+use Rattle.machine_whole.specs.Interfaces.{Face}
 use Rattle.spec_links.specs.Guarded.{mmio_if, mmio_shown, mmio_by_happenings}
-use Rattle.machine_ports.specs.Replies.{completion_by, site_completion, completion_first}
-use Rattle.join_world.specs.{host_stream, interface_named, InterfacesView, IsLink, judged_bound}
-use Rattle.join_world.specs.{LinkEnds, mmio_at, reader_of, reads_at, completion_with_bytes, reply_at_ends}
-use Rattle.join_world.specs.{reply_numbered, reply_oldest, sizes_at, small_number, statuses_of_ends}
+use Rattle.join_world.specs.{interface_named, InterfacesView, LinkEnds, mmio_at, reader_of, sizes_at, small_number}
+use Rattle.join_world.specs.{statuses_of_ends}
 use Rattle.link_stores.specs.declared.link.LinkAccesses.{LinkAccesses}
 use Rattle.link_stores.specs.{device_statuses}
 use Rattle.link_stores.specs.Accesses.{numbered_statuses}
 use Rattle.machine_whole.specs.Accesses.{face_statuses}
-use Rattle.machine_whole.specs.Machine.{Whole, completion_from_memory, machine_completion}
+use Rattle.machine_whole.specs.Machine.{Whole}
 use Rattle.spec_interfaces.proofs.Floors.{planned_on}
 use Rattle.join_world.specs.Accesses.{AreAccesses, link_seen, on_link}
 use Rattle.join_world.specs.Whole.{IsPlaced, IsBeside}
-use Rattle.join_world.proofs.Besides.{grant_is}
 use Rattle.join_accesses.proofs.OnLinks.{list_same, on_link_at, on_link_past}
 use Rattle.join_world.proofs.Places.{get_there, position_at, position_none, site_or_none, IsSomeSite}
 use Rattle.join_world.proofs.Places.{site_planned, site_numbered, site_apart, sites_few}
@@ -238,7 +230,7 @@ module _ (plan : Plan) (ends : List LinkEnds) (m : InterfacesView) (memory : Mem
 
   module _ (xs : List LinkAccesses) (whole : length xs ≡ length ends)
       (accesses : AreAccesses plan (link_seen xs) w.accesses) where
-    statuses_there : (link : ℕ) (l : LinkEnds) (a : LinkAccesses) → slice_get ends link ≡ Some l → slice_get xs link
+    pub statuses_there : (link : ℕ) (l : LinkEnds) (a : LinkAccesses) → slice_get ends link ≡ Some l → slice_get xs link
         ≡ Some a → device_statuses a.floors l.device.interfaces
         ≡ face_statuses link (sites plan) w.faces.list w.accesses.floors
     statuses_there link l a is at =
@@ -275,7 +267,7 @@ module _ (plan : Plan) (ends : List LinkEnds) (m : InterfacesView) (memory : Mem
         ∙ statuses_nowhere link le)
         (cases_lt link (length ends))
 
-    -- ---- answers
+    -- ---- who reads
 
     reader_known : (link requester place : ℕ) (x : Site) → slice_get (sites plan) place ≡ Some x
         → reads_there link requester x ≡ true → interface_of_requester m link requester ≡ Some place
@@ -368,103 +360,53 @@ module _ (plan : Plan) (ends : List LinkEnds) (m : InterfacesView) (memory : Mem
             )))
             (λ not_so. not_so) cases
 
-    module _ (each_link : (link : ℕ) (l : LinkEnds) → slice_get ends link ≡ Some l → IsLink plan link l) where
-      judged_is : (link : ℕ) (l : LinkEnds) (interface draw : ℕ) (bytes : List ℕ) (bound : Option Binding)
-          → slice_get ends link ≡ Some l
-          → completion_with_bytes (judged_bound (host_stream l bytes) interface draw bound) bytes
-          ≡ completion_by plan link interface draw bytes bound
-      judged_is link l interface draw bytes bound is =
-          let e = each_link link l is in
-          (λ i. completion_with_bytes (judged_bound
-          (stream_taken (outgoing_of (e.host.plans i) (e.host.name i).side bytes)) interface draw bound) bytes)
+    -- ---- what is shown
 
-      numbered_is : (link : ℕ) (l : LinkEnds) (r : WaitingRead) (o : Option Site) → slice_get ends link ≡ Some l
-          → reply_numbered m l link memory r (option_map (λ (x : Site). x.number) o)
-          ≡ site_completion plan link r.draw (completion_from_memory w r) (grant_of plan w.faces link r.read.requester)
-          o
-      numbered_is link l r None is = refl
-      numbered_is link l r (Some x) is =
-          (λ i. completion_with_bytes (judged_bound
-          (host_stream l (completion_bytes (λ a. beside.written a i) r.read)) x.number r.draw
-          (grant_is plan ends m memory w beside fits many link r.read.requester i))
-          (completion_bytes (λ a. beside.written a i) r.read))
-          ∙ judged_is link l x.number r.draw (completion_from_memory w r)
-          (grant_of plan w.faces link r.read.requester) is
+    sizes_there : (i : ℕ) (x : Site) (p : IsPlaced plan ends m w i x) → slice_get (sites plan) i ≡ Some x
+        → unwrap_or (slice_get (sizes_at xs x.link) p.place) [] ≡ page_counts x.plan
+    sizes_there i x p is =
+        let planned = site_planned plan i x fits is in
+        let same : p.place ≡ planned.place = omega (
+          arith,
+          place_is i x p is,
+          planned.place_is,
+          planned.number_is,
+        ) in
+        ap (λ (s : List (List ℕ)). unwrap_or (slice_get s p.place) [])
+        (accesses.sizes x.link planned.laid_out planned.links_are)
+        ∙ (ap (λ (o : Option (List ℕ)). unwrap_or o [])
+        (slice_get-map page_counts planned.laid_out.interfaces p.place
+        ∙ (ap (λ (n : ℕ). option_map page_counts (slice_get planned.laid_out.interfaces n)) same
+        ∙ ap (option_map page_counts) planned.plan_is)))
 
-      first_is : (link : ℕ) (l : LinkEnds) (rs : List WaitingRead) → slice_get ends link ≡ Some l
-          → reply_oldest m l link memory rs ≡ completion_first plan (grant_of plan w.faces) (completion_from_memory w)
-          link rs
-      first_is link l [] is = refl
-      first_is link l (r ∷ rs) is = ap (reply_numbered m l link memory r) (reader_is link r.read.requester)
-          ∙ numbered_is link l r (site_of_requester plan link r.read.requester) is
+    abbrev shown_by : Option (ℕ × ℕ) → ℕ → ℕ → ℕ → Verdict
+    shown_by o bar offset len =
+        mmio_if (option_map_or (λ (at : ℕ × ℕ). has_bytes (sizes_at xs at.0) at.1 bar offset len) o false)
+        (option_map_or (λ (at : ℕ × ℕ). bytes_from (mmio_at xs at.0 at.1 bar) offset len) o [])
 
-      pub reply_is : (link : ℕ)
-          → reply_at_ends m (slice_get ends link) link memory (reads_at xs link) ≡ machine_completion plan w link
-      reply_is link = ⊎_elim
-          (λ lt.
-          let l = get_there ends link lt in
-          ap (λ (o : Option LinkEnds). reply_at_ends m o link memory (reads_at xs link)) l.1
-          ∙ (first_is link l.0 (reads_at xs link) l.1
-          ∙ (ap (completion_first plan (grant_of plan w.faces) (completion_from_memory w) link) (accesses.reads link)
-          ∙ sym (ap (λ (b : Bool). if b then completion_first plan (grant_of plan w.faces) (completion_from_memory w)
-          link
-          (w.accesses.waiting link) else Err v.Nothing)
-          (lt-ltb link (length plan.links) (omega (arith, lt, many)))))))
-          (λ le.
-          ap (λ (o : Option LinkEnds). reply_at_ends m o link memory (reads_at xs link)) (slice_get_past ends link le)
-          ∙ sym (ap (λ (b : Bool). if b then completion_first plan (grant_of plan w.faces) (completion_from_memory w)
-          link
-          (w.accesses.waiting link) else Err v.Nothing)
-          (le-ltb link (length plan.links) (omega (arith, le, many)))))
-          (cases_lt link (length ends))
+    shown_there : (i : ℕ) (x : Site) (p : IsPlaced plan ends m w i x) (bar offset len : ℕ) → slice_get (sites plan) i
+        ≡ Some x → shown_by (Some (x.link, p.place)) bar offset len
+        ≡ mmio_shown plan w.accesses.happened (Some x) bar offset len
+    shown_there i x p bar offset len is =
+        (λ j. mmio_if (fits_range (4096 * slice_index (sizes_there i x p is j) bar) offset len)
+        (bytes_from (λ at. accesses.bytes x.link p.place bar at j) offset len))
+        ∙ ap (λ (n : ℕ). mmio_if (fits_range (4096 * slice_index (page_counts x.plan) bar) offset len)
+        (bytes_from (byte_shown (w.accesses.happened x.link) n bar) offset len)) (place_is i x p is)
 
-      -- ---- what is shown
-
-      sizes_there : (i : ℕ) (x : Site) (p : IsPlaced plan ends m w i x) → slice_get (sites plan) i ≡ Some x
-          → unwrap_or (slice_get (sizes_at xs x.link) p.place) [] ≡ page_counts x.plan
-      sizes_there i x p is =
-          let planned = site_planned plan i x fits is in
-          let same : p.place ≡ planned.place = omega (
-            arith,
-            place_is i x p is,
-            planned.place_is,
-            planned.number_is,
-          ) in
-          ap (λ (s : List (List ℕ)). unwrap_or (slice_get s p.place) [])
-          (accesses.sizes x.link planned.laid_out planned.links_are)
-          ∙ (ap (λ (o : Option (List ℕ)). unwrap_or o [])
-          (slice_get-map page_counts planned.laid_out.interfaces p.place
-          ∙ (ap (λ (n : ℕ). option_map page_counts (slice_get planned.laid_out.interfaces n)) same
-          ∙ ap (option_map page_counts) planned.plan_is)))
-
-      abbrev shown_by : Option (ℕ × ℕ) → ℕ → ℕ → ℕ → Verdict
-      shown_by o bar offset len =
-          mmio_if (option_map_or (λ (at : ℕ × ℕ). has_bytes (sizes_at xs at.0) at.1 bar offset len) o false)
-          (option_map_or (λ (at : ℕ × ℕ). bytes_from (mmio_at xs at.0 at.1 bar) offset len) o [])
-
-      shown_there : (i : ℕ) (x : Site) (p : IsPlaced plan ends m w i x) (bar offset len : ℕ) → slice_get (sites plan) i
-          ≡ Some x → shown_by (Some (x.link, p.place)) bar offset len
-          ≡ mmio_shown plan w.accesses.happened (Some x) bar offset len
-      shown_there i x p bar offset len is =
-          (λ j. mmio_if (fits_range (4096 * slice_index (sizes_there i x p is j) bar) offset len)
-          (bytes_from (λ at. accesses.bytes x.link p.place bar at j) offset len))
-          ∙ ap (λ (n : ℕ). mmio_if (fits_range (4096 * slice_index (page_counts x.plan) bar) offset len)
-          (bytes_from (byte_shown (w.accesses.happened x.link) n bar) offset len)) (place_is i x p is)
-
-      pub shows_is : (i bar offset len : ℕ)
-          → shown_by (interface_named m ends i) bar offset len
-          ≡ mmio_by_happenings plan w.accesses.happened i bar offset len
-      shows_is i bar offset len = ⊎_elim
-          (λ lt.
-          let x = get_there (sites plan) i lt in
-          let p = beside.placed i x.0 x.1 in
-          ap (λ (o : Option (ℕ × ℕ)). shown_by o bar offset len)
-          (interface_there plan ends m memory w i x.0 p beside fits x.1)
-          ∙ (shown_there i x.0 p bar offset len x.1
-          ∙ sym (ap (λ (o : Option Site). mmio_shown plan w.accesses.happened o bar offset len)
-          (site_found plan i x.0 x.1))))
-          (λ le.
-          ap (λ (o : Option (ℕ × ℕ)). shown_by o bar offset len) (interface_absent plan ends m memory w i beside le)
-          ∙ sym (ap (λ (o : Option Site). mmio_shown plan w.accesses.happened o bar offset len)
-          (site_lacking plan i le)))
-          (cases_lt i (length (sites plan)))
+    pub shows_is : (i bar offset len : ℕ)
+        → shown_by (interface_named m ends i) bar offset len
+        ≡ mmio_by_happenings plan w.accesses.happened i bar offset len
+    shows_is i bar offset len = ⊎_elim
+        (λ lt.
+        let x = get_there (sites plan) i lt in
+        let p = beside.placed i x.0 x.1 in
+        ap (λ (o : Option (ℕ × ℕ)). shown_by o bar offset len)
+        (interface_there plan ends m memory w i x.0 p beside fits x.1)
+        ∙ (shown_there i x.0 p bar offset len x.1
+        ∙ sym (ap (λ (o : Option Site). mmio_shown plan w.accesses.happened o bar offset len)
+        (site_found plan i x.0 x.1))))
+        (λ le.
+        ap (λ (o : Option (ℕ × ℕ)). shown_by o bar offset len) (interface_absent plan ends m memory w i beside le)
+        ∙ sym (ap (λ (o : Option Site). mmio_shown plan w.accesses.happened o bar offset len)
+        (site_lacking plan i le)))
+        (cases_lt i (length (sites plan)))

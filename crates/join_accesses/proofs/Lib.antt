@@ -1,5 +1,6 @@
 pub mod OnLinks
 pub mod Accessed
+pub mod Replied
 pub mod Said
 pub mod Rested
 pub mod Turned
@@ -14,7 +15,7 @@ pub use Rattle.join_world.proofs.Follows.{led_follows, link_few, placed_keeps, p
 pub use Rattle.join_world.proofs.Kept.{AreBoth, IsState, absent_beside, answer_beside, dump_beside}
 pub use Rattle.join_world.proofs.Kept.{elsewhere_beside, forward_beside, interface_step, managed_kept}
 pub use Rattle.join_world.proofs.Kept.{memory_beside, mmio_beside, nothing_beside, send_beside, status_beside}
-pub use Rattle.join_world.proofs.Kept.{unasked_beside, view_beside, written_is, written_kept}
+pub use Rattle.join_world.proofs.Kept.{response_beside, unasked_beside, view_beside, written_is, written_kept}
 pub use Rattle.join_world.proofs.Owners.{requester_found, requester_nowhere, requester_true}
 pub use Rattle.join_world.proofs.Places.{IsSomeSite, get_there, position_at, position_none, site_or_none, site_planned}
 pub use Rattle.join_world.proofs.Statuses.{live_is}

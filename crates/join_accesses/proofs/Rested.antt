@@ -20,7 +20,9 @@ use Rattle.event_verdicts.specs.declared.verdict.UnitName.{UnitName}
 use Rattle.event_verdicts.specs.declared.verdict.Verdict.{Verdict}
 use Rattle.event_verdicts.specs.declared.verdict.Verdict.TheVariants as v
 use Rattle.event_verdicts.specs.declared.access.AccessVerdict.TheVariants as av
+use Rattle.trusted_memory.specs.declared.queue.ReadTarget.{ReadTarget}
 use Rattle.trusted_memory.specs.declared.queue.WaitingRead.{WaitingRead}
+use Rattle.trusted_memory.specs.declared.span.Span.{Span}
 use Rattle.guarded_memory.specs.declared.status.InterfaceStatus.{InterfaceStatus}
 use Rattle.spec_interfaces.specs.Devices.{is_run}
 use Rattle.spec_interfaces.specs.Floors.{floor_after_event}
@@ -31,7 +33,8 @@ use Rattle.spec_links.specs.Ports.{is_device_port}
 use Rattle.spec_links.specs.Guarded.{happens_by_packets, stored_each}
 use Rattle.spec_links.specs.Hops.{HopTlp, is_forward_on}
 use Rattle.spec_links.specs.Memory.{plain_of}
-use Rattle.spec_links.specs.Sent.{is_answer_on, reads_by}
+use Rattle.spec_links.specs.Plan.{is_same_port}
+use Rattle.spec_links.specs.Sent.{answers_at, reads_by, targets_at}
 use Rattle.law_reads.specs.Waiting.{waiting_next}
 use Rattle.machine_whole.specs.Accesses.{floors_after, unit_tlps, waiting_reads_after}
 
@@ -41,32 +44,51 @@ use Rattle.machine_whole.specs.Accesses.{floors_after, unit_tlps, waiting_reads_
 abbrev pub touches_reads : Event → Bool
 touches_reads (event.Reset link ends) = true
 touches_reads (event.Access (ae.Answer link)) = true
+touches_reads (event.Access (ae.Respond link)) = true
 touches_reads e = false
 
-none_queued : (draw : ℕ) (es : List Effect) → reads_by draw es [] ≡ []
-none_queued draw [] = refl
-none_queued draw (effect.Queued ∷ es) = refl
-none_queued draw (e ∷ es) = refl
+none_queued : (target : Span → Option ReadTarget) (end : PortName) (unit : UnitName) (es : List Effect)
+    → reads_by target end unit es [] ≡ []
+none_queued target end unit [] = refl
+none_queued target end unit (effect.Queued ∷ es) = refl
+none_queued target end unit (e ∷ es) = refl
 
-no_answer : (link : ℕ) (e : Event) → touches_reads e ≡ false → is_answer_on link e ≡ false
-no_answer link (event.Access (ae.Answer l)) is = absurd cc
-no_answer link e is = refl
+no_answer : (port : PortName) (e : Event) → touches_reads e ≡ false → answers_at port e ≡ false
+no_answer port (event.Access (ae.Answer l)) is = absurd cc
+no_answer port (event.Access (ae.Respond l)) is = absurd cc
+no_answer port e is = refl
 
-none_joins : (b : Bool) (draw : ℕ) (es : List Effect) (rs : List WaitingRead)
-    → (if b then rs ++ reads_by draw es [] else rs) ≡ rs
-none_joins true draw es rs = ap (λ us. rs ++ us) (none_queued draw es) ∙ append-nil rs
-none_joins false draw es rs = refl
+none_joins : (b : Bool) (target : Span → Option ReadTarget) (end : PortName) (unit : UnitName) (es : List Effect)
+    (rs : List WaitingRead) → (if b then rs ++ reads_by target end unit es [] else rs) ≡ rs
+none_joins true target end unit es rs = ap (λ us. rs ++ us) (none_queued target end unit es) ∙ append-nil rs
+none_joins false target end unit es rs = refl
 
 -- it brings no bytes
-pub reads_rest : (plan : Plan) (e : Event) (w : Verdict) (link : ℕ) (rs : List WaitingRead) → touches_reads e ≡ false
-    → rs ≡ waiting_reads_after plan [] e w link rs
-reads_rest plan e (v.Accepted port unit effects) link rs is =
-    sym (none_joins ((port_of plan port).line == link) unit.draw effects rs)
-reads_rest plan e (v.Sealed ds) link rs is = sym (ap (λ (b : Bool). if b then drop 1 rs else rs) (no_answer link e is))
-reads_rest plan e (v.Access (av.Dropped i c)) link rs is =
-    sym (ap (λ (b : Bool). if b then drop 1 rs else rs) (no_answer link e is))
-reads_rest plan (event.Reset k ends) (v.Reset l) link rs is = absurd cc
-reads_rest plan e w link rs is = refl
+pub reads_rest : (plan : Plan) (statuses : ℕ → List InterfaceStatus) (e : Event) (w : Verdict) (port : PortName)
+    (rs : List WaitingRead) → touches_reads e ≡ false
+    → rs ≡ waiting_reads_after plan statuses [] e w port rs
+reads_rest plan statuses e (v.Accepted end unit effects) port rs is =
+    sym (none_joins (is_same_port (port_of plan end) port) (targets_at port.side (statuses port.line)) end unit effects
+    rs)
+reads_rest plan statuses e (v.Sealed ds) port rs is =
+    sym (ap (λ (b : Bool). if b then drop 1 rs else rs) (no_answer port e is))
+reads_rest plan statuses e (v.Access (av.Dropped i c)) port rs is =
+    sym (ap (λ (b : Bool). if b then drop 1 rs else rs) (no_answer port e is))
+reads_rest plan statuses (event.Reset k ends) (v.Reset l) port rs is = absurd cc
+reads_rest plan statuses e w port rs is = refl
+
+-- while no bytes are brought, it matters not how interfaces stand
+pub reads_by_any : (plan : Plan) (some others : ℕ → List InterfaceStatus) (e : Event) (w : Verdict) (port : PortName)
+    (rs : List WaitingRead)
+    → waiting_reads_after plan some [] e w port rs ≡ waiting_reads_after plan others [] e w port rs
+reads_by_any plan some others e (v.Accepted end unit effects) port rs =
+    let here = is_same_port (port_of plan end) port in
+    none_joins here (targets_at port.side (some port.line)) end unit effects rs
+    ∙ sym (none_joins here (targets_at port.side (others port.line)) end unit effects rs)
+reads_by_any plan some others e (v.Sealed ds) port rs = refl
+reads_by_any plan some others e (v.Access (av.Dropped i c)) port rs = refl
+reads_by_any plan some others (event.Reset k ends) (v.Reset l) port rs = refl
+reads_by_any plan some others e w port rs = refl
 
 -- ---- TLPs at switches
 

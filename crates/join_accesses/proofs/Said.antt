@@ -19,7 +19,8 @@ use Rattle.join_world.specs.Worlds.{IsWholeState, world_of}
 use Rattle.join_world.proofs.Asked.{answer_is}
 use Rattle.join_world.proofs.Besides.{grant_is}
 use Rattle.join_world.proofs.Owners.{t_is}
-use Rattle.join_accesses.proofs.Accessed.{reply_is, shows_is, statuses_are}
+use Rattle.join_accesses.proofs.Accessed.{shows_is, statuses_are}
+use Rattle.join_accesses.proofs.Replied.{reply_is}
 
 -- effects depend on the same
 policy_is : (plan : Plan) (s : WholeLinks) (w : Whole) → AreLinks plan s.links.ends s.links.keeper.keys
@@ -32,7 +33,7 @@ policy_is plan s w links each whole =
     λ i. record {
       grants = λ link requester.
           grant_is plan ends m memory w whole.beside links.fits links.many link requester i;
-      waiting = λ link. length (whole.accesses.reads link i);
+      waiting = λ port. length (whole.accesses.reads port i);
       statuses = λ link.
           statuses_are plan ends m memory w whole.beside links.fits links.many s.accesses each whole.accesses link i;
     }
@@ -60,12 +61,9 @@ beside_is plan s w links each whole =
           t_is plan s.links.ends s.links.keeper.keys m memory w links b end head stream trusted i;
       effects = λ port. effects_under_policy plan (policy_is plan s w links each whole i) (port_of plan port);
       answer = (beside_of plan w).answer;
-      reply = λ link.
-          reply_is plan ends m memory w b links.fits links.many s.accesses each whole.accesses links.each_link link i;
+      reply = λ port. reply_is plan s w b links.fits links.many each whole.accesses links.each_link port i;
       shows = λ number bar offset len.
-          shows_is plan ends m memory w b links.fits links.many s.accesses each whole.accesses links.each_link number
-          bar
-          offset len i;
+          shows_is plan ends m memory w b links.fits links.many s.accesses each whole.accesses number bar offset len i;
       forward = λ link d.
           forward_is plan link (carried_on_link s.accesses link d) (w.accesses.carried link d)
           (whole.accesses.carried link d) i;

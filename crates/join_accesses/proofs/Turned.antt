@@ -43,6 +43,7 @@ use Rattle.join_world.specs.{AccessesAnswer, AccessesForward, AccessesReset, Acc
 use Rattle.join_world.specs.{AccessesInterface, AccessesTurn, AreLeftBy, arrival_in_state, bars_named, carried_on_link}
 use Rattle.join_world.specs.{carried_after_event, device_draw, floors_at, floors_set, floors_started, flr_at, halted_in}
 use Rattle.join_world.specs.{happens_at, interface_named, LinkEnds, links_state, mmio_at, nothing_happens, reads_at}
+use Rattle.join_world.specs.{policy_in, reads_after_event}
 use Rattle.join_world.specs.{reset_happens, runs_in, same_carried, same_floors, same_reads, sizes_at}
 use Rattle.join_world.specs.{named_device_interface, interface_of_ends, WholeLinks}
 use Rattle.spec_links.specs.Hops.{HopTlp}
@@ -60,14 +61,15 @@ use Rattle.join_world.proofs.Places.{get_there, site_numbered}
 use Rattle.join_world.proofs.Sites.{held_before, interface_there, interface_absent, located_read}
 use Rattle.join_world.proofs.Statuses.{device_draw_is}
 use Rattle.join_accesses.proofs.Rested.{AreMany, touches_hops, touches_reads, touches_memory, hops_rest, no_unit}
-use Rattle.join_accesses.proofs.Rested.{starts, reads_rest, memory_rests, none_stored, floors_rest, floors_many}
+use Rattle.join_accesses.proofs.Rested.{starts, reads_by_any, reads_rest, memory_rests, none_stored, floors_rest}
+use Rattle.join_accesses.proofs.Rested.{floors_many}
 use Rattle.join_accesses.proofs.Rested.{floors_started as started, floors_unnamed}
 
 -- nothing changes
 stays : (xs ys : List LinkAccesses) → ys ≡ xs → AccessesTurn same_reads same_floors nothing_happens same_carried xs ys
 stays xs ys same = record {
   many = ap length same;
-  reads = λ link. ap (λ zs. reads_at zs link) same;
+  reads = λ port. ap (λ zs. reads_at zs port) same;
   floors = λ link. ap (λ zs. floors_at zs link) same;
   sizes = λ link. ap (λ zs. sizes_at zs link) same;
   bytes = λ link older left i b offset. ap (λ zs. mmio_at zs link i b offset) same ∙ left i b offset;
@@ -137,11 +139,11 @@ module _ (plan : Plan) (old new : WholeLinks) (w : Whole) (verdict : Verdict)
   are_many : (e : Event) → IsAfter e → AreMany (sites plan) w.faces.list (faces_now e) w.accesses.floors
   are_many e after = record { before = both.whole.beside.faced; after = after.faced; floors = before.floored }
 
-  turned : (e : Event) (reads_then : ℕ → List WaitingRead → List WaitingRead) (floors_then : ℕ → List ℕ → List ℕ)
+  turned : (e : Event) (reads_then : PortName → List WaitingRead → List WaitingRead) (floors_then : ℕ → List ℕ → List ℕ)
       (happens : ℕ → List (Option Happened)) (carried_then : ℕ → Direction → List HopTlp → List HopTlp) → IsAfter e
       → AccessesTurn reads_then floors_then happens carried_then old.accesses new.accesses
-      → ((link : ℕ) (rs : List WaitingRead) → reads_then link rs
-      ≡ waiting_reads_after plan (ended_unit plan w e) e verdict link rs)
+      → ((port : PortName) (rs : List WaitingRead) → reads_then port rs
+      ≡ waiting_reads_after plan statuses (ended_unit plan w e) e verdict port rs)
       → ((link : ℕ) → floors_then link (on_link link (sites plan) w.accesses.floors)
       ≡ on_link link (sites plan)
       (floors_after e (device_draw_at plan w.links) (sites plan) w.faces.list (faces_now e) w.accesses.floors))
@@ -151,7 +153,7 @@ module _ (plan : Plan) (old new : WholeLinks) (w : Whole) (verdict : Verdict)
   turned e reads_then floors_then happens carried_then after turn reads floors same carried = record {
     floored = floors_many e (device_draw_at plan w.links) (sites plan) w.faces.list (faces_now e) w.accesses.floors
         (are_many e after);
-    reads = λ link. turn.reads link ∙ (ap (reads_then link) (before.reads link) ∙ reads link (w.accesses.waiting link));
+    reads = λ port. turn.reads port ∙ (ap (reads_then port) (before.reads port) ∙ reads port (w.accesses.waiting port));
     bytes = λ link. subst (λ (hs : List (Option Happened)). AreLeftBy (mmio_at new.accesses link)
         (newest_happened hs (w.accesses.happened link))) (same link)
         (turn.bytes link (w.accesses.happened link) (before.bytes link));
@@ -179,7 +181,15 @@ module _ (plan : Plan) (old new : WholeLinks) (w : Whole) (verdict : Verdict)
       ∙ ap (λ (new : List HopTlp). waiting_next new link d e verdict xs)
       (sym (no_unit plan verdict) ∙ ap (λ (ps : List Packet). unit_tlps plan ps verdict) (sym none))
 
-  -- what becomes of them by the verdict of an event that brings no bytes
+  -- what becomes of reads by the verdict of an event that brings no bytes
+  reads_turn : (e : Event) → ended_unit plan w e ≡ [] → (port : PortName) (rs : List WaitingRead)
+      → reads_after_event plan e verdict port rs
+      ≡ waiting_reads_after plan statuses (ended_unit plan w e) e verdict port rs
+  reads_turn e none port rs =
+      reads_by_any plan (λ link. []) statuses e verdict port rs
+      ∙ ap (λ (ps : List Packet). waiting_reads_after plan statuses ps e verdict port rs) (sym none)
+
+  -- and of TLPs at switches
   hops_turn : (e : Event) → ended_unit plan w e ≡ [] → (link : ℕ) (d : Direction) (xs : List HopTlp) → link < 8
       → carried_after_event e verdict link d xs
       ≡ waiting_next (unit_tlps plan (ended_unit plan w e) verdict) link d e verdict xs
@@ -192,14 +202,18 @@ module _ (plan : Plan) (old new : WholeLinks) (w : Whole) (verdict : Verdict)
       → starts e ≡ false → touches_hops e ≡ false → new.accesses ≡ old.accesses → AreAfter e
   kept e after none reads memory floors hops same =
       turned e same_reads same_floors nothing_happens same_carried after (stays old.accesses new.accesses same)
-      (λ link rs. reads_rest plan e verdict link rs reads
-      ∙ ap (λ (ps : List Packet). waiting_reads_after plan ps e verdict link rs) (sym none))
+      (λ port rs. reads_rest plan statuses e verdict port rs reads
+      ∙ ap (λ (ps : List Packet). waiting_reads_after plan statuses ps e verdict port rs) (sym none))
       (floors_kept e after floors)
       (λ link. memory_rests plan statuses e verdict link memory
       ∙ ap (λ (ps : List Packet). happens_by_packets plan statuses ps e verdict link) (sym none))
       (hops_kept e none hops)
 
   -- ---- arrivals
+
+  statuses_read : (policy_in old.links.keeper.interfaces old.links.ends old.accesses).statuses ≡ statuses
+  statuses_read = λ i link. statuses_are plan old.links.ends.links old.links.keeper.interfaces
+      old.links.trusted.contents w both.whole.beside both.links.fits both.links.many old.accesses many before link i
 
   arrived : (e : Event) (h : History) → IsAfter e → starts e ≡ false → PortsStandFor plan (links_state plan old.links) h
       → AccessesArrive plan (arrival_in_state plan e) e verdict old.links old.accesses new.accesses → AreAfter e
@@ -208,11 +222,9 @@ module _ (plan : Plan) (old new : WholeLinks) (w : Whole) (verdict : Verdict)
       ≡ ended_unit plan w e =
       ap (λ (st : LinkState). unit_in plan st (arrival_of plan st e)) (sym both.whole.links) in
       turned e _ same_floors _ _ after (sides.turn h both.links stands)
-      (λ link rs. ap (λ (ps : List Packet). waiting_reads_after plan ps e verdict link rs) units)
+      (λ port rs. (λ i. waiting_reads_after plan (statuses_read i) (units i) e verdict port rs))
       (floors_kept e after floors)
-      (λ link. (λ i. happens_by_packets plan
-      (λ l. statuses_are plan old.links.ends.links old.links.keeper.interfaces old.links.trusted.contents w
-      both.whole.beside both.links.fits both.links.many old.accesses many before l i) (units i) e verdict link))
+      (λ link. (λ i. happens_by_packets plan (statuses_read i) (units i) e verdict link))
       (λ link d xs lt.
       ap (λ (b : Bool). if b then waiting_next (unit_tlps plan (unit_in plan (links_state plan old.links)
       (arrival_of plan (links_state plan old.links) e)) verdict) link d e verdict xs else xs) (lt-ltb link 8 lt)
@@ -220,13 +232,14 @@ module _ (plan : Plan) (old new : WholeLinks) (w : Whole) (verdict : Verdict)
 
   -- ---- answers
 
-  answered : (link : ℕ) → IsAfter (event.Access (ae.Answer link))
-      → AccessesAnswer plan (event.Access (ae.Answer link)) verdict old new → AreAfter (event.Access (ae.Answer link))
-  answered link after turn =
-      let e = event.Access (ae.Answer link) in
-      turned e (waiting_reads_after plan [] e verdict) same_floors nothing_happens same_carried after turn
-      (λ l rs. refl) (floors_kept e after refl) (λ l. memory_rests plan statuses e verdict l refl)
-      (hops_kept e refl refl)
+  answered : (e : Event) → IsAfter e → ended_unit plan w e ≡ [] → touches_memory e ≡ false → starts e ≡ false
+      → touches_hops e ≡ false → AccessesAnswer plan e verdict old new → AreAfter e
+  answered e after none memory floors hops turn =
+      turned e (reads_after_event plan e verdict) same_floors nothing_happens same_carried after turn
+      (reads_turn e none) (floors_kept e after floors)
+      (λ link. memory_rests plan statuses e verdict link memory
+      ∙ ap (λ (ps : List Packet). happens_by_packets plan statuses ps e verdict link) (sym none))
+      (hops_kept e none hops)
 
   -- ---- a forward
 
@@ -235,7 +248,7 @@ module _ (plan : Plan) (old new : WholeLinks) (w : Whole) (verdict : Verdict)
   forwarded link d after turn =
       let e = event.Forward link d in
       turned e same_reads same_floors nothing_happens (carried_after_event e verdict) after turn
-      (λ l rs. reads_rest plan e verdict l rs refl) (floors_kept e after refl)
+      (λ port rs. reads_rest plan statuses e verdict port rs refl) (floors_kept e after refl)
       (λ l. memory_rests plan statuses e verdict l refl) (hops_turn e refl)
 
   -- ---- a reset
@@ -244,9 +257,9 @@ module _ (plan : Plan) (old new : WholeLinks) (w : Whole) (verdict : Verdict)
       → AccessesReset plan (event.Reset link ends) verdict old new → AreAfter (event.Reset link ends)
   reset_there link ends after says turn =
       let e = event.Reset link ends in
-      turned e (waiting_reads_after plan [] e verdict) same_floors (reset_happens verdict)
+      turned e (reads_after_event plan e verdict) same_floors (reset_happens verdict)
       (carried_after_event e verdict) after
-      turn (λ l rs. refl) (floors_kept e after refl)
+      turn (reads_turn e refl) (floors_kept e after refl)
       (λ l. ap (λ (u : Verdict). reset_happens u l) says ∙ (by (link == l)
       ∙ sym (ap (λ (u : Verdict). happens_by_packets plan statuses [] e u l) says)))
       (hops_turn e refl)
@@ -259,9 +272,9 @@ module _ (plan : Plan) (old new : WholeLinks) (w : Whole) (verdict : Verdict)
       → AccessesReset plan (event.Reset link ends) verdict old new → AreAfter (event.Reset link ends)
   reset_nowhere link ends after says turn =
       let e = event.Reset link ends in
-      turned e (waiting_reads_after plan [] e verdict) same_floors (reset_happens verdict)
+      turned e (reads_after_event plan e verdict) same_floors (reset_happens verdict)
       (carried_after_event e verdict) after
-      turn (λ l rs. refl) (floors_kept e after refl)
+      turn (reads_turn e refl) (floors_kept e after refl)
       (λ l. ap (λ (u : Verdict). reset_happens u l) says
       ∙ sym (ap (λ (u : Verdict). happens_by_packets plan statuses [] e u l) says))
       (hops_turn e refl)
@@ -368,7 +381,7 @@ module _ (plan : Plan) (old new : WholeLinks) (w : Whole) (verdict : Verdict)
   halted i loss after turn =
       let e = event.Interface (ie.Halt i loss) in
       turned e same_reads same_floors (halted_in new.links i verdict) same_carried after turn
-      (λ l rs. reads_rest plan e verdict l rs refl) (floors_kept e after refl)
+      (λ port rs. reads_rest plan statuses e verdict port rs refl) (floors_kept e after refl)
       (λ l. happens_there e after i l (carries verdict 1) InterfaceStopped (halted_at plan verdict l) refl (λ x. refl)
       ∙ halt_happens i loss verdict l) (hops_kept e refl refl)
 
@@ -378,7 +391,7 @@ module _ (plan : Plan) (old new : WholeLinks) (w : Whole) (verdict : Verdict)
   reset_interface i after turn =
       let e = event.Interface (ie.Flr i) in
       turned e same_reads same_floors (flr_at new.links i verdict) same_carried after turn
-      (λ l rs. reads_rest plan e verdict l rs refl) (floors_kept e after refl)
+      (λ port rs. reads_rest plan statuses e verdict port rs refl) (floors_kept e after refl)
       (λ l. happens_there e after i l (changes_device verdict) (λ place bars. InterfaceReset place)
       (reset_at plan verdict l) refl (λ x. refl)
       ∙ flr_happens i verdict l) (hops_kept e refl refl)
@@ -524,7 +537,7 @@ module _ (plan : Plan) (old new : WholeLinks) (w : Whole) (verdict : Verdict)
         old.accesses new.accesses → AreAfter e_start
     started_all turn =
         turned e_start same_reads (floors_started old.links new.links i) nothing_happens same_carried after turn
-        (λ l rs. reads_rest plan e_start verdict l rs refl)
+        (λ port rs. reads_rest plan statuses e_start verdict port rs refl)
         (λ link. ⊎_elim
         (λ lt.
         let x = get_there (sites plan) i lt in
@@ -590,7 +603,10 @@ module _ (plan : Plan) (old new : WholeLinks) (w : Whole) (verdict : Verdict)
       reset_accesses link ends (nat_lt link (length plan.links)) after
       (ap (λ (s : Stepped). s.0) step ∙ reset_says plan (beside_of plan w) w.links link ends) sides
   accesses_are (event.Interface e) h stands after step sides = interface_accesses e after step sides
-  accesses_are (event.Access (ae.Answer link)) h stands after step sides = answered link after sides
+  accesses_are (event.Access (ae.Answer link)) h stands after step sides =
+      answered (event.Access (ae.Answer link)) after refl refl refl refl sides
+  accesses_are (event.Access (ae.Respond link)) h stands after step sides =
+      answered (event.Access (ae.Respond link)) after refl refl refl refl sides
   accesses_are (event.Access (ae.Mmio i bar offset len)) h stands after step sides =
       kept (event.Access (ae.Mmio i bar offset len)) after refl refl refl refl refl sides
   accesses_are (event.Forward link d) h stands after step sides = forwarded link d after sides

@@ -1,14 +1,15 @@
 -- What stands at the links beside ports and interfaces: an arrival makes of it what the unit's packets do one after
 -- another, by their heads and by what the plan's key opens.
 pub use Rattle.join_ends.proofs.Turns.{TurnsHere, RestsAt, turn_at, stays_all}
-use Rattle.join_ends.proofs.Turns.{set_twice}
+use Rattle.join_ends.proofs.Turns.{others_same, reads_same, set_twice}
 use Rattle.join_arrivals.proofs.Arrivals.{effects_at, end_of}
 use Rattle.join_ends.specs.{InterfacesView, KeeperView, LinkEnds, EndsView, port_on, waiting_reads_after, unit_in}
 use Rattle.join_ends.specs.{AreLinks, state_of, Arrives, ArrivesAtEnd, Comes, Leaves, link_statuses, unit_tlps}
 use Rattle.join_ends.proofs.{set_there}
 use Rattle.ide_types.specs.declared.plan.Region.{Region}
-use Rattle.machine_ports.specs.Machine.{LinkPacket, LinkState}
+use Rattle.machine_ports.specs.Machine.{LinkPacket, LinkState, port_at}
 use Rattle.link_stores.specs.declared.link.LinkAccesses.{LinkAccesses}
+use Rattle.link_stores.specs.{other_reads, reads_on}
 use Rattle.std.proofs.Common.{Bool, List, [], ap, arith, drop, false, length, refl, subst, sym, take, true}
 use Rattle.std.proofs.Common.{ℕ, ◌++◌, ◌+◌, ◌==◌, ◌∙◌, ◌∷◌, ◌≡◌}
 use Rattle.std.proofs.lemmas.Bool.Decides.{nat_tests}
@@ -42,7 +43,7 @@ use Rattle.machine_ports.specs.Stands.{PortsStandFor}
 use Rattle.ide_port.specs.{PortEnd, take_step}
 use Rattle.ide_port.specs.declared.answer.Arrival.{Arrival}
 use Rattle.ide_port.specs.declared.answer.Arrival.TheVariants as came
-use Rattle.arrival_verdicts.specs.Verdicts.{arrival_verdict, grants_in, of_unit, packet_stored}
+use Rattle.arrival_verdicts.specs.Verdicts.{arrival_verdict, effects_from, grants_in, of_unit, packet_stored}
 use Rattle.arrival_verdicts.proofs.Writes.{OpensAs, unit_agrees}
 use Rattle.join_arrivals.specs.Accesses.{AccessesStay, AccessesTurn, AreLeftBy, Brings, policy_in, statuses_of_ends}
 use Rattle.join_arrivals.specs.Accesses.{nothing_happens, same_carried, same_floors, same_reads}
@@ -57,6 +58,8 @@ use Rattle.gcm_seal.specs.Gcm.{masked_bytes}
 unfoldable use Rattle.gcm_seal.specs.Gcm.{open_of}
 use Rattle.gcm_seal.proofs.Sealing.{length-masked_bytes, masked_bytes-append}
 use Rattle.trusted_memory.specs.declared.queue.WaitingRead.{WaitingRead}
+use Rattle.trusted_memory.specs.declared.queue.ReadTarget.{ReadTarget}
+use Rattle.trusted_memory.specs.declared.span.Span.{Span}
 use Rattle.guarded_memory.specs.declared.status.InterfaceStatus.{InterfaceStatus}
 use Rattle.guarded_memory.specs.Happenings.{Happened, newest_happened}
 use Rattle.guarded_memory.specs.Contents.{MmioLeads, mmio_byte}
@@ -64,7 +67,7 @@ use Rattle.spec_links.specs.Plan.{is_same_port, key_of}
 use Rattle.spec_links.specs.Ports.{at_switch, is_device_port, port_of}
 use Rattle.spec_links.specs.Packets.{received_in}
 use Rattle.spec_links.specs.Hops.{entering_end}
-use Rattle.spec_links.specs.Sent.{read_in, reads_by}
+use Rattle.spec_links.specs.Sent.{arrival_of, read_in, reads_by, targets_at}
 use Rattle.spec_links.specs.Guarded.{asked_happens, happens_by_packets, stored_each, unit_happenings, stored_packet}
 
 -- ---- pages that are taken first
@@ -80,14 +83,15 @@ pub spared_stay : (xs : List LinkAccesses) (link : ℕ) (a b : LinkAccesses) →
 spared_stay xs link a b is spared =
     turn_at same_reads same_floors nothing_happens same_carried xs link a b is
     (record {
-      reads_are = ap (λ (x : LinkAccesses). x.reads) spared.same;
+      reads_are = λ side. reads_same side a b (ap (λ (x : LinkAccesses). x.host_reads) spared.same)
+          (ap (λ (x : LinkAccesses). x.device_reads) spared.same);
       floors_are = ap (λ (x : LinkAccesses). x.floors) spared.same;
       sizes_are = spared.sizes;
       leads = spared.leads;
       carried_are = λ d. ap (λ (x : LinkAccesses). (queue_of x.carried d).tlps) spared.same;
     })
     (λ k other. record {
-      reads_rest = λ ws. refl;
+      reads_rest = λ side ws. refl;
       floors_rest = λ ns. refl;
       nothing = λ older. refl;
       carried_rest = λ d ts. refl;
@@ -137,10 +141,16 @@ brings_spared m end port bytes verdict old c mid xs a b new d ys same is spared 
         b_is
         x
         in
+        let same : reads_on port.side (record a { guarded = b.guarded }) ≡ reads_on port.side a =
+        reads_same port.side a (record a { guarded = b.guarded }) refl refl in
         record {
-          verdict_is = y.verdict_is;
+          verdict_is = y.verdict_is ∙ (λ i. arrival_verdict end port answer (λ unit. effects_from mid.regions
+              (grants_in m) (link_statuses l a) (length (same i)) port unit e.delivered));
           written = y.written;
-          reads_are = y.reads_are;
+          reads_are = y.reads_are ∙ (λ i. same i ++ of_unit answer
+              (λ unit. reads_by (targets_at port.side (link_statuses l a)) end unit (effects_from mid.regions
+              (grants_in m) (link_statuses l a) (length (same i)) port unit e.delivered) e.delivered));
+          others_stay = y.others_stay ∙ others_same port.side a (record a { guarded = b.guarded }) refl refl;
           stored = λ older left. y.stored older (spared.leads older left);
           floors_stay = y.floors_stay;
           sizes_stay = y.sizes_stay ∙ spared.sizes;
@@ -149,32 +159,43 @@ brings_spared m end port bytes verdict old c mid xs a b new d ys same is spared 
 
 -- ---- reads of an accepted unit
 
--- decryption leaves heads as they are
-reads_opened : (draw : ℕ) (es : List Effect) (key iv : List ℕ) (n : ℕ) (ps : List Packet)
-    → reads_by draw es ps ≡ reads_by draw es (opened_from_byte key iv n ps)
-reads_opened draw [] key iv n ps = refl
-reads_opened draw (effect.Queued ∷ es) key iv n [] = refl
-reads_opened draw (effect.Sync ∷ es) key iv n [] = refl
-reads_opened draw (effect.Delivered ∷ es) key iv n [] = refl
-reads_opened draw (effect.Waiting ∷ es) key iv n [] = refl
-reads_opened draw (effect.Applied ∷ es) key iv n [] = refl
-reads_opened draw (effect.Stored ∷ es) key iv n [] = refl
-reads_opened draw (effect.Blocked cause ∷ es) key iv n [] = refl
-reads_opened draw (effect.Queued ∷ es) key iv n (p ∷ ps) =
-    ap (λ (rs : List WaitingRead). read_in draw (read_head_of p.head) ++ rs)
-    (reads_opened draw es key iv (n + length p.body) ps)
-reads_opened draw (effect.Sync ∷ es) key iv n (p ∷ ps) = reads_opened draw es key iv (n + length p.body) ps
-reads_opened draw (effect.Delivered ∷ es) key iv n (p ∷ ps) = reads_opened draw es key iv (n + length p.body) ps
-reads_opened draw (effect.Waiting ∷ es) key iv n (p ∷ ps) = reads_opened draw es key iv (n + length p.body) ps
-reads_opened draw (effect.Applied ∷ es) key iv n (p ∷ ps) = reads_opened draw es key iv (n + length p.body) ps
-reads_opened draw (effect.Stored ∷ es) key iv n (p ∷ ps) = reads_opened draw es key iv (n + length p.body) ps
-reads_opened draw (effect.Blocked cause ∷ es) key iv n (p ∷ ps) = reads_opened draw es key iv (n + length p.body) ps
+same_port : (p : PortName) → is_same_port p p ≡ true
+same_port p = λ i. same-true (sent_direction p.side) i && same-true p.line i
 
-module _ (plan : Plan) (ps : List Packet) (e : Event) (end port : PortName) (at : port_of plan end ≡ port)
-    (effects : UnitName → List Effect) where
+and_false : (b : Bool) → (b && false) ≡ false
+and_false true = refl
+and_false false = refl
+
+-- decryption leaves heads as they are
+module _ (target : Span → Option ReadTarget) (end : PortName) (unit : UnitName) where
+  reads_opened : (es : List Effect) (key iv : List ℕ) (n : ℕ) (ps : List Packet)
+      → reads_by target end unit es ps ≡ reads_by target end unit es (opened_from_byte key iv n ps)
+  reads_opened [] key iv n ps = refl
+  reads_opened (effect.Queued ∷ es) key iv n [] = refl
+  reads_opened (effect.Sync ∷ es) key iv n [] = refl
+  reads_opened (effect.Delivered ∷ es) key iv n [] = refl
+  reads_opened (effect.Waiting ∷ es) key iv n [] = refl
+  reads_opened (effect.Applied ∷ es) key iv n [] = refl
+  reads_opened (effect.Stored ∷ es) key iv n [] = refl
+  reads_opened (effect.Blocked cause ∷ es) key iv n [] = refl
+  reads_opened (effect.Queued ∷ es) key iv n (p ∷ ps) =
+      ap (λ (rs : List WaitingRead). read_in target (arrival_of end unit p) (read_head_of p.head) ++ rs)
+      (reads_opened es key iv (n + length p.body) ps)
+  reads_opened (effect.Sync ∷ es) key iv n (p ∷ ps) = reads_opened es key iv (n + length p.body) ps
+  reads_opened (effect.Delivered ∷ es) key iv n (p ∷ ps) = reads_opened es key iv (n + length p.body) ps
+  reads_opened (effect.Waiting ∷ es) key iv n (p ∷ ps) = reads_opened es key iv (n + length p.body) ps
+  reads_opened (effect.Applied ∷ es) key iv n (p ∷ ps) = reads_opened es key iv (n + length p.body) ps
+  reads_opened (effect.Stored ∷ es) key iv n (p ∷ ps) = reads_opened es key iv (n + length p.body) ps
+  reads_opened (effect.Blocked cause ∷ es) key iv n (p ∷ ps) = reads_opened es key iv (n + length p.body) ps
+
+module _ (plan : Plan) (statuses : ℕ → List InterfaceStatus) (ps : List Packet) (e : Event) (end port : PortName)
+    (at : port_of plan end ≡ port) (effects : UnitName → List Effect) where
+  abbrev by_unit : PortName → UnitName → List WaitingRead
+  by_unit p unit = reads_by (targets_at p.side (statuses p.line)) end unit (effects unit) ps
+
   reads_here : (answer : Arrival) (ws : List WaitingRead)
-      → waiting_reads_after plan ps e (arrival_verdict end port answer effects) port.line ws
-      ≡ ws ++ of_unit answer (λ unit. reads_by unit.draw (effects unit) ps)
+      → waiting_reads_after plan statuses ps e (arrival_verdict end port answer effects) port ws
+      ≡ ws ++ of_unit answer (by_unit port)
   reads_here (came.Malformed fault) ws = sym (append-nil ws)
   reads_here came.Plain ws = sym (append-nil ws)
   reads_here (came.Unknown stream) ws = sym (append-nil ws)
@@ -183,21 +204,21 @@ module _ (plan : Plan) (ps : List Packet) (e : Event) (end port : PortName) (at 
   reads_here (came.Fail stream sub cause) ws = sym (append-nil ws)
   reads_here (came.Held unit) ws = sym (append-nil ws)
   reads_here (came.Accepted unit count) ws =
-      ap (λ (q : PortName). if q.line == port.line then ws ++ reads_by unit.draw (effects unit) ps else ws) at
-      ∙ ap (λ (b : Bool). if b then ws ++ reads_by unit.draw (effects unit) ps else ws) (same-true port.line)
+      ap (λ (q : PortName). if is_same_port q port then ws ++ by_unit port unit else ws) at
+      ∙ ap (λ (b : Bool). if b then ws ++ by_unit port unit else ws) (same_port port)
 
-  reads_there : (answer : Arrival) (k : ℕ) (ws : List WaitingRead) → (port.line == k) ≡ false
-      → waiting_reads_after plan ps e (arrival_verdict end port answer effects) k ws ≡ ws
-  reads_there (came.Malformed fault) k ws other = refl
-  reads_there came.Plain k ws other = refl
-  reads_there (came.Unknown stream) k ws other = refl
-  reads_there (came.Insecure stream) k ws other = refl
-  reads_there (came.NotKeyed stream sub) k ws other = refl
-  reads_there (came.Fail stream sub cause) k ws other = refl
-  reads_there (came.Held unit) k ws other = refl
-  reads_there (came.Accepted unit count) k ws other =
-      ap (λ (q : PortName). if q.line == k then ws ++ reads_by unit.draw (effects unit) ps else ws) at
-      ∙ ap (λ (b : Bool). if b then ws ++ reads_by unit.draw (effects unit) ps else ws) other
+  reads_there : (answer : Arrival) (p : PortName) (ws : List WaitingRead) → is_same_port port p ≡ false
+      → waiting_reads_after plan statuses ps e (arrival_verdict end port answer effects) p ws ≡ ws
+  reads_there (came.Malformed fault) p ws other = refl
+  reads_there came.Plain p ws other = refl
+  reads_there (came.Unknown stream) p ws other = refl
+  reads_there (came.Insecure stream) p ws other = refl
+  reads_there (came.NotKeyed stream sub) p ws other = refl
+  reads_there (came.Fail stream sub cause) p ws other = refl
+  reads_there (came.Held unit) p ws other = refl
+  reads_there (came.Accepted unit count) p ws other =
+      ap (λ (q : PortName). if is_same_port q p then ws ++ by_unit p unit else ws) at
+      ∙ ap (λ (b : Bool). if b then ws ++ by_unit p unit else ws) other
 
 -- ---- what it stores
 
@@ -379,10 +400,13 @@ module _ (plan : Plan) (ends : EndsView) (k : KeeperView) (packets : List LinkPa
   agrees f g opens =
       unit_agrees plan st h end here stands (end_of plan ends k packets end here links here_is) f g opens bytes
 
-  reads_agree : of_unit answer (λ unit. reads_by unit.draw (effects unit) ended)
-      ≡ of_unit answer (λ unit. reads_by unit.draw (effects unit) delivered)
-  reads_agree = agrees (λ unit ps. reads_by unit.draw (effects unit) ps)
-      (λ unit ps. reads_by unit.draw (effects unit) ps) (λ unit ps. reads_opened unit.draw (effects unit) _ _ 0 ps)
+  abbrev reads_of : List InterfaceStatus → UnitName → List Packet → List WaitingRead
+  reads_of zs unit ps = reads_by (targets_at port.side zs) end unit (effects unit) ps
+
+  reads_agree : (zs : List InterfaceStatus) → of_unit answer (λ unit. reads_of zs unit ended)
+      ≡ of_unit answer (λ unit. reads_of zs unit delivered)
+  reads_agree zs = agrees (reads_of zs) (reads_of zs)
+      (λ unit ps. reads_opened (targets_at port.side zs) end unit (effects unit) _ _ 0 ps)
 
   statuses_are : statuses port.line ≡ link_statuses l a
   statuses_are = (λ i. statuses_of_ends (l_is i) (a_is i))
@@ -408,15 +432,57 @@ module _ (plan : Plan) (ends : EndsView) (k : KeeperView) (packets : List LinkPa
   abbrev says : Verdict
   says = arrival_verdict end port answer effects
 
-  turns_here : (new : List HopTlp) (a' : LinkAccesses) → a'.reads ≡ a.reads
-      ++ of_unit answer (λ unit. reads_by unit.draw (effects unit) delivered) → a'.floors ≡ a.floors → a'.guarded.sizes
+  -- the reads that wait at the port of a side of the link afterwards
+  abbrev after_at : Side → List WaitingRead → List WaitingRead
+  after_at side ws = waiting_reads_after plan statuses ended e says (port_at side port.line) ws
+
+  reads_at_port : (a' : LinkAccesses) → reads_on port.side a' ≡ reads_on port.side a
+      ++ of_unit answer (λ unit. reads_of (link_statuses l a) unit delivered)
+      → reads_on port.side a' ≡ after_at port.side (reads_on port.side a)
+  reads_at_port a' reads =
+      reads
+      ∙ ap (λ (ws : List WaitingRead). reads_on port.side a ++ ws) (sym (reads_agree (link_statuses l a))
+      ∙ ap (λ (zs : List InterfaceStatus). of_unit answer (λ unit. reads_of zs unit ended)) (sym statuses_are))
+      ∙ sym (reads_here plan statuses ended e end port at effects answer (reads_on port.side a))
+
+  -- of the other side
+  reads_beside : (a' : LinkAccesses) (side : Side) → reads_on side a' ≡ reads_on side a
+      → is_same_port port (port_at side port.line) ≡ false → reads_on side a' ≡ after_at side (reads_on side a)
+  reads_beside a' side same other = same ∙ sym (reads_there plan statuses ended e end port at effects answer
+      (port_at side port.line) (reads_on side a) other)
+
+  reads_turn : (a' : LinkAccesses) → reads_on port.side a' ≡ reads_on port.side a
+      ++ of_unit answer (λ unit. reads_of (link_statuses l a) unit delivered)
+      → other_reads port.side a' ≡ other_reads port.side a
+      → (side : Side) → reads_on side a' ≡ after_at side (reads_on side a)
+  reads_turn a' reads others = by port.side refl
+    where
+      here_at : (s : Side) → port.side ≡ s → reads_on s a' ≡ after_at s (reads_on s a)
+      here_at s is = subst (λ (t : Side). reads_on t a' ≡ after_at t (reads_on t a)) is (reads_at_port a' reads)
+
+      apart_at : (s t : Side) → port.side ≡ s → (sent_direction s == sent_direction t) ≡ false
+          → is_same_port port (port_at t port.line) ≡ false
+      apart_at s t is other =
+          ap (λ (u : Side). (sent_direction u == sent_direction t) && (port.line == port.line)) is
+          ∙ ap (λ (b : Bool). b && (port.line == port.line)) other
+
+      by : (s : Side) → port.side ≡ s → (side : Side) → reads_on side a' ≡ after_at side (reads_on side a)
+      by Host is Host = here_at Host is
+      by Host is Device = reads_beside a' Device
+          (subst (λ (t : Side). other_reads t a' ≡ other_reads t a) is others) (apart_at Host Device is refl)
+      by Device is Host = reads_beside a' Host
+          (subst (λ (t : Side). other_reads t a' ≡ other_reads t a) is others) (apart_at Device Host is refl)
+      by Device is Device = here_at Device is
+
+  turns_here : (new : List HopTlp) (a' : LinkAccesses) → reads_on port.side a' ≡ reads_on port.side a
+      ++ of_unit answer (λ unit. reads_of (link_statuses l a) unit delivered)
+      → other_reads port.side a' ≡ other_reads port.side a → a'.floors ≡ a.floors → a'.guarded.sizes
       ≡ a.guarded.sizes → MmioLeads a.guarded
       (of_unit answer (λ unit. map (packet_stored (link_statuses l a) port unit) delivered)) a'.guarded → a'.carried
-      ≡ a.carried → TurnsHere (waiting_reads_after plan ended e says port.line) (same_floors port.line)
+      ≡ a.carried → TurnsHere after_at (same_floors port.line)
       (happens_by_packets plan statuses ended e says port.line) (carried_next new e says port.line) a a'
-  turns_here new a' reads floors sizes stored carried = record {
-    reads_are = reads ∙ ap (λ (ws : List WaitingRead). a.reads ++ ws) (sym reads_agree)
-        ∙ sym (reads_here plan ended e end port at effects answer a.reads);
+  turns_here new a' reads others floors sizes stored carried = record {
+    reads_are = reads_turn a' reads others;
     floors_are = floors;
     sizes_are = sizes;
     leads = λ older left.
@@ -434,10 +500,12 @@ module _ (plan : Plan) (ends : EndsView) (k : KeeperView) (packets : List LinkPa
   }
 
   rests_there : (new : List HopTlp) (i : ℕ) → (port.line == i) ≡ false
-      → RestsAt (waiting_reads_after plan ended e says) same_floors (happens_by_packets plan statuses ended e says)
+      → RestsAt (waiting_reads_after plan statuses ended e says) same_floors (happens_by_packets plan statuses ended e says)
       (carried_next new e says) i
   rests_there new i other = record {
-    reads_rest = λ ws. reads_there plan ended e end port at effects answer i ws other;
+    reads_rest = λ side ws. reads_there plan statuses ended e end port at effects answer (port_at side i) ws
+        (ap (λ (b : Bool). (sent_direction port.side == sent_direction side) && b) other
+        ∙ and_false (sent_direction port.side == sent_direction side));
     floors_rest = λ ns. refl;
     nothing = λ older.
         ap (λ (hs : List (Option Happened)). newest_happened hs older)
@@ -454,7 +522,7 @@ pub arrival_turns : (plan : Plan) (ends new : EndsView) (k : KeeperView) (packet
     → Brings m end port bytes verdict ends c xs new d zs → (e : Event) → IsQuiet plan e → AreLinks plan ends k
     → PortsStandFor plan (state_of plan ends k packets) h
     → (let ps = unit_in plan (state_of plan ends k packets) (Some (record { port = end; bytes = bytes })) in
-    AccessesTurn (waiting_reads_after plan ps e verdict) same_floors
+    AccessesTurn (waiting_reads_after plan (policy_in m ends xs).statuses ps e verdict) same_floors
     (happens_by_packets plan (policy_in m ends xs).statuses ps e verdict)
     (carried_next (unit_tlps plan ps verdict) e verdict)
     xs zs)
@@ -466,14 +534,15 @@ arrival_turns plan ends new k packets m c d xs zs h end port here l a bytes verd
     let says : Verdict = arrival_verdict end port (take_step here (cut_of bytes)).answer
     (λ unit. effects_at c.regions m port l a unit (take_step here (cut_of bytes)).port.delivered) in
     let tlps : List HopTlp = unit_tlps plan ps says in
-    subst (λ (ws : List LinkAccesses). AccessesTurn (waiting_reads_after plan ps e verdict) same_floors
+    subst (λ (ws : List LinkAccesses). AccessesTurn (waiting_reads_after plan statuses ps e verdict) same_floors
     (happens_by_packets plan statuses ps e verdict) (carried_next (unit_tlps plan ps verdict) e verdict) xs ws)
     (sym x.accesses_are)
-    (subst (λ (w : Verdict). AccessesTurn (waiting_reads_after plan ps e w) same_floors
+    (subst (λ (w : Verdict). AccessesTurn (waiting_reads_after plan statuses ps e w) same_floors
     (happens_by_packets plan statuses ps e w) (carried_next (unit_tlps plan ps w) e w) xs
     (slice_set xs port.line x.access)) (sym x.came.verdict_is)
     (turn_at _ _ _ _ xs port.line a x.access a_is
     (turns_here plan ends k packets m c.regions xs h end port here l a links stands here_is l_is a_is at apart no_way e
-    quiet bytes tlps x.access x.came.reads_are x.came.floors_stay x.came.sizes_stay x.came.stored x.came.carried_stay)
+    quiet bytes tlps x.access x.came.reads_are x.came.others_stay x.came.floors_stay x.came.sizes_stay
+    x.came.stored x.came.carried_stay)
     (rests_there plan ends k packets m c.regions xs h end port here l a links stands here_is l_is a_is at apart no_way
     e quiet bytes tlps)))

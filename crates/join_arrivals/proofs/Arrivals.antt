@@ -13,6 +13,7 @@ unfoldable use Rattle.machine_ports.specs.Machine.{with_stream_state, step_of}
 use Rattle.spec_stream.specs.Stream.{unit_name, Accepted, LiveKey, StreamState, PacketOutcome, state_after}
 use Rattle.spec_stream.specs.Stream.{stream_outcome}
 use Rattle.link_stores.specs.declared.link.LinkAccesses.{LinkAccesses}
+use Rattle.link_stores.specs.{reads_on}
 use Rattle.std.proofs.Common.{Bool, List, [], ap, arith, false, length, refl, sym, ℕ, ◌+◌, ◌==◌, ◌∙◌, ◌∷◌, ◌≡◌}
 use Rattle.std.specs.Prelude.{Err, None, Ok, Option, Result, Some, if◌then◌else◌, option_map}
 use Rattle.ide_types.specs.declared.port.PortName.{PortName}
@@ -74,20 +75,21 @@ module _ (plan : Plan) (policy : Policy) (port : PortName) (unit : UnitName) (ap
   same_host waiting p (Err f) = refl
   same_host waiting p (Ok head) = refl
 
-  same_device : (p : Packet) (r : Result HeadView TlpFault) → claimed_effect (policy.statuses port.line) unit p.prefix.t
-      r ≡ device_effect (policy.statuses port.line) unit p r
-  same_device p (Err f) = refl
-  same_device p (Ok head) = refl
+  same_device : (waiting : ℕ) (p : Packet) (r : Result HeadView TlpFault)
+      → claimed_effect (policy.statuses port.line) waiting unit p.prefix.t r
+      ≡ device_effect (policy.statuses port.line) waiting unit p r
+  same_device waiting p (Err f) = refl
+  same_device waiting p (Ok head) = refl
 
   same_effect : (waiting : ℕ) (p : Packet) → effect_at waiting p ≡ effect_by plan policy waiting port unit p
   same_effect waiting p =
       (λ i. if is_sync_packet p then effect.Sync
       else if sent_direction port.side == 0 then same_host waiting p (read_head_of p.head) i
-      else same_device p (read_head_of p.head) i)
+      else same_device waiting p (read_head_of p.head) i)
       ∙ sym (ap (λ (b : Bool). if is_sync_packet p then effect.Sync else if b then switch_effect
       else if sent_direction port.side == 0
       then host_effect plan policy.grants waiting port unit p (read_head_of p.head)
-      else device_effect (policy.statuses port.line) unit p (read_head_of p.head)) apart)
+      else device_effect (policy.statuses port.line) waiting unit p (read_head_of p.head)) apart)
 
   -- decryption changes only bodies and tags
   pub opens_each : (waiting : ℕ) (key iv : List ℕ) (n : ℕ) (ps : List Packet)
@@ -105,7 +107,7 @@ module _ (plan : Plan) (policy : Policy) (port : PortName) (unit : UnitName) (ap
 abbrev pub effects_at : List Region → InterfacesView → PortName → LinkEnds → LinkAccesses → UnitName → List Packet
     → List Effect
 effects_at regions m port l a unit ps =
-    effects_from regions (grants_in m) (link_statuses l a) (length a.reads) port unit ps
+    effects_from regions (grants_in m) (link_statuses l a) (length (reads_on port.side a)) port unit ps
 
 module _ (b : BesidePorts) (plan : Plan) (end port : PortName) (at : port_of plan end ≡ port)
     (effects : UnitName → List Packet → List Effect) (opens : Opens b end effects) where

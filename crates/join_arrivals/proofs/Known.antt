@@ -35,7 +35,7 @@ all_known plan ((e, Sealed ds) ∷ h) law i x is =
     each_more (IsKnown plan) plan (ahead_of_packet plan (sealed_packets plan h) (base h)) (sent_bytes plan h e) ds
     (sealed_packets plan h)
     (live_all (IsKnown plan) plan h port stream ds (live_known plan h law.1 port stream)
-    (all_live plan h (sending_port plan e) (sent_bytes plan h e) ds sealing)) (all_known plan h law.1) i x is
+    (all_live plan h (sending_port plan h e) (sent_bytes plan h e) ds sealing)) (all_known plan h law.1) i x is
 all_known plan ((e, w) ∷ h) law i x is = all_known plan h law.1 i x is
 
 -- ---- its line is there

@@ -8,7 +8,7 @@ pub mod Known
 pub mod Routes
 pub mod Switched
 -- what proofs above cite
-pub use Rattle.join_ends.proofs.Turns.{rests_all, turn_at}
+pub use Rattle.join_ends.proofs.Turns.{reads_same, rests_all, turn_at}
 pub use Rattle.join_arrivals.proofs.Known.{sealed_there}
 pub use Rattle.join_arrivals.proofs.Routes.{Apart, Between, FarHop, IsApart, IsOnWay, LineIs, NearHop, OfLink, OnWay}
 pub use Rattle.join_arrivals.proofs.Routes.{StandsAt, between_port, far_port, hop_aggregation, line_of, near_port}
@@ -17,7 +17,7 @@ pub use Rattle.join_arrivals.proofs.Switched.{few_queued, queued_behind, switche
 pub use Rattle.join_ends.proofs.Located.{is_located}
 pub use Rattle.join_ends.proofs.Resets.{keeper_reset, links_reset, reset_grows, state_reset}
 pub use Rattle.join_ends.proofs.Sends.{at_port, cut_joined, lengths_join, sealed_on, send_keeps, sends_as}
-pub use Rattle.join_ends.proofs.Sends.{state_after_send, sent_at_port}
+pub use Rattle.join_ends.proofs.Sends.{on_id, seal_is_send, seals_as, state_after_send, sent_at_port}
 pub use Rattle.join_ends.proofs.Streams.{IsName, at_side, end_found, name_is, none_found, op_is, planned, some_op}
 pub use Rattle.join_ends.proofs.Streams.{unnamed}
 pub use Rattle.join_ends.proofs.{own_tlps, switch_admits_none, unit_agrees, waits_open, writes_agree, seen_same, there}

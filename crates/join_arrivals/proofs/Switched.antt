@@ -27,6 +27,8 @@ use Rattle.spec_links.specs.Plan.{aggregation_of, has_stream}
 use Rattle.spec_links.specs.Ports.{at_switch}
 use Rattle.spec_links.specs.Admission.{Policy, effect_by, effects_each, waiting_then}
 use Rattle.spec_links.specs.Sent.{reads_by}
+use Rattle.trusted_memory.specs.declared.queue.ReadTarget.{ReadTarget}
+use Rattle.trusted_memory.specs.declared.span.Span.{Span}
 use Rattle.machine_ports.specs.Machine.{LinkState}
 unfoldable use Rattle.machine_ports.specs.Machine.{find}
 use Rattle.machine_ports.specs.Stands.{PortsStandFor, stream_state_due}
@@ -174,17 +176,19 @@ module _ (plan : Plan) (policy : Policy) (port : PortName) (unit : UnitName) (sw
       i)
 
 -- none of them is a read that waits
-no_reads : (draw : ℕ) (b : Bool) (es : List Effect) (p : Packet) (ps : List Packet) → reads_by draw es ps ≡ []
-    → reads_by draw ((if b then effect.Sync else effect.Waiting) ∷ es) (p ∷ ps) ≡ []
-no_reads draw true es p ps none = none
-no_reads draw false es p ps none = none
+no_reads : (target : Span → Option ReadTarget) (end : PortName) (unit : UnitName) (b : Bool)
+    (es : List Effect) (p : Packet) (ps : List Packet) → reads_by target end unit es ps ≡ []
+    → reads_by target end unit ((if b then effect.Sync else effect.Waiting) ∷ es) (p ∷ ps) ≡ []
+no_reads target end unit true es p ps none = none
+no_reads target end unit false es p ps none = none
 
-pub switched_reads : (draw : ℕ) (qs ps : List Packet) → reads_by draw (switched_each qs) ps ≡ []
-switched_reads draw [] ps = refl
-switched_reads draw (q ∷ qs) [] = by (is_sync_packet q)
+pub switched_reads : (target : Span → Option ReadTarget) (end : PortName) (unit : UnitName)
+    (qs ps : List Packet) → reads_by target end unit (switched_each qs) ps ≡ []
+switched_reads target end unit [] ps = refl
+switched_reads target end unit (q ∷ qs) [] = by (is_sync_packet q)
   where
-    by : (b : Bool) → reads_by draw ((if b then effect.Sync else effect.Waiting) ∷ switched_each qs) [] ≡ []
+    by : (b : Bool) → reads_by target end unit ((if b then effect.Sync else effect.Waiting) ∷ switched_each qs) [] ≡ []
     by true = refl
     by false = refl
-switched_reads draw (q ∷ qs) (p ∷ ps) =
-    no_reads draw (is_sync_packet q) (switched_each qs) p ps (switched_reads draw qs ps)
+switched_reads target end unit (q ∷ qs) (p ∷ ps) =
+    no_reads target end unit (is_sync_packet q) (switched_each qs) p ps (switched_reads target end unit qs ps)

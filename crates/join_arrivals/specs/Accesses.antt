@@ -22,7 +22,7 @@ statuses_of_ends l a = []
 abbrev pub policy_in : InterfacesView → EndsView → List LinkAccesses → Policy
 policy_in m ends xs = record {
   grants = grants_in m;
-  waiting = λ link. length (reads_at xs link);
+  waiting = λ port. length (reads_at xs port);
   statuses = λ link. statuses_of_ends (slice_get ends.links link) (slice_get xs link);
 }
 

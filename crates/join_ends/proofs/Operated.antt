@@ -7,7 +7,7 @@ use Rattle.all_ends.proofs.Terms.{◌≡◌, ℕ, suc, zero, ◌==◌, true, fal
 use Rattle.all_ends.proofs.Terms.{arith, Option, Some, None, option_map, slice_get, slice_set, map, slice_index_or}
 use Rattle.all_ends.proofs.Terms.{same_Some, nat_tests, set-get_or, Side, Host, Device, PortName, Plan, StreamPlan}
 use Rattle.all_ends.proofs.Terms.{StreamStage, StreamState, streams_of, LinkState, LinkPacket, find_op}
-use Rattle.all_ends.proofs.Terms.{with_stream_state, port_at, StreamView, Named, named_stream, PortEnd, Found}
+use Rattle.all_ends.proofs.Terms.{with_stream_state, port_at, StreamView, Named, PortEnd, Found}
 use Rattle.all_ends.proofs.Terms.{found_stream, changed_states, LinkEnds, PairEnds, EndsView, with_port, with_pair_port}
 use Rattle.all_ends.proofs.Terms.{KeeperView, ops_by_line, line_ops, views_after, name_of, names_of, state_of, rows_of}
 use Rattle.all_ends.proofs.Terms.{ports_in, pair_ports, in_sixteen, AreLinks, port_in, pair_port, port_on, with_port_on}

@@ -2,7 +2,7 @@
 -- operations on them. A line that is not there has no stream.
 use Rattle.all_ends.specs.declared.places.LinePlace.{LinePlace}
 use Rattle.all_ends.specs.declared.places.LinePlace.TheVariants.{Link, Near, Pair}
-use Rattle.all_ends.proofs.Terms.{◌≡◌, ℕ, suc, zero, ◌+◌, ◌==◌, Bool, true, false, not, List, [], ◌∷◌, ◌++◌}
+use Rattle.all_ends.proofs.Terms.{◌≡◌, ℕ, suc, zero, ◌==◌, Bool, true, false, not, List, [], ◌∷◌, ◌++◌}
 use Rattle.all_ends.proofs.Terms.{length, refl, ap, sym, ◌∙◌, subst, arith, Option, Some, None, option_map, slice_get}
 use Rattle.all_ends.proofs.Terms.{slice_set, map, if◌then◌else◌, nat_tests, none-some, set-get_or, same_Some, nat_lt}
 use Rattle.all_ends.proofs.Terms.{StreamStage, Idle, Side, Host, Device, PortName, Plan, StreamPlan, StreamState}

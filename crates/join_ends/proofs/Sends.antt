@@ -12,6 +12,8 @@ use Rattle.all_ends.proofs.Terms.{stepped_answer, find, streams_of, PortsStandFo
 use Rattle.all_ends.proofs.Terms.{packet_lengths, joined_packets, PortEnd, Found, found_stream, changed_states}
 use Rattle.all_ends.proofs.Terms.{SendStep, KeeperView, EndsView, IsPort, state_of, found_id, changed_same, port_on}
 use Rattle.all_ends.proofs.Terms.{with_port_on, BesidePorts}
+use Rattle.std.specs.Prelude.{false, Result, Ok, Err}
+use Rattle.tlp_layout.specs.declared.fault.TlpFault.{TlpFault}
 use Rattle.tlp_layout.specs.declared.tlp.Tlp.{Tlp}
 use Rattle.tlp_layout.specs.Class.{class_of}
 use Rattle.tlp_layout.specs.Faults.{place_in}
@@ -23,9 +25,9 @@ use Rattle.event_verdicts.specs.declared.verdict.Verdict.TheVariants as v
 use Rattle.event_verdicts.specs.declared.verdict.SealedPacket.{SealedPacket as Described}
 use Rattle.spec_stream.specs.Sending.{Sending, Lanes, refusals, first_that_holds, sealed_with_syncs}
 use Rattle.spec_links.proofs.Choices.{stream_known}
-use Rattle.machine_ports.specs.Machine.{stepped_on_stream, stepped_send}
+use Rattle.machine_ports.specs.Machine.{stepped_on_stream, stepped_send, stepped_tlp}
 use Rattle.ide_port.specs.StreamSends.{ok_unless_verdict, unless_verdict}
-use Rattle.ide_port.specs.Sends.{unsealed_step, as_verdict, stream_step, send_step}
+use Rattle.ide_port.specs.Sends.{unsealed_step, as_verdict, seal_step, stream_step, send_step}
 use Rattle.ide_port.specs.{Trusting, sent_verdict}
 use Rattle.all_ends.proofs.Finds.{IsWired, find_at, put_at, state_kept, aggregation_at, closed_at}
 use Rattle.all_ends.proofs.Kept.{Keeps}
@@ -59,6 +61,16 @@ lengths_join (p ∷ ps) (q ∷ qs) is =
     )
 
 -- ---- one step
+
+-- on a stream of an ID it is a send that takes it
+abbrev pub on_id : Result Tlp TlpFault → ℕ → Outgoing
+on_id (Err fault) id = NoTlp fault
+on_id (Ok t) id = OnStream t id
+
+pub seal_is_send : (e : PortEnd) (r : Result Tlp TlpFault) (id : ℕ) (trusted : Bool) (n : ℕ)
+    → seal_step e r id trusted n ≡ send_step e (on_id r id) false (λ head stream. trusted) n
+seal_is_send e (Err fault) id trusted n = refl
+seal_is_send e (Ok t) id trusted n = refl
 
 pub send_keeps : (e : PortEnd) (o : Outgoing) (more : Bool) (sets : Trusting) (n : ℕ)
     → Keeps e (send_step e o more sets n).port
@@ -144,6 +156,28 @@ module _ (plan : Plan) (ends : EndsView) (k : KeeperView) (packets : List LinkPa
       (put_at plan ends k packets wired_is end e is id (record f.state { tx = sealed.1 }) _ at_end
       (ap (λ (j : ℕ). changed_states e.plans e.states j (record f.state { tx = sealed.1 })) name))
 
+  -- on a stream that it has
+  found_as : (t : Tlp) (more trusted : Bool) (id : ℕ) (f : Found) → found_stream e.plans e.states id ≡ Some f
+      → stepped_on_stream plan st (send_of end id t more trusted) t (Some f.state)
+      ≡ state_after_send plan ends k packets end (stream_step e t more trusted (length packets + 1) (Some f))
+  found_as t more trusted id f at =
+      let s : Sending = send_of end id t more trusted in
+      let aggregation : aggregation_of plan end.line id ≡ f.plan.aggregation = aggregation_at plan end e id f at_end at
+      in
+      let lanes : lanes_of (aggregation_of plan end.line id) plan.units_per_key f.state
+      ≡ lanes_of f.plan.aggregation e.limit f.state = (λ i. lanes_of (aggregation i) (sym at_end.limit i) f.state) in
+      let refusal = λ (y : Sending). first_that_holds
+      (refusals (lanes_of f.plan.aggregation e.limit f.state) y.class) in
+      let name : f.plan.id ≡ id = found_id e.plans e.states id f at in
+      let same : s ≡ new_sending e.name f.plan.id (class_of (header t)) more trusted =
+      (λ i. send_of (sym at_end.name i) (sym name i) t more trusted) in
+      ap (λ (ls : Lanes). stepped_answer plan st s t f.state (first_that_holds (refusals ls s.class))
+      (sealed_with_syncs ls s (length packets + 1))) lanes
+      ∙ (answered_as t more trusted id f (refusal s) at refl
+      ∙ ap (λ (y : Sending). state_after_send plan ends k packets end
+      (on_stream e t f y (length packets + 1) (refusal y)))
+      same)
+
   outgoing_same : (bytes : List ℕ)
       → outgoing_of (streams_of plan end.line) end.side bytes ≡ outgoing_of e.plans e.name.side bytes
   outgoing_same bytes = (λ i. outgoing_of (sym at_end.plans i) (sym at_end.name i).side bytes)
@@ -152,6 +186,22 @@ module _ (plan : Plan) (ends : EndsView) (k : KeeperView) (packets : List LinkPa
       → (w (port_of plan end), st) ≡ state_after_send plan ends k packets end (unsealed_step e (w e.name))
   unsealed_as w named =
       (λ i. (named i, st)) ∙ ap (λ (new : LinkState). (at_port (port_of plan end) (w e.name), new)) (state_same _ refl)
+
+  -- of a completion on a stream that it has
+  pub seals_as : (stream floor : ℕ) (trusted : Bool) (bytes : List ℕ) (r : Result Tlp TlpFault) (f : Found)
+      → found_stream e.plans e.states stream ≡ Some f
+      → stepped_tlp plan st
+      (record { end = end; stream = stream; trusted = trusted; floor = floor; bytes = bytes }) r
+      ≡ state_after_send plan ends k packets end (seal_step e r stream trusted (length packets + 1))
+  seals_as stream floor trusted bytes (Err fault) f at =
+      unsealed_as (λ n. v.Malformed n (tlp_word fault) (place_in fault)) refl
+  seals_as stream floor trusted bytes (Ok t) f at =
+      ap (λ (o : Option StreamState). stepped_on_stream plan st (send_of end stream t false trusted) t o)
+      (find_at plan ends k packets wired_is end e is stream at_end
+      ∙ ap (λ (o : Option Found). option_map (λ (x : Found). x.state) o) at)
+      ∙ (found_as t false trusted stream f at
+      ∙ ap (λ (o : Option Found). state_after_send plan ends k packets end
+      (stream_step e t false trusted (length packets + 1) o)) (sym at))
 
   -- of bytes that are sent there on its line, if the ends stand for some history
   pub sends_as : (b : BesidePorts) (h : History) (bytes : List ℕ) (more asked : Bool) → PortsStandFor plan st h
@@ -175,25 +225,7 @@ module _ (plan : Plan) (ends : EndsView) (k : KeeperView) (packets : List LinkPa
           ap (λ (o : Option Found). option_map (λ (f : Found). f.state) o) (sym at)
           ∙ (sym (find_at plan ends k packets wired_is end e is id at_end) ∙ one) in
           absurd (none-some (stream_state_due plan h end id) none)
-      by_found t id (Some f) known at =
-          let trusted : Bool = b.t end (header t) id asked in
-          let s : Sending = send_of end id t more trusted in
-          let aggregation : aggregation_of plan end.line id ≡ f.plan.aggregation = aggregation_at plan end e id f at_end
-          at in
-          let lanes : lanes_of (aggregation_of plan end.line id) plan.units_per_key f.state
-          ≡ lanes_of f.plan.aggregation e.limit f.state = (λ i. lanes_of (aggregation i) (sym at_end.limit i) f.state)
-          in
-          let refusal = λ (y : Sending). first_that_holds
-          (refusals (lanes_of f.plan.aggregation e.limit f.state) y.class) in
-          let name : f.plan.id ≡ id = found_id e.plans e.states id f at in
-          let same : s ≡ new_sending e.name f.plan.id (class_of (header t)) more trusted =
-          (λ i. send_of (sym at_end.name i) (sym name i) t more trusted) in
-          ap (λ (ls : Lanes). stepped_answer plan st s t f.state (first_that_holds (refusals ls s.class))
-          (sealed_with_syncs ls s (length packets + 1))) lanes
-          ∙ (answered_as t more trusted id f (refusal s) at refl
-          ∙ ap (λ (y : Sending). state_after_send plan ends k packets end
-          (on_stream e t f y (length packets + 1) (refusal y)))
-          same)
+      by_found t id (Some f) known at = found_as t more (b.t end (header t) id asked) id f at
 
       by_outgoing : (o : Outgoing) → outgoing_of (streams_of plan end.line) end.side bytes ≡ o
           → stepped_send plan b st end o more asked ≡ state_after_send plan ends k packets end

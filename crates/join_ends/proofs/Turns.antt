@@ -16,7 +16,10 @@ use Rattle.hop_queues.specs.declared.queues.HopQueues.{HopQueues}
 use Rattle.hop_queues.specs.{queue_of}
 use Rattle.trusted_memory.specs.declared.queue.WaitingRead.{WaitingRead}
 use Rattle.law_reads.specs.{clears_hop}
-use Rattle.link_stores.specs.Accesses.{without_tlps}
+use Rattle.link_stores.specs.Accesses.{other_reads, reads_on, without_tlps}
+use Rattle.machine_ports.specs.Machine.{port_at}
+use Rattle.ide_types.specs.declared.port.Side.{Side}
+use Rattle.ide_types.specs.declared.port.Side.TheVariants.{Host, Device}
 use Rattle.link_stores.specs.declared.link.LinkAccesses.{LinkAccesses}
 use Rattle.join_ends.specs.Turns.{AccessesStay, AccessesTurn, AreLeftBy, carried_on_link, floors_at, hops_cleared}
 use Rattle.join_ends.specs.Turns.{mmio_at, nothing_happens, reads_at, same_carried, same_floors, same_reads, sizes_at}
@@ -24,23 +27,34 @@ use Rattle.join_ends.specs.Turns.{mmio_at, nothing_happens, reads_at, same_carri
 -- ---- one link changes
 
 -- what becomes of it
-pub record TurnsHere (reads : List WaitingRead → List WaitingRead) (floors : List ℕ → List ℕ)
+pub record TurnsHere (reads : Side → List WaitingRead → List WaitingRead) (floors : List ℕ → List ℕ)
     (hs : List (Option Happened)) (carried : Direction → List HopTlp → List HopTlp) (a a' : LinkAccesses) :
     Type 0 where
-  pub reads_are : a'.reads ≡ reads a.reads
+  pub reads_are : (side : Side) → reads_on side a' ≡ reads side (reads_on side a)
   pub floors_are : a'.floors ≡ floors a.floors
   pub sizes_are : a'.guarded.sizes ≡ a.guarded.sizes
   pub leads : MmioLeads a.guarded hs a'.guarded
   pub carried_are : (d : Direction) → (queue_of a'.carried d).tlps ≡ carried d (queue_of a.carried d).tlps
 
 -- of this other link nothing is said
-pub record RestsAt (reads : ℕ → List WaitingRead → List WaitingRead) (floors : ℕ → List ℕ → List ℕ)
+pub record RestsAt (reads : PortName → List WaitingRead → List WaitingRead) (floors : ℕ → List ℕ → List ℕ)
     (happening : ℕ → List (Option Happened)) (carried : ℕ → Direction → List HopTlp → List HopTlp) (k : ℕ) :
     Type 0 where
-  pub reads_rest : (ws : List WaitingRead) → reads k ws ≡ ws
+  pub reads_rest : (side : Side) (ws : List WaitingRead) → reads (port_at side k) ws ≡ ws
   pub floors_rest : (ns : List ℕ) → floors k ns ≡ ns
   pub nothing : (older : List Happened) → newest_happened (happening k) older ≡ older
   pub carried_rest : (d : Direction) (ts : List HopTlp) → carried k d ts ≡ ts
+
+-- those that wait at both ports stay
+pub reads_same : (side : Side) (a a' : LinkAccesses) → a'.host_reads ≡ a.host_reads
+    → a'.device_reads ≡ a.device_reads → reads_on side a' ≡ reads_on side a
+reads_same Host a a' host device = host
+reads_same Device a a' host device = device
+
+pub others_same : (side : Side) (a a' : LinkAccesses) → a'.host_reads ≡ a.host_reads
+    → a'.device_reads ≡ a.device_reads → other_reads side a' ≡ other_reads side a
+others_same Host a a' host device = device
+others_same Device a a' host device = host
 
 not_same : (i k : ℕ) → (i == k) ≡ false → i ≡ k → ⊥
 not_same i k other same = let no : true ≡ false = sym (same-true i) ∙ ap (λ (n : ℕ). i == n) same ∙ other in absurd cc
@@ -65,16 +79,17 @@ bytes_in o = option_map_or (λ (x : LinkAccesses). mmio_byte x.guarded) o (λ i 
 abbrev tlps_in : Direction → Option LinkAccesses → List HopTlp
 tlps_in d o = option_map_or (λ (x : LinkAccesses). (queue_of x.carried d).tlps) o []
 
-module _ (reads : ℕ → List WaitingRead → List WaitingRead) (floors : ℕ → List ℕ → List ℕ)
+module _ (reads : PortName → List WaitingRead → List WaitingRead) (floors : ℕ → List ℕ → List ℕ)
     (happening : ℕ → List (Option Happened)) (carried : ℕ → Direction → List HopTlp → List HopTlp)
     (xs : List LinkAccesses) (link : ℕ) (a a' : LinkAccesses) (is : slice_get xs link ≡ Some a)
-    (here : TurnsHere (reads link) (floors link) (happening link) (carried link) a a')
+    (here : TurnsHere (λ side. reads (port_at side link)) (floors link) (happening link) (carried link) a a')
     (rests : (k : ℕ) → (link == k) ≡ false → RestsAt reads floors happening carried k) where
   abbrev changed : List LinkAccesses
   changed = slice_set xs link a'
 
   record AtLink (k : ℕ) : Type 0 where
-    reads_are : reads_at changed k ≡ reads k (reads_at xs k)
+    reads_are : (side : Side) → reads_at changed (port_at side k)
+        ≡ reads (port_at side k) (reads_at xs (port_at side k))
     floors_are : floors_at changed k ≡ floors k (floors_at xs k)
     sizes_are : sizes_at changed k ≡ sizes_at xs k
     bytes_are : (older : List Happened) → AreLeftBy (mmio_at xs k) older
@@ -85,9 +100,9 @@ module _ (reads : ℕ → List WaitingRead → List WaitingRead) (floors : ℕ �
   at_this =
       let after : slice_get changed link ≡ Some a' = set_here xs link a a' is in
       record {
-        reads_are = ap (λ (o : Option LinkAccesses). option_map_or (λ (x : LinkAccesses). x.reads) o []) after
-            ∙ here.reads_are
-            ∙ ap (λ (o : Option LinkAccesses). reads link (option_map_or (λ (x : LinkAccesses). x.reads) o []))
+        reads_are = λ side. ap (λ (o : Option LinkAccesses). option_map_or (reads_on side) o []) after
+            ∙ here.reads_are side
+            ∙ ap (λ (o : Option LinkAccesses). reads (port_at side link) (option_map_or (reads_on side) o []))
             (sym is);
         floors_are = ap (λ (o : Option LinkAccesses). option_map_or (λ (x : LinkAccesses). x.floors) o []) after
             ∙ here.floors_are
@@ -109,8 +124,8 @@ module _ (reads : ℕ → List WaitingRead → List WaitingRead) (floors : ℕ �
       let same : slice_get changed k ≡ slice_get xs k = get_other xs link k a' (not_same link k other) in
       let r = rests k other in
       record {
-        reads_are = ap (λ (o : Option LinkAccesses). option_map_or (λ (x : LinkAccesses). x.reads) o []) same
-            ∙ sym (r.reads_rest _);
+        reads_are = λ side. ap (λ (o : Option LinkAccesses). option_map_or (reads_on side) o []) same
+            ∙ sym (r.reads_rest side _);
         floors_are = ap (λ (o : Option LinkAccesses). option_map_or (λ (x : LinkAccesses). x.floors) o []) same
             ∙ sym (r.floors_rest _);
         sizes_are = ap (λ (o : Option LinkAccesses). option_map_or (λ (x : LinkAccesses). x.guarded.sizes) o []) same;
@@ -130,7 +145,7 @@ module _ (reads : ℕ → List WaitingRead → List WaitingRead) (floors : ℕ �
   pub turn_at : AccessesTurn reads floors happening carried xs (slice_set xs link a')
   turn_at = record {
     many = length-set xs link a';
-    reads = λ k. (at_any k (link == k) refl).reads_are;
+    reads = λ p. (at_any p.line (link == p.line) refl).reads_are p.side;
     floors = λ k. (at_any k (link == k) refl).floors_are;
     sizes = λ k. (at_any k (link == k) refl).sizes_are;
     bytes = λ k. (at_any k (link == k) refl).bytes_are;
@@ -139,13 +154,13 @@ module _ (reads : ℕ → List WaitingRead → List WaitingRead) (floors : ℕ �
 
 -- ---- no link changes
 
-pub rests_all : (reads : ℕ → List WaitingRead → List WaitingRead) (floors : ℕ → List ℕ → List ℕ)
+pub rests_all : (reads : PortName → List WaitingRead → List WaitingRead) (floors : ℕ → List ℕ → List ℕ)
     (happening : ℕ → List (Option Happened)) (carried : ℕ → Direction → List HopTlp → List HopTlp)
     (xs : List LinkAccesses)
     → ((k : ℕ) → RestsAt reads floors happening carried k) → AccessesTurn reads floors happening carried xs xs
 rests_all reads floors happening carried xs rests = record {
   many = refl;
-  reads = λ k. sym ((rests k).reads_rest _);
+  reads = λ p. sym ((rests p.line).reads_rest p.side _);
   floors = λ k. sym ((rests k).floors_rest _);
   sizes = λ k. refl;
   bytes = λ k older left.
@@ -155,7 +170,7 @@ rests_all reads floors happening carried xs rests = record {
 
 pub stays_all : (xs : List LinkAccesses) → AccessesStay xs xs
 stays_all xs = rests_all same_reads same_floors nothing_happens same_carried xs (λ k. record {
-  reads_rest = λ ws. refl;
+  reads_rest = λ side ws. refl;
   floors_rest = λ ns. refl;
   nothing = λ older. refl;
   carried_rest = λ d ts. refl;
@@ -163,7 +178,7 @@ stays_all xs = rests_all same_reads same_floors nothing_happens same_carried xs 
 
 -- ---- one after another
 
-module _ {reads : ℕ → List WaitingRead → List WaitingRead} {floors : ℕ → List ℕ → List ℕ}
+module _ {reads : PortName → List WaitingRead → List WaitingRead} {floors : ℕ → List ℕ → List ℕ}
     {happening : ℕ → List (Option Happened)} {carried : ℕ → Direction → List HopTlp → List HopTlp}
     {xs ys : List LinkAccesses} (first : AccessesTurn reads floors happening carried xs ys) where
   -- TLPs at switches alone turn then
@@ -172,7 +187,7 @@ module _ {reads : ℕ → List WaitingRead → List WaitingRead} {floors : ℕ �
       → AccessesTurn reads floors happening (λ k d ts. later k d (carried k d ts)) xs zs
   turn_then later zs second = record {
     many = second.many ∙ first.many;
-    reads = λ k. second.reads k ∙ first.reads k;
+    reads = λ p. second.reads p ∙ first.reads p;
     floors = λ k. second.floors k ∙ first.floors k;
     sizes = λ k. second.sizes k ∙ first.sizes k;
     bytes = λ k older left. second.bytes k (newest_happened (happening k) older) (first.bytes k older left);
@@ -214,7 +229,7 @@ clears_here xs link a is =
     turn_at same_reads same_floors nothing_happens (cleared_here link) xs link a
     (record a { carried = without_tlps a.carried }) is
     (record {
-      reads_are = refl;
+      reads_are = λ side. reads_same side a (record a { carried = without_tlps a.carried }) refl refl;
       floors_are = refl;
       sizes_are = refl;
       leads = λ older left. left;
@@ -222,7 +237,7 @@ clears_here xs link a is =
           ∙ sym (ap (λ (b : Bool). if b then [] else (queue_of a.carried d).tlps) (same-true link));
     })
     (λ k other. record {
-      reads_rest = λ ws. refl;
+      reads_rest = λ side ws. refl;
       floors_rest = λ ns. refl;
       nothing = λ older. refl;
       carried_rest = λ d ts. ap (λ (b : Bool). if b then [] else ts) other;

@@ -1,5 +1,5 @@
--- What stands at each link beside its ports and interfaces: the reads that wait, the memory of its device, the least
--- draws that its device's interfaces take trusted writes under, and the TLPs that wait at the switch of its hop; and
+-- What stands at each link beside its ports and interfaces: the reads that wait at each port, the memory of its device,
+-- the least draws that its device's interfaces take trusted requests under, and the TLPs that wait at the switch of its hop; and
 -- what becomes of it.
 use Rattle.std.specs.Prelude.{ℕ, ◌≡◌, ◌&&◌, nat_lt, if◌then◌else◌, List, [], length, slice_get, Option}
 use Rattle.std.specs.Option.{option_map_or}
@@ -16,11 +16,12 @@ use Rattle.hop_queues.specs.{queue_of}
 use Rattle.trusted_memory.specs.declared.queue.WaitingRead.{WaitingRead}
 use Rattle.law_reads.specs.{clears_hop}
 use Rattle.link_stores.specs.declared.link.LinkAccesses.{LinkAccesses}
+use Rattle.link_stores.specs.{reads_on}
 
--- ---- by link
+-- ---- by port, and by link
 
-abbrev pub reads_at : List LinkAccesses → ℕ → List WaitingRead
-reads_at xs link = option_map_or (λ (x : LinkAccesses). x.reads) (slice_get xs link) []
+abbrev pub reads_at : List LinkAccesses → PortName → List WaitingRead
+reads_at xs port = option_map_or (reads_on port.side) (slice_get xs port.line) []
 
 abbrev pub floors_at : List LinkAccesses → ℕ → List ℕ
 floors_at xs link = option_map_or (λ (x : LinkAccesses). x.floors) (slice_get xs link) []
@@ -43,13 +44,13 @@ carried_on_link xs link d = option_map_or (λ (x : LinkAccesses). (queue_of x.ca
 abbrev pub AreLeftBy : (ℕ → ℕ → ℕ → ℕ) → List Happened → Type 0
 AreLeftBy byte happened = (i b offset : ℕ) → byte i b offset ≡ byte_shown happened i b offset
 
--- by link: what becomes of the reads, what becomes of the floors, what happens to the bytes, and what becomes of the
--- TLPs at the switch
-pub record AccessesTurn (reads_after : ℕ → List WaitingRead → List WaitingRead) (floors_after : ℕ → List ℕ → List ℕ)
+-- what becomes of the reads, by port; and by link what becomes of the floors, what happens to the bytes, and what becomes
+-- of the TLPs at the switch
+pub record AccessesTurn (reads_after : PortName → List WaitingRead → List WaitingRead) (floors_after : ℕ → List ℕ → List ℕ)
     (happening : ℕ → List (Option Happened)) (carried_after : ℕ → Direction → List HopTlp → List HopTlp)
     (xs ys : List LinkAccesses) : Type 0 where
   pub many : length ys ≡ length xs
-  pub reads : (link : ℕ) → reads_at ys link ≡ reads_after link (reads_at xs link)
+  pub reads : (port : PortName) → reads_at ys port ≡ reads_after port (reads_at xs port)
   pub floors : (link : ℕ) → floors_at ys link ≡ floors_after link (floors_at xs link)
   pub sizes : (link : ℕ) → sizes_at ys link ≡ sizes_at xs link
   pub bytes : (link : ℕ) (older : List Happened) → AreLeftBy (mmio_at xs link) older
@@ -57,8 +58,8 @@ pub record AccessesTurn (reads_after : ℕ → List WaitingRead → List Waiting
   pub carried : (link : ℕ) (d : Direction) → carried_on_link ys link d
       ≡ carried_after link d (carried_on_link xs link d)
 
-abbrev pub same_reads : ℕ → List WaitingRead → List WaitingRead
-same_reads link reads = reads
+abbrev pub same_reads : PortName → List WaitingRead → List WaitingRead
+same_reads port reads = reads
 
 abbrev pub same_floors : ℕ → List ℕ → List ℕ
 same_floors link floors = floors

@@ -1,6 +1,6 @@
 -- What an event on an interface makes of its bindings. Only a lock and a bind add one, to a stream that is Secure then;
 -- what ends a lock ends all of them.
-use Rattle.std.proofs.Common.{◌≡◌, ◌⊎◌, ⊎_elim, ℕ, Bool, true, false, refl, ap, sym, ◌∙◌, subst}
+use Rattle.std.proofs.Common.{◌≡◌, ⊎_elim, ℕ, Bool, true, false, refl, ap, sym, ◌∙◌, subst}
 use Rattle.std.specs.Prelude.{is_some, IfSome, Some}
 use Rattle.std.proofs.lemmas.Option.{same_Some}
 use Rattle.script_events.specs.declared.event.Event.TheVariants as event

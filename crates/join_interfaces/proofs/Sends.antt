@@ -6,7 +6,7 @@ use Rattle.std.proofs.Common.{refl, ap, sym, ◌∙◌, arith}
 use Rattle.std.specs.Prelude.{not, if◌then◌else◌, is_some, Result, Ok, Err}
 use Rattle.spec_keys.specs.Keys.{is_some_below}
 use Rattle.ide_types.specs.declared.port.PortName.{PortName}
-use Rattle.ide_types.specs.declared.port.Side.TheVariants.{Device, Host}
+use Rattle.ide_types.specs.declared.port.Side.TheVariants.{Device}
 use Rattle.ide_types.specs.declared.sub.SubKind.{SubKind}
 use Rattle.ide_types.specs.declared.sub.SubKind.TheVariants.{Pr, Npr, Cpl}
 use Rattle.ide_types.specs.Sub.{is_same_sub}
@@ -15,14 +15,14 @@ use Rattle.tlp_layout.specs.declared.tlp.Tlp.{Tlp}
 use Rattle.tlp_layout.specs.Class.{class_of}
 use Rattle.tlp_layout.specs.Head.{head_bytes}
 use Rattle.tlp_layout.specs.Tlp.{header, body}
-use Rattle.tlp_layout.specs.Outgoing.{Outgoing, NoTlp, OnNone, OnStream, outgoing_of}
+use Rattle.tlp_layout.specs.Outgoing.{Outgoing, NoTlp, OnNone, OnStream}
 use Rattle.ide_prefix.specs.Packet.{Packet}
 use Rattle.script_events.specs.declared.event.Event.TheVariants.{Access, Forward, Send}
 use Rattle.script_events.specs.declared.event.AccessEvent.TheVariants as ae
 use Rattle.event_verdicts.specs.declared.verdict.SealedPacket.{SealedPacket}
 use Rattle.event_verdicts.specs.declared.verdict.Verdict.{Verdict}
 use Rattle.event_verdicts.specs.declared.verdict.Verdict.TheVariants as v
-use Rattle.spec_links.specs.Plan.{aggregation_of, is_closed, is_same_port, streams_of}
+use Rattle.spec_links.specs.Plan.{aggregation_of, is_closed, is_same_port}
 use Rattle.spec_links.specs.Ports.{may_send, outgoing_at, sealing_end}
 use Rattle.spec_links.specs.Hops.{HopTlp, leaving_end}
 use Rattle.ide_types.specs.declared.direction.Direction.{Direction}
@@ -31,7 +31,9 @@ use Rattle.spec_stream.specs.Stream.{LaneSlot, LaneSlots, TxSub, Three, StreamSt
 use Rattle.spec_stream.specs.Stream.{gone_on, counted_unit, ended_slots, sealed_slots, sealed_sub, sealed_one}
 use Rattle.spec_stream.specs.Stream.{sealed_all, lanes_of}
 use Rattle.spec_stream.specs.Slots.{is_live_slot, any_live, has_all_live, has_some_live}
-use Rattle.ide_types.specs.Ports.{keyed_status}
+use Rattle.ide_types.specs.Ports.{device_port, host_port, keyed_status}
+use Rattle.tlp_layout.specs.Reading.{read_of}
+use Rattle.tlp_layout.specs.declared.fault.TlpFault.{TlpFault}
 use Rattle.spec_interfaces.specs.Devices.{is_secure}
 use Rattle.std.specs.Option.{option_and_then}
 use Rattle.machine_whole.specs.Accesses.{posted_draw_at}
@@ -40,8 +42,9 @@ unfoldable use Rattle.spec_interfaces.specs.Peers.{peer_end}
 use Rattle.join_interfaces.specs.Says.{AreSecureStill, says_by_ports}
 use Rattle.machine_ports.specs.Machine.{BesidePorts, LinkState, LinkPacket, Stepped, port_at, status_if_planned}
 use Rattle.machine_ports.specs.Machine.{sealing_draw_at, stepped_answer, stepped_completion, stepped_on_stream}
-use Rattle.machine_ports.specs.Machine.{stepped_bytes, stepped_forward, stepped_reply, stepped_send}
-use Rattle.machine_ports.specs.Replies.{BoundCompletion}
+use Rattle.machine_ports.specs.Machine.{stepped_bytes, stepped_forward, stepped_reply, stepped_seal, stepped_send}
+use Rattle.machine_ports.specs.Machine.{stepped_tlp}
+use Rattle.machine_ports.specs.Replies.{ReadCompletion}
 unfoldable use Rattle.machine_ports.specs.Machine.{find, with_stream_state, step_of}
 use Rattle.machine_ports.proofs.Puts.{find-put, find-put_other}
 use Rattle.machine_ports.proofs.Changes.{at_place}
@@ -172,19 +175,24 @@ found_kept plan st s t (Some x) found q n is =
     (sealed_with_syncs lanes s (length st.packets + 1))
     found q n is
 
-send_kept : (plan : Plan) (beside : BesidePorts) (st : LinkState) (port : PortName) (o : Outgoing) (more trusted : Bool)
-    → StaySecure plan st (stepped_send plan beside st port o more trusted).1
-send_kept plan beside st port (NoTlp f) more trusted q n is = is
-send_kept plan beside st port OnNone more trusted q n is = is
-send_kept plan beside st port (OnStream t stream) more trusted q n is =
+seal_kept : (plan : Plan) (st : LinkState) (port : PortName) (t : Tlp) (stream : ℕ) (more trusted : Bool)
+    → StaySecure plan st (stepped_seal plan st port t stream more trusted).1
+seal_kept plan st port t stream more trusted q n is =
     let s : Sending = record {
       port = port;
       stream = stream;
       class = class_of (header t);
       more = more;
-      trusted = beside.t port (header t) stream trusted;
+      trusted = trusted;
     } in
     found_kept plan st s t (find plan st port stream) refl q n is
+
+send_kept : (plan : Plan) (beside : BesidePorts) (st : LinkState) (port : PortName) (o : Outgoing) (more trusted : Bool)
+    → StaySecure plan st (stepped_send plan beside st port o more trusted).1
+send_kept plan beside st port (NoTlp f) more trusted = λ q n is. is
+send_kept plan beside st port OnNone more trusted = λ q n is. is
+send_kept plan beside st port (OnStream t stream) more trusted =
+    seal_kept plan st port t stream more (beside.t port (header t) stream trusted)
 
 bytes_kept : (plan : Plan) (beside : BesidePorts) (st : LinkState) (end : PortName) (bytes : List ℕ)
     (more trusted : Bool) → StaySecure plan st (stepped_bytes plan beside st end bytes more trusted).1
@@ -203,27 +211,36 @@ sends_kept plan beside st port bytes more trusted = if_kept plan st (may_send pl
     (bytes_kept plan beside st (sealing_end plan port bytes) bytes more trusted)
 
 -- an answer to a read is a send, or leaves the ports as they are
-completion_kept : (plan : Plan) (beside : BesidePorts) (st : LinkState) (port : PortName) (r : BoundCompletion)
-    (draw : Option ℕ) → StaySecure plan st (stepped_completion plan beside st port r draw).1
-completion_kept plan beside st port r draw = not_if plan st (is_some_below draw r.bound.floor) _ _
-    (send_kept plan beside st port (outgoing_of (streams_of plan port.line) port.side r.bytes) false true)
+read_kept : (plan : Plan) (st : LinkState) (c : ReadCompletion) (o : Result Tlp TlpFault)
+    → StaySecure plan st (stepped_tlp plan st c o).1
+read_kept plan st c (Err f) q n is = is
+read_kept plan st c (Ok t) q n is = seal_kept plan st c.end t c.stream false c.trusted q n is
+
+completion_kept : (plan : Plan) (st : LinkState) (c : ReadCompletion) (draw : Option ℕ)
+    → StaySecure plan st (stepped_completion plan st c draw).1
+completion_kept plan st c draw =
+    not_if plan st (is_some_below draw c.floor) _ _ (read_kept plan st c (read_of c.bytes))
   where
     not_if : (p : Plan) (s : LinkState) (b : Bool) (w : Verdict) (x : Stepped) → StaySecure p s x.1
         → StaySecure p s (if b then (w, s) else x).1
     not_if p s true w x kept q n is = is
     not_if p s false w x kept q n is = kept q n is
 
-reply_kept : (plan : Plan) (beside : BesidePorts) (st : LinkState) (port : PortName)
-    (o : Result BoundCompletion Verdict)
-    → StaySecure plan st (stepped_reply plan beside st port o).1
-reply_kept plan beside st port (Err w) q n is = is
-reply_kept plan beside st port (Ok r) q n is =
-    completion_kept plan beside st port r (sealing_draw_at Cpl (find plan st port r.bound.stream)) q n is
+reply_kept : (plan : Plan) (st : LinkState) (o : Result ReadCompletion Verdict)
+    → StaySecure plan st (stepped_reply plan st o).1
+reply_kept plan st (Err w) q n is = is
+reply_kept plan st (Ok c) q n is =
+    completion_kept plan st c (sealing_draw_at Cpl (find plan st c.end c.stream)) q n is
 
-pub answer_kept : (plan : Plan) (beside : BesidePorts) (st : LinkState) (answered : ℕ)
-    → StaySecure plan st (step_of plan beside st (Access (ae.Answer answered))).1
+pub answer_kept : (plan : Plan) (beside : BesidePorts) (st : LinkState) (link : ℕ)
+    → StaySecure plan st (step_of plan beside st (Access (ae.Answer link))).1
 unfolding step_of
-answer_kept plan beside st answered = reply_kept plan beside st (port_at Host answered) (beside.reply answered)
+answer_kept plan beside st link = reply_kept plan st (beside.reply (host_port link))
+
+pub response_kept : (plan : Plan) (beside : BesidePorts) (st : LinkState) (link : ℕ)
+    → StaySecure plan st (step_of plan beside st (Access (ae.Respond link))).1
+unfolding step_of
+response_kept plan beside st link = reply_kept plan st (beside.reply (device_port link))
 
 -- so is what a switch sends on
 first_kept : (plan : Plan) (beside : BesidePorts) (st : LinkState) (end : PortName) (o : Result HopTlp Verdict)

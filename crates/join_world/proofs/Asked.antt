@@ -2,7 +2,7 @@
 -- exchange it is the machine's step (`joined_is`), with what the ends show of the streams that it names. So every event
 -- on an interface has the machine's answer (`answer_is`).
 use Rattle.std.proofs.Common.{◌≡◌, ℕ, Bool, true, false, List, refl, sym, ap, ◌∙◌, subst}
-use Rattle.std.proofs.Common.{arith, Option, Some, None, ⊎_elim, ◌⊎◌}
+use Rattle.std.proofs.Common.{arith, Option, Some, None, ⊎_elim}
 use Rattle.std.proofs.lemmas.Bool.{cases_Bool}
 use Rattle.std.specs.List.{slice_index_or}
 use Rattle.std.specs.Option.{option_and_then}

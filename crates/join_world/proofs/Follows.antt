@@ -1,7 +1,7 @@
 -- What stands beside the ports after an event that makes no more of an interface than that a stream of its own leaves
 -- Secure. The interfaces of a device are settled by the ends of its streams, or no stream left Secure there. Either way
 -- each is the machine's, which leaves its lock if a stream that it is bound to left Secure (`placed_led`).
-use Rattle.std.proofs.Common.{◌≡◌, ◌⊎◌, ⊎_elim, ℕ, ◌<◌, ◌||◌, false, List, Bool, Option}
+use Rattle.std.proofs.Common.{◌≡◌, ◌⊎◌, ⊎_elim, ℕ, ◌<◌, ◌||◌, false, List}
 use Rattle.std.proofs.Common.{length, Some, option_map, inl, inr, ap, sym, ◌∙◌, arith}
 use Rattle.std.specs.Prelude.{slice_get, is_some}
 use Rattle.std.proofs.lemmas.List.{length-map}

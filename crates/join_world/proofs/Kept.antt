@@ -32,7 +32,7 @@ use Rattle.machine_whole.specs.Machine.{beside_of, whole_after}
 use Rattle.whole_links.specs.{AreLinks, InterfacesView, Links, links_state, BesideStays, writes_by}
 use Rattle.join_interfaces.specs.Says.{AreSecureStill, says_by_ports}
 use Rattle.join_interfaces.proofs.Settled.{leaves_none, stays_is}
-use Rattle.join_interfaces.proofs.Sends.{StaySecure, answer_kept, forward_kept, says_kept, sends_kept}
+use Rattle.join_interfaces.proofs.Sends.{StaySecure, answer_kept, forward_kept, response_kept, says_kept, sends_kept}
 use Rattle.join_world.specs.Whole.{AreDrawn, IsBeside}
 use Rattle.join_world.proofs.Rests.{Rests, rests_of_packets, rests_at_view, rests_at_memory, rests_elsewhere}
 use Rattle.join_world.proofs.Rests.{is_of_packets, is_of_peer, draw_of_packets, rests_unasked}
@@ -230,6 +230,13 @@ module _ (plan : Plan) (old new : Links) (w : Whole) (verdict : Verdict) (beside
       (whole_after plan w (Access (ae.Answer link)) verdict (links_state plan new))
   answer_beside link step =
       sealing_beside (Access (ae.Answer link)) step (answer_kept plan beside w.links link) refl refl
+
+  pub response_beside : (link : ℕ)
+      → (verdict, links_state plan new) ≡ step_of plan beside w.links (Access (ae.Respond link))
+      → IsBeside plan new.ends.links new.keeper.interfaces new.trusted.contents
+      (whole_after plan w (Access (ae.Respond link)) verdict (links_state plan new))
+  response_beside link step =
+      sealing_beside (Access (ae.Respond link)) step (response_kept plan beside w.links link) refl refl
 
   pub forward_beside : (link : ℕ) (d : Direction) → (verdict, links_state plan new)
       ≡ step_of plan beside w.links (Forward link d) → IsBeside plan new.ends.links new.keeper.interfaces

@@ -1,12 +1,12 @@
 -- What an end shows of a stream is what the machine has of it, as it keeps the states of each end (`end_found`). So a
 -- device says of its streams what the machine reads of them: of its link's at its port (`secure_is`), of those between
 -- devices at its ends of these (`shows_state`).
-use Rattle.std.proofs.Common.{◌≡◌, ℕ, ◌-◌, ◌<◌, ◌≤◌, false, List, [], ◌∷◌, refl, ap, sym, Bool}
+use Rattle.std.proofs.Common.{◌≡◌, ℕ, ◌-◌, ◌<◌, ◌≤◌, false, List, refl, ap, sym}
 use Rattle.std.proofs.Common.{◌∙◌, arith, Option, Some, None}
 use Rattle.std.proofs.lemmas.Bool.{lt-ltb, le-ltb}
 use Rattle.std.proofs.lemmas.Option.{slice_get_within}
 use Rattle.std.specs.Option.{option_and_then}
-use Rattle.std.specs.Prelude.{slice_get, option_map, unwrap_or, if◌then◌else◌, nat_lt}
+use Rattle.std.specs.Prelude.{slice_get, option_map, unwrap_or, nat_lt}
 use Rattle.ide_types.specs.declared.port.PortName.{PortName}
 use Rattle.ide_types.specs.declared.port.Side.{Side}
 use Rattle.ide_types.specs.declared.port.Side.TheVariants.{Host, Device}

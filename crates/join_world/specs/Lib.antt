@@ -19,10 +19,13 @@ pub use Rattle.whole_links.specs.{stream_named, told_by_link, told_by_peer, stop
 pub use Rattle.whole_links.specs.{views_after, waiting_reads_after, writes_by}
 pub use Rattle.whole_links.specs.Accesses.{AccessesAfter, AccessesAnswer, AccessesForward, AccessesInterface}
 pub use Rattle.whole_links.specs.Accesses.{AccessesReset, bars_named, carried_after_event, floors_set, floors_started}
+pub use Rattle.whole_links.specs.Accesses.{reads_after_event}
 pub use Rattle.whole_links.specs.Accesses.{flr_at, halted_in, happens_at, reset_happens}
 pub use Rattle.whole_links.specs.Besides.{beside_whole, forward_in, host_stream, judged_bound, reader_of}
-pub use Rattle.whole_links.specs.Besides.{completion_with_bytes, reply_at_ends, reply_numbered, reply_oldest}
-pub use Rattle.whole_links.specs.Besides.{small_number}
+pub use Rattle.whole_links.specs.Besides.{bound_completion, claimed_completion, claim_bytes, requester_at}
+pub use Rattle.whole_links.specs.Besides.{host_reply, reply_numbered, response_numbered, target_reply, reply_on_side}
+pub use Rattle.whole_links.specs.Besides.{reply_oldest, reply_at_link, port_reply, small_number}
+pub use Rattle.all_links.specs.{link_statuses, number_on_links}
 pub use Rattle.whole_links.specs.Whole.{HasAllAccesses, IsFirstWhole, WholeEnds, WholeEndsOrHasNone, WholeStays}
 pub use Rattle.whole_links.specs.declared.whole.WholeLinks.{WholeLinks}
 pub use Rattle.join_interfaces.specs.Joined.{InterfaceOperationsJoin}

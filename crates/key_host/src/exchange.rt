@@ -1,4 +1,4 @@
-//! The exchanges of the operations.
+//! The exchanges of the operations (this profile).
 
 ghost use Rattle.std.specs.Prelude.{◌≡◌, ◌≤◌, ◌<◌, true, false};
 ghost use Rattle.ide_types.specs.declared.key_set.KeySet.TheVariants.{Zero};
@@ -31,7 +31,7 @@ pub fn last(hosted: bool, operation: Operation) -> u8
     }
 }
 
-/// The selector of a slot at an end (this profile).
+/// The selector of a slot at an end.
 pub fn selector(set: KeySet, lane: u8) -> u8
     requires { lane < 6 }
     ensures { result ≡ selector_of set lane }
@@ -39,8 +39,7 @@ pub fn selector(set: KeySet, lane: u8) -> u8
     set.number() + 2 * (lane / 3) + 16 * (lane % 3)
 }
 
-/// Exchange `n` of an operation that gives keys in this set, on a line with a host's port at its near end or with none
-/// (this profile).
+/// Exchange `n` of an operation that gives keys in this set, on a line with a host's port at its near end or with none.
 pub fn exchange_at(hosted: bool, operation: Operation, set: KeySet, n: u8) -> Exchange
     requires first { 1 ≤ n }
     requires last { n ≤ last_exchange_of hosted operation }
@@ -141,7 +140,7 @@ fn paired_keying(set: KeySet, n: u8) -> Exchange
     }
 }
 
-/// The end of the line that exchange `n` is carried to (this profile).
+/// The end of the line that exchange `n` is carried to.
 pub fn end_at(hosted: bool, operation: Operation, n: u8) -> Side
     ensures { result ≡ end_of hosted operation n }
 {

@@ -1,4 +1,4 @@
-//! How a reply is judged.
+//! How a reply is judged (this profile).
 
 ghost use Rattle.std.specs.Prelude.{◌≡◌};
 ghost use Rattle.key_host.specs.Judging.{is_description, is_key_acknowledgement, is_acknowledgement, is_expected};
@@ -9,7 +9,7 @@ use crate::operation::ExchangeReply;
 use key_messages::{KmView, km_read};
 
 /// What was carried in answer to a request: the expected reply, nothing at all, a refusal with its code, or anything
-/// else (this profile).
+/// else.
 #[derive(Clone, Copy, PartialEq, Eq)]
 pub enum Judged {
     Expected,
@@ -54,7 +54,7 @@ fn is_acknowledgement(reply: KmView, stream: u8, selector: u8, port: u8) -> bool
     }
 }
 
-/// Whether the reply is paired with the request and gives back what it carries (this profile).
+/// Whether the reply is paired with the request and gives back what it carries.
 fn is_expected(request: KmView, reply: KmView) -> bool
     ensures { result ≡ is_expected request reply }
 {
@@ -110,7 +110,7 @@ fn reply(request: KmView, bytes: &[u8]) -> Judged
     }
 }
 
-/// Judges what was carried in answer to a request (this profile).
+/// Judges what was carried in answer to a request.
 pub fn judge(request: KmView, carried: ExchangeReply) -> Judged
     ensures { result ≡ judged_exchange request carried.entry }
 {

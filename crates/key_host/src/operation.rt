@@ -1,4 +1,4 @@
-//! Operations of the manager, and what becomes of them.
+//! Operations of the manager, and what becomes of them (this profile).
 
 ghost use Rattle.std.specs.Prelude.{◌≡◌};
 ghost use Rattle.key_host.specs.Operations.{op_name};
@@ -6,7 +6,7 @@ ghost use Rattle.key_host.specs.Operations.{op_name};
 use event_verdicts::Operation;
 use ide_types::{StreamStatus, SubKind};
 
-/// An operation of the manager, by the line's number and the stream's ID (this profile).
+/// An operation of the manager, by the line's number and the stream's ID.
 #[derive(Clone, Copy, PartialEq, Eq)]
 pub enum NamedOperation {
     /// Gives the stream keys, in key set 0.
@@ -25,7 +25,7 @@ pub enum ExchangeReply<'a> {
 }
 
 /// The outcome of an exchange: the operation's next one is to be asked; the operation is at its end; it stays where it
-/// is until it is begun again (this profile).
+/// is until it is begun again.
 #[derive(Clone, Copy, PartialEq, Eq)]
 pub enum StreamOutcome {
     Next,
@@ -42,7 +42,7 @@ pub enum StreamResult {
     Stopped,
 }
 
-/// Why an operation does not begin, or does not go on now (this profile). Exchanges are numbered from 1.
+/// Why an operation does not begin, or does not go on now. Exchanges are numbered from 1.
 #[derive(Clone, Copy, PartialEq, Eq)]
 pub enum StreamRefusal {
     /// Of establish: the stream has keys.

@@ -1,6 +1,6 @@
-//! The objects of key management.
+//! The objects of key management (this profile).
 
-/// An object of key management (PCI Express Base 6.0 section 6.33, in this profile's layout). `port` is a port
+/// An object of key management (PCI Express Base 6.0 section 6.33). `port` is a port
 /// index; `selector` has the key set in bit 0, the direction at the device in bit 1 (0 receives, 1 sends), and the
 /// sub-stream in bits 7 to 4 (0 posted, 1 non-posted, 2 completions). It has no `Debug`, which would print keys.
 #[derive(Clone, Copy, PartialEq, Eq)]
@@ -52,7 +52,7 @@ pub enum KmView {
     },
 }
 
-/// Why bytes are no object (this profile).
+/// Why bytes are no object.
 #[derive(Clone, Copy, PartialEq, Eq)]
 pub enum KmFault {
     /// Too few bytes to know the object, or not as many as it has.

@@ -1,4 +1,4 @@
-//! The calls of a port that key management moves.
+//! The calls of a port that key management moves (this profile).
 
 ghost use Rattle.std.specs.Prelude.{◌≡◌, Bool, Option};
 ghost use Rattle.key_slots.specs.{SlotPair, is_one, Program, Go, Stop};
@@ -11,14 +11,14 @@ use ide_types::KeySet;
 use key_slots::Key;
 
 /// Why a key was not taken, with the key: the port has no such place, or the slot is Live and the other holds no newer
-/// Live key (this profile).
+/// Live key.
 #[derive(Drop)]
 pub enum ProgramFault {
     NoPlace(Key),
     OnlyLive(Key),
 }
 
-/// A port with two key slots a place (PCI Express Base 6.0 section 6.33, in this profile).
+/// A port with two key slots a place (PCI Express Base 6.0 section 6.33).
 pub trait SlotPort {
     /// The two slots of each place that the port has.
     ghost slots: { Self → Place → Option SlotPair };

@@ -1,9 +1,9 @@
-//! What became of a key.
+//! What became of a key (this profile).
 
 ghost use Rattle.std.specs.Prelude.{◌≡◌};
 ghost use Rattle.key_messages.specs.Replies.{status_code};
 
-/// What became of a key, as KP_ACK says it (this profile).
+/// What became of a key, as KP_ACK says it.
 #[derive(Clone, Copy, PartialEq, Eq)]
 pub enum KeyStatus {
     Success,
@@ -16,7 +16,7 @@ pub enum KeyStatus {
 }
 
 impl KeyStatus {
-    /// Its number in KP_ACK (this profile).
+    /// Its number in KP_ACK.
     pub fn code(self) -> u8
         ensures { result ≡ status_code self }
     {

@@ -1,4 +1,4 @@
-//! A pool of keys, and the six keys of a draw.
+//! A pool of keys, and the six keys of a draw (this profile).
 
 ghost use Rattle.std.specs.Prelude.{◌≡◌, ◌*◌, ◌+◌, ◌≤◌, ◌<◌, ℕ, List, [], ◌∷◌, None, IfOk, length, slice_index_or};
 ghost use Rattle.std.specs.Prelude.{slice_set};
@@ -10,17 +10,17 @@ use ide_types::OutOfMemory;
 use std::alloc::Global;
 use std::marker::Model;
 
-/// The most keys of a pool: six for each of 1,024 draws (this profile).
+/// The most keys of a pool: six for each of 1,024 draws.
 pub const MAX_KEYS: usize = 6_144;
 
-/// All draws were made; `draws` is how many they are (this profile).
+/// All draws were made; `draws` is how many they are.
 #[derive(Clone, Copy, PartialEq, Eq)]
 pub struct PoolEmpty {
     pub draws: u32,
 }
 
 /// Keys for draws. Key number 6j + 3d + u is the one of draw j in direction d (0 from host to device, 1 from
-/// device to host) for sub-stream u (0 posted, 1 non-posted, 2 completions; this profile).
+/// device to host) for sub-stream u (0 posted, 1 non-posted, 2 completions).
 #[derive(Drop)]
 pub struct KeyPool {
     keys: Vec<[u8; 32]>,
@@ -38,7 +38,7 @@ impl Model for KeyPool {
     ghost invariant = { λ p. (length p.keys.items ≤ 6144) × (p.draws ≤ draws_in p.keys.items) };
 }
 
-/// The six keys of one draw, for one operation (this profile). It is neither `Copy` nor `Clone`: `split` consumes it.
+/// The six keys of one draw, for one operation. It is neither `Copy` nor `Clone`: `split` consumes it.
 #[derive(Drop)]
 pub struct KeySix {
     draw: u32,
@@ -53,7 +53,7 @@ impl Model for KeySix {
     ghost view = { λ s. record { draw = s.draw; keys = s.keys } };
 }
 
-/// The six keys of a draw for the host's own port (this profile).
+/// The six keys of a draw for the host's own port.
 #[derive(Drop)]
 pub struct HostSix {
     keys: [Key; 6],
@@ -67,7 +67,7 @@ impl Model for HostSix {
     ghost view = { λ s. s.keys };
 }
 
-/// The six keys of a draw on their way to the device, each kept until it is spent (this profile).
+/// The six keys of a draw on their way to the device, each kept until it is spent.
 #[derive(Drop)]
 pub struct WireSix {
     keys: [Option<Key>; 6],

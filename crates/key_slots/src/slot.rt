@@ -1,4 +1,4 @@
-//! One key slot.
+//! One key slot (this profile).
 
 ghost use Rattle.std.specs.Prelude.{◌≡◌};
 ghost use Rattle.std.specs.Option.{option_copied};
@@ -59,7 +59,7 @@ impl HeldKey {
 }
 
 /// A key slot: without a key, with one that waits for its K_SET_GO, with one of a sender that waits for the end
-/// of the older key's unit, or with one in use (PCI Express Base 6.0 section 6.33, in this profile).
+/// of the older key's unit, or with one in use (PCI Express Base 6.0 section 6.33).
 #[derive(Drop)]
 pub enum Slot {
     Empty,
@@ -69,7 +69,7 @@ pub enum Slot {
 }
 
 /// The state of a slot: it has no key; its key waits for K_SET_GO; its key is a sender's and waits for the end
-/// of the older key's unit; its key is in use (PCI Express Base 6.0 section 6.33, in this profile).
+/// of the older key's unit; its key is in use (PCI Express Base 6.0 section 6.33).
 #[derive(Clone, Copy, PartialEq, Eq)]
 pub enum SlotState {
     Empty,

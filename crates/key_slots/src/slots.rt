@@ -1,4 +1,4 @@
-//! The two slots of one sub-stream in one direction.
+//! The two slots of one sub-stream in one direction (this profile).
 
 ghost use Rattle.std.specs.Prelude.{◌≡◌, true, false, not, is_ok, if◌then◌else◌, IfOk, ◌||◌};
 ghost use Rattle.ide_types.specs.KeySets.{is_one};
@@ -12,13 +12,13 @@ use std::alloc::Global;
 use std::marker::Model;
 use std::mem;
 
-/// Why a slot is not programmed: it is Live, and the other holds no newer Live key (this profile). The key comes back.
+/// Why a slot is not programmed: it is Live, and the other holds no newer Live key. The key comes back.
 #[derive(Drop)]
 pub struct OnlyLive {
     pub key: Key,
 }
 
-/// The slot has no key (this profile).
+/// The slot has no key.
 #[derive(Clone, Copy, PartialEq, Eq)]
 pub struct SlotEmpty;
 
@@ -29,8 +29,8 @@ struct Both {
     one: Slot,
 }
 
-/// The slots of key set 0 and of key set 1, of a sender or of a receiver (PCI Express Base 6.0 section 6.33, in
-/// this profile). They are boxed, since prepared keys are large.
+/// The slots of key set 0 and of key set 1, of a sender or of a receiver (PCI Express Base 6.0 section 6.33). They are
+/// boxed, since prepared keys are large.
 #[derive(Drop)]
 pub struct Slots {
     sender: bool,

@@ -3,7 +3,6 @@
 use Rattle.std.proofs.Common.{◌≡◌, ◌⊎◌, ⊎_elim, inl, inr, ℕ, ◌==◌, ◌&&◌, ◌||◌, Bool, true, false, List, [], ◌∷◌, ◌++◌}
 use Rattle.std.proofs.Common.{refl, ap, sym, ◌∙◌, arith}
 use Rattle.std.specs.Prelude.{not, if◌then◌else◌, find, Option, Some, None, Result, Ok, Err}
-use Rattle.std.specs.Option.{option_map}
 use Rattle.std.proofs.lemmas.Bool.{true≢false, eqb-true, cases_Bool}
 use Rattle.std.proofs.lemmas.Bool.Decides.{nat_tests}
 use Rattle.ide_types.specs.declared.binding.Binding.{Binding}
@@ -18,6 +17,7 @@ use Rattle.interface_state.specs.Machine.{after_failure, after_start, after_chan
 use Rattle.interface_state.specs.Machine.{bind_answer, interface_after_bind, unbind_answer, unbound_with, lock_answer}
 use Rattle.interface_state.specs.Machine.{interface_after_lock, new_lock}
 use Rattle.interface_state.specs.Machine as call
+use Rattle.law_memory.proofs.Floors.{floor_or, floor_some}
 use Rattle.spec_interfaces.specs.Terms.{Event, InterfaceEvent, Verdict, Loss}
 use Rattle.spec_interfaces.specs.Sites.{Site}
 use Rattle.spec_interfaces.specs.Exchanges.{carries, changes_device}
@@ -47,9 +47,6 @@ left_has : (stream floor : ℕ) (t : DeviceTdi) (next : TdiState) → HasFloor s
     → HasFloor stream floor t.bindings
 left_has stream floor t next has =
     ended_has stream floor (not (is_locked next) && is_locked t.state) t.bindings has
-
-abbrev pub floor_or : Bool → Binding → Option Binding → Option ℕ
-floor_or c b o = option_map (λ (z : Binding). z.floor) (if c then Some b else o)
 
 -- one that is added stands behind the others
 added_has : (stream floor : ℕ) (bs : List Binding) (b : Binding) → HasFloor stream floor (bs ++ b ∷ [])
@@ -90,15 +87,6 @@ without_has stream floor s (b ∷ bs) has =
     by true at true on has later = let there = later has in absurd (same at there.1 on)
     by false at false off has later = later (rw off at has)
     by false at true on has later = (rw on at has, apart at on)
-
-pub has_binds : (stream floor : ℕ) (bs : List Binding) → HasFloor stream floor bs → binds stream bs ≡ true
-has_binds stream floor [] has = absurd (none_has stream floor [] refl has)
-has_binds stream floor (b ∷ bs) has = by (b.stream == stream) (has_binds stream floor bs) has
-  where
-    by : (c : Bool) → (HasFloor stream floor bs → binds stream bs ≡ true)
-        → floor_or c b (find (is_binding_on stream) bs) ≡ Some floor → (c || binds stream bs) ≡ true
-    by true later has = refl
-    by false later has = later has
 
 pub binds_has : (stream : ℕ) (bs : List Binding) → binds stream bs ≡ true
     → (floor : ℕ) × (floor_on stream bs ≡ Some floor)
@@ -172,7 +160,7 @@ unbind_has stream floor s t (Ok done) is held has = without_has stream floor s t
 unbind_has stream floor s t (Err code) is held has = elim (cases_Bool (s == stream)) [
   | inl same ↦
       absurd (unbind_refused t s code held
-      (ap (λ (n : ℕ). binds n t.bindings) (eqb-true s stream same) ∙ has_binds stream floor t.bindings has) is)
+      (ap (λ (n : ℕ). binds n t.bindings) (eqb-true s stream same) ∙ floor_some stream floor t.bindings has) is)
   | inr other ↦ (has, other)
 ]
 

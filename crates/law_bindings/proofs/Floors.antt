@@ -37,7 +37,8 @@ use Rattle.law_bindings.specs.Keys.{IsBoundUnder}
 use Rattle.law_bindings.proofs.OnlyDraw.{KeepsOnly, Comes, nowhere, first, again, comes, only_draw, bare_idle}
 use Rattle.law_bytes.proofs.StreamDraws.{and_none, not_begun}
 use Rattle.law_bindings.proofs.OnlyDraw.{refresh_none, swapped}
-use Rattle.law_bindings.proofs.Calls.{has_binds, none_has}
+use Rattle.law_bindings.proofs.Calls.{none_has}
+use Rattle.law_memory.proofs.Floors.{floor_some}
 use Rattle.law_bindings.proofs.Asks.{bound_came, live_means}
 use Rattle.law_bindings.proofs.Counted.{in_peers}
 use Rattle.law_bindings.proofs.Calls.{no_third}
@@ -172,7 +173,7 @@ bound_live : (plan : Plan) (h : History) → CauseLaw plan h → (x : Site) (str
     → floor_on stream (interface_at plan h x).bindings ≡ Some floor → (end : PortName)
     → peer_end plan.peers 0 x.link stream ≡ Some end → keeps_live (place_keys h (receiver_at end stream)) ≡ true
 bound_live plan h cause x stream floor has end at =
-    let peer = bound_secure plan h cause x stream (has_binds stream floor (interface_at plan h x).bindings has) in
+    let peer = bound_secure plan h cause x stream (floor_some stream floor (interface_at plan h x).bindings has) in
     let same = same_end peer.end end (peer_end plan.peers 0 x.link stream) peer.at_device at in
     secure_live h end stream
     (subst (λ (q : PortName). is_secure (history_status h q.side q.line stream) ≡ true) same peer.secure)

@@ -30,7 +30,7 @@ use Rattle.law_bindings.proofs.Calls.{unbinds}
 use Rattle.law_locks.proofs.AllLaws.{own_number}
 use Rattle.law_bindings.proofs.Tells.{tells_binding}
 use Rattle.spec_links.specs.Cause.{CauseLaw}
-use Rattle.law_locks.proofs.OneLock.{cause_at}
+use Rattle.law_memory.proofs.Found.{cause_at}
 use Rattle.spec_interfaces.specs.Laws.{IsLocked}
 use Rattle.spec_interfaces.specs.Sites.{site_at}
 use Rattle.spec_interfaces.proofs.Locks.{next_made}

@@ -3,10 +3,10 @@
 use Rattle.law_sealing.proofs.Terms.{◌≡◌, ◌⊎◌, inl, inr, ℕ, ◌+◌, ◌≤◌, ◌==◌, ◌&&◌, Bool, true, false, List, []}
 use Rattle.law_sealing.proofs.Terms.{◌∷◌, ◌++◌, length, nat_le, Option, Some, None, Result, Ok, Err}
 use Rattle.law_sealing.proofs.Terms.{refl, ap, sym, subst, ◌∙◌, arith, nat_tests, if◌then◌else◌, eqb-true, Plan}
-use Rattle.law_sealing.proofs.Terms.{PortName, History, Event, Send, Verdict, Sealed, Accepted, UnitName, Effect}
+use Rattle.law_sealing.proofs.Terms.{PortName, History, Event, Verdict, Sealed, Accepted, UnitName, Effect}
 use Rattle.law_sealing.proofs.Terms.{Packet, SubStream, append_assoc, CauseLaw, received_in}
 use Rattle.law_sealing.proofs.Terms.{accepted_packets}
-use Rattle.law_sealing.proofs.Terms.{read_of}
+use Rattle.law_sealing.proofs.Terms.{read_of, sent_bytes}
 use Rattle.spec_links.specs.Terms.{header}
 use Rattle.std.specs.Option.{option_and_then}
 use Rattle.std.proofs.lemmas.Bool.{and_parts}
@@ -35,7 +35,8 @@ use Rattle.spec_interfaces.specs.Devices.{runs_at, locks_accepted}
 use Rattle.spec_interfaces.proofs.Floors.{found}
 use Rattle.spec_interfaces.proofs.OnLinks.{number_on_link}
 use Rattle.law_memory.specs.Origin.{CameFrom}
-use Rattle.law_locks.proofs.OneLock.{cause_at, number_owned}
+use Rattle.law_locks.proofs.OneLock.{number_owned}
+use Rattle.law_memory.proofs.Found.{cause_at}
 use Rattle.law_bytes.proofs.MmioOrigins.{bound_made, mmio_origin}
 use Rattle.law_memory.specs.Bindings.{IsBoundPacket}
 use Rattle.law_delivery.specs.NoForgeryUnder.{UnitIsUnforged}
@@ -209,14 +210,15 @@ owner_facts : (plan : Plan) (h : History) (e : Event) (end : PortName) (unit : U
     → (from : IsBoundPacket plan h (received_in end unit) unit.draw m p) → OwnerFacts plan h end unit m p from
 owner_facts plan h e end unit effects m p cause late from =
     let was = from.was in
-    let owned = owner_at plan was.link (read_of was.bytes) was.owner.interface was.owner.owns in
+    let owned = owner_at plan was.link (read_of (sent_bytes plan was.older was.event)) was.owner.interface
+    was.owner.owns in
     let names = in_parts (received_in end unit) unit.draw was.stands.sealed was.stands.under in
     let line : was.stands.sealed.0.port.line ≡ end.line = ap (λ (t : SubStream). t.line) names.2 in
-    let made = bound_made plan h was.older was.port was.bytes was.more was.trusted was.packets was.place
-    was.stands.sealed cause.1 was.came was.stands.stands was.until in
+    let made = bound_made plan h was.older was.event was.packets was.place was.stands.sealed cause.1 was.came
+    was.stands.stands was.until in
     let draw = accepted_draw plan h e end unit effects cause late in
     let off = peer_off end.line late in
-    let came = before_pair (Send was.port was.bytes was.more was.trusted, Sealed was.packets) was.older h was.came in
+    let came = before_pair (was.event, Sealed was.packets) was.older h was.came in
     let j = was.stands.sealed.0.draw in
     let at_end : stream_draw h end.line unit.stream ≡ j = sym draw ∙ sym names.1 in
     let begun = owner was.stands.sealed.0.port.line was.stands.sealed.0.stream was.stands.sealed.0.k in

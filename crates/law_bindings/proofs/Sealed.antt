@@ -8,6 +8,7 @@ use Rattle.law_sealing.proofs.Terms.{sending_port, sent_bytes, sealing_is, all_l
 use Rattle.law_sealing.proofs.Terms.{read_of}
 use Rattle.std.specs.Prelude.{◌-◌, nat_le, nat_lt}
 use Rattle.std.proofs.lemmas.Bool.{and_parts, true≢false}
+use Rattle.std.proofs.lemmas.Option.{same_Some}
 use Rattle.ide_types.specs.Lines.{is_link_line, peer_line}
 use Rattle.ide_types.specs.Ports.{device_port}
 use Rattle.ide_types.specs.Ends.{line_has, port_beside_end}
@@ -22,28 +23,37 @@ use Rattle.law_key_facts.proofs.SealedKeys.{live_on}
 use Rattle.law_key_facts.proofs.Unplanned.{on_at}
 use Rattle.spec_links.specs.Plan.{key_plan}
 use Rattle.spec_links.specs.History.{place_in_sub_stream}
+unfoldable use Rattle.spec_links.specs.Ports.{port_of}
+unfoldable use Rattle.spec_links.proofs.Terms.{bytes_by}
 use Rattle.spec_interfaces.specs.Terms.{InterfaceEvent, View, Unlocked, Locked, Running, Doubt, Broken}
 use Rattle.spec_interfaces.specs.Sites.{Site, site_at}
 use Rattle.spec_interfaces.specs.Cause.{SealFits, t_at, is_peer, owners_link, owner_read}
-use Rattle.spec_interfaces.specs.Devices.{runs_at, is_bound_at, locks_accepted, sets_t, peer_t, interface_at}
+use Rattle.spec_interfaces.specs.Devices.{runs_at, is_bound_at, locks_accepted, sets_t, interface_at}
 unfoldable use Rattle.spec_interfaces.specs.Views.{managed_view}
 use Rattle.spec_interfaces.specs.Views.{Managed, stream_draw, on_lock, on_report, on_start, on_halt}
 use Rattle.spec_interfaces.specs.Views.{on_state, on_bind, on_operation, number_in, is_number, stop_breaks, view_broken}
 use Rattle.spec_interfaces.proofs.OnLinks.{number_on_link}
 use Rattle.law_memory.proofs.Causes.{interface_cause}
+use Rattle.law_memory.specs.Bindings.{is_sent_by_device}
+use Rattle.law_memory.proofs.BoundPackets.{at_device, owner_of}
 use Rattle.law_memory.proofs.Found.{all_get}
-use Rattle.law_locks.proofs.OneLock.{cause_at, fronts}
+use Rattle.law_memory.proofs.Packets.{IsOf}
+use Rattle.law_memory.proofs.ResponseOwners.{end_of, response_owner}
+use Rattle.law_memory.proofs.Responses.{responded, response_packets, response_sending, trusted_response}
+use Rattle.law_locks.proofs.OneLock.{fronts}
+use Rattle.law_memory.proofs.Found.{cause_at}
 use Rattle.law_locks.proofs.Runs.{Since, later}
 use Rattle.law_bytes.specs.NoOtherRun.{IsInNoOtherRun}
 use Rattle.law_bytes.proofs.NoOtherRun.{made_by, no_other_since}
 use Rattle.law_bytes.proofs.BindFloors.{bound_floor}
 use Rattle.law_bytes.proofs.NoOtherRun.{live_of, stands_there}
 use Rattle.law_bytes.proofs.PeerEnds.{found_there}
-use Rattle.law_bindings.specs.OneLock.{SealedTrusted, IsAtLink, IsAtPeer, IsAtDevice, FitsView, OneLockPerPeerKey}
+use Rattle.law_bindings.specs.OneLock.{SealedTrusted, IsAtPeer, IsAtDevice, FitsView, OneLockPerPeerKey}
 use Rattle.law_bindings.proofs.Calls.{binds_has}
 use Rattle.law_bindings.proofs.Floors.{bound_under, same_end}
 use Rattle.law_locks.proofs.AllLaws.{own_number}
 use Rattle.script_events.specs.declared.event.Event.TheVariants as event
+use Rattle.script_events.specs.declared.event.AccessEvent.TheVariants as ae
 use Rattle.script_events.specs.declared.event.InterfaceEvent.TheVariants as ie
 use Rattle.event_verdicts.specs.declared.verdict.Verdict.TheVariants as v
 use Rattle.law_bindings.proofs.OnlyDraw.{on_is_draw}
@@ -99,55 +109,66 @@ record RanBound (plan : Plan) (h : History) (x : Site) (stream : ℕ) : Type 0 w
   runs : runs_at plan h x ≡ true
   bound : is_bound_at plan h x stream ≡ true
 
-peer_says : (plan : Plan) (h : History) (x : Site) (e : PortName) (stream : ℕ) (asked : Bool) (o : Option Site)
-    → is_peer plan e ≡ true → o ≡ Some x → t_at plan h e o stream asked ≡ true → RanBound plan h x stream
-peer_says plan h x e stream asked o peer owner is =
-    let t : peer_t plan h (Some x) stream ≡ true =
-    subst (λ (z : Option Site). peer_t plan h z stream ≡ true) owner (rw peer at is) in
-    let parts = and_parts (runs_at plan h x) (is_bound_at plan h x stream) t in
-    record { runs = parts.0; bound = parts.1 }
+-- at the device's port of the link
+ran_at_link : (plan : Plan) → FitsPlan plan → (h : History) (x : Site) → site_at plan x.number ≡ Some x → (e : Event)
+    (ds : List SealedPacket) (i : ℕ) (d : SealedPacket) → is_sent_by_device e ≡ true
+    → CauseLaw plan ((e, Sealed ds) ∷ h) → slice_get ds i ≡ Some d → d.t ≡ true
+    → owner_read plan x.link (read_of (sent_bytes plan h e)) ≡ Some x → d.port ≡ device_port x.link
+    → runs_at plan h x ≡ true
+unfolding bytes_by port_of
+ran_at_link plan fits h x known (Send port bytes more trusted) ds i d sent cause at has_t owned there =
+    let fit = all_get (SealFits plan h bytes trusted) ds i d
+    (interface_cause plan ((Send port bytes more trusted, Sealed ds) ∷ h) cause).0 at in
+    let off = link_end x.link (length plan.links) (number_on_link plan x known) in
+    let link : owners_link plan (device_port x.link) ≡ x.link = rw off refl in
+    let links : owners_link plan d.port ≡ x.link = ap (owners_link plan) there ∙ link in
+    let t = subst (λ (q : PortName). t_at plan h q (owner_read plan (owners_link plan d.port) (read_of bytes)) d.stream
+    trusted ≡ true) there (unsynced d.sync _ (sym fit.t_is ∙ has_t)) in
+    link_t plan h x d.stream trusted _ known (ap (λ (l : ℕ). owner_read plan l (read_of bytes)) links ∙ owned) t
+ran_at_link plan fits h x known (event.Access (ae.Respond link)) ds i d sent cause at has_t owned there =
+    let is = responded plan h link ds cause.0 in
+    let of = all_get (IsOf (response_sending is.read.came is.tlp)) ds i d (response_packets plan h link ds is) at in
+    let trusted = unsynced d.sync is.read.came.trusted (sym of.t_is ∙ has_t) in
+    let end : port_of plan (device_port x.link) ≡ device_port link =
+    ap (port_of plan) (sym there ∙ of.port_is) ∙ end_of plan h link ds cause.1 is in
+    let line : x.link ≡ link = ap (λ (q : PortName). q.line) (rw (number_on_link plan x known) at end) in
+    let owner = response_owner plan fits h link ds cause.1 is in
+    let both = sym owner
+    ∙ (ap (λ (l : ℕ). owner_read plan l (read_of (sent_bytes plan h (event.Access (ae.Respond link))))) (sym line)
+    ∙ owned) in
+    ap (λ (y : Site). runs_at plan h y) (sym (same_Some is.interface x both))
+    ∙ (trusted_response plan h link ds is trusted).runs
+ran_at_link plan fits h x known e ds i d sent cause at has_t owned there = absurd cc
 
 module _ (plan : Plan) (h : History) (cause : CauseLaw plan h) (x : Site) (known : site_at plan x.number ≡ Some x)
   where
-    law_at : (a : SealedTrusted plan h x)
-        → CauseLaw plan ((Send a.port a.bytes a.more a.trusted, Sealed a.packets) ∷ a.older)
-    law_at a = cause_at plan a.since ((Send a.port a.bytes a.more a.trusted, Sealed a.packets) ∷ a.older) h a.came cause
-
-    fit_at : (a : SealedTrusted plan h x) → SealFits plan a.older a.bytes a.trusted a.packet
-    fit_at a = all_get (SealFits plan a.older a.bytes a.trusted) a.packets a.number a.packet
-        (interface_cause plan ((Send a.port a.bytes a.more a.trusted, Sealed a.packets) ∷ a.older) (law_at a)).0
-        a.listed
-
-    t_there : (a : SealedTrusted plan h x) → t_at plan a.older a.packet.port
-        (owner_read plan (owners_link plan a.packet.port) (read_of a.bytes)) a.packet.stream a.trusted ≡ true
-    t_there a = unsynced a.packet.sync _ (sym (fit_at a).t_is ∙ a.has_t)
+    law_at : (a : SealedTrusted plan h x) → CauseLaw plan ((a.event, Sealed a.packets) ∷ a.older)
+    law_at a = cause_at plan a.since ((a.event, Sealed a.packets) ∷ a.older) h a.came cause
 
     made_at : (a : SealedTrusted plan h x) → begun_of_draw (manager a.older).begun a.packet.draw
         ≡ Some (owner a.packet.port.line a.packet.stream a.packet.k)
-    made_at a = made_by plan a.older (Send a.port a.bytes a.more a.trusted) a.packets a.number a.packet (law_at a).0
-        a.listed
-
-    at_link : (a : SealedTrusted plan h x) → IsAtLink plan h x a → runs_at plan a.older x ≡ true
-    at_link a there =
-        let off = link_end x.link (length plan.links) (number_on_link plan x known) in
-        let link : owners_link plan (device_port x.link) ≡ x.link = rw off refl in
-        let links : owners_link plan a.packet.port ≡ x.link = ap (owners_link plan) there ∙ link in
-        let t = subst (λ (q : PortName). t_at plan a.older q
-        (owner_read plan (owners_link plan a.packet.port) (read_of a.bytes)) a.packet.stream a.trusted ≡ true) there
-        (t_there a) in
-        link_t plan a.older x a.packet.stream a.trusted _ known
-        (ap (λ (l : ℕ). owner_read plan l (read_of a.bytes)) links ∙ a.owned) t
+    made_at a = made_by plan a.older a.event a.packets a.number a.packet (law_at a).0 a.listed
 
     at_peer : FitsPlan plan → (a : SealedTrusted plan h x) → IsAtPeer plan h x a
         → RanBound plan a.older x a.packet.stream
     at_peer fits a there =
         let between = is_between plan fits x.link a.packet.stream a.packet.port there in
-        peer_says plan a.older x a.packet.port a.packet.stream a.trusted _ between.is_peer
-        (ap (λ (l : ℕ). owner_read plan l (read_of a.bytes)) between.link_is ∙ a.owned) (t_there a)
+        let device = at_device plan fits a.packet.port a.packet.stream between.late between.has in
+        let owner = owner_of plan fits a.older a.event a.packets a.number a.packet a.sent (law_at a) a.listed
+        device.is_peer device.not_own a.has_t in
+        let both = sym owner.owns
+        ∙ (ap (λ (l : ℕ). owner_read plan l (read_of (sent_bytes plan a.older a.event))) between.link_is ∙ a.owned) in
+        let same : owner.interface ≡ x = same_Some owner.interface x both in
+        record {
+          runs = ap (λ (y : Site). runs_at plan a.older y) (sym same) ∙ owner.runs;
+          bound = ap (λ (y : Site). is_bound_at plan a.older y a.packet.stream) (sym same) ∙ owner.bound;
+        }
 
-    at_device : FitsPlan plan → (a : SealedTrusted plan h x) → IsAtDevice plan h x a → runs_at plan a.older x ≡ true
-    at_device fits a (inl link) = at_link a link
-    at_device fits a (inr peer) = (at_peer fits a peer).runs
+    at_its_device : FitsPlan plan → (a : SealedTrusted plan h x) → IsAtDevice plan h x a → runs_at plan a.older x ≡ true
+    at_its_device fits a (inl link) =
+        ran_at_link plan fits a.older x known a.event a.packets a.number a.packet a.sent (law_at a) a.listed a.has_t
+        a.owned link
+    at_its_device fits a (inr peer) = (at_peer fits a peer).runs
 
 -- ---- what the view says of it
 
@@ -243,8 +264,8 @@ pub all_fit_view : (plan : Plan) → FitsPlan plan → (h : History) → CauseLa
     → site_at plan x.number ≡ Some x → (a : SealedTrusted plan h x) → IsAtDevice plan h x a
     → FitsView plan h x a.older a.packet.draw
 all_fit_view plan fits h cause x known a there =
-    let pair : Event × Verdict = (Send a.port a.bytes a.more a.trusted, Sealed a.packets) in
-    let runs = at_device plan h cause x known fits a there in
+    let pair : Event × Verdict = (a.event, Sealed a.packets) in
+    let runs = at_its_device plan h cause x known fits a there in
     let is : (a.since ++ pair ∷ []) ++ a.older ≡ h = append_assoc a.since (pair ∷ []) a.older ∙ a.came in
     fits_view plan h x a.older a.packet.draw runs
     (subst (λ (g : History). Since plan (locks_accepted plan a.older x) a.packet.draw g x) is
@@ -261,7 +282,7 @@ sealed_draw plan g e ds i d cause is off =
     let sealing = sealing_is plan g e ds cause.0 in
     let port = sealing.sending.port in
     let live = live_of plan g port sealing.sending.stream ds i d
-    (all_live plan g (sending_port plan e) (sent_bytes plan g e) ds sealing) is in
+    (all_live plan g (sending_port plan g e) (sent_bytes plan g e) ds sealing) is in
     let here = on_at g port (sub_stream_of d) d.k d.draw (live_on plan g port sealing.sending.stream d live) in
     (on_is_draw (key_plan plan) g (key_cause plan g cause.1) (place_in_sub_stream port (sub_stream_of d) here.sends) off
     d.k d.draw (ap on_in here.on)).0
@@ -291,7 +312,7 @@ module _ (plan : Plan) (fits : FitsPlan plan) (h : History) (cause : CauseLaw pl
       let runs = at_peer plan h cause x known fits b at_b in
       let law = law_at plan h cause x known b in
       let between = is_between plan fits x.link b.packet.stream b.packet.port at_b in
-      let draw = sealed_draw plan b.older (Send b.port b.bytes b.more b.trusted) b.packets b.number b.packet law
+      let draw = sealed_draw plan b.older b.event b.packets b.number b.packet law
       b.listed
       between.off_link in
       none_since_bound plan b.older law.1 x known b.packet.stream runs.bound b.packet.port at_b a.older a.packet.draw _
@@ -301,8 +322,8 @@ module _ (plan : Plan) (fits : FitsPlan plan) (h : History) (cause : CauseLaw pl
   one_lock_sealed : (a b : SealedTrusted plan h x) → IsAtPeer plan h x a → IsAtPeer plan h x b
       → a.packet.draw ≡ b.packet.draw → locks_accepted plan a.older x ≡ locks_accepted plan b.older x
   one_lock_sealed a b at_a at_b same =
-      elim (fronts (a.since ++ (Send a.port a.bytes a.more a.trusted, Sealed a.packets) ∷ [])
-      (b.since ++ (Send b.port b.bytes b.more b.trusted, Sealed b.packets) ∷ []) a.older b.older
+      elim (fronts (a.since ++ (a.event, Sealed a.packets) ∷ [])
+      (b.since ++ (b.event, Sealed b.packets) ∷ []) a.older b.older
       (append_assoc a.since _ a.older ∙ (a.came ∙ (sym b.came ∙ sym (append_assoc b.since _ b.older))))) [
         | inl s ↦ sym (earlier b a at_b at_a (sym same) s.0 s.1)
         | inr s ↦ earlier a b at_a at_b same s.0 s.1

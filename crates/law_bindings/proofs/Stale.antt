@@ -7,7 +7,7 @@ use Rattle.law_sealing.proofs.Terms.{is_some, Plan, PortName, History, Event, Ve
 use Rattle.law_sealing.proofs.Terms.{Effect, Packet, CauseLaw, is_sync_packet, has_stream}
 unfoldable use Rattle.law_sealing.proofs.Terms.{due}
 use Rattle.std.specs.Prelude.{◌-◌, nat_lt, map}
-use Rattle.std.specs.Option.{option_map}
+use Rattle.std.specs.Option.{option_map, option_or}
 use Rattle.std.proofs.lemmas.Bool.{true≢false}
 use Rattle.ide_types.specs.Ports.{device_port}
 use Rattle.ide_types.specs.Ends.{line_has, peer_link, port_beside_end, end_at_port}
@@ -28,12 +28,17 @@ use Rattle.interface_state.specs.Machine.{lock_of, bound_link_stream, own_bindin
 use Rattle.interface_state.specs.Bindings.{floor_on}
 use Rattle.trusted_memory.specs.declared.span.Span.{Span}
 use Rattle.trusted_memory.specs.Spans.{write_span, crosses}
+use Rattle.trusted_memory.specs.declared.read.MemReadView.{MemReadView}
+use Rattle.trusted_memory.specs.Requests.{memory_read}
+use Rattle.trusted_memory.specs.Waiting.{full_cause, read_effect}
 use Rattle.guarded_memory.specs.declared.status.InterfaceStatus.{InterfaceStatus}
 use Rattle.guarded_memory.specs.declared.claims.Claim.{Claim}
 use Rattle.guarded_memory.specs.Statuses.{is_in_run}
 use Rattle.guarded_memory.specs.Claims.{claim_of}
 use Rattle.guarded_memory.specs.Causes.{floor_cause, trusted_cause, access_cause, mmio_cause, cause_effect}
 use Rattle.guarded_memory.specs.Causes.{claim_effect, mmio_effect}
+use Rattle.guarded_memory.specs.DeviceReads.{device_read_cause, claimed_read_effect, effect_by_device_read}
+use Rattle.guarded_memory.specs.DeviceReads.{device_request_effect}
 use Rattle.ide_types.specs.declared.interface.BarPlan.{BarPlan}
 use Rattle.guarded_memory.proofs.Claimed.{claimed}
 use Rattle.spec_interfaces.specs.Peers.{receiver_at}
@@ -56,7 +61,7 @@ use Rattle.law_mmio.proofs.Guards.{run_state}
 use Rattle.law_mmio.proofs.SameWrites.{effects_there}
 use Rattle.law_mmio.proofs.Secure.{locked_secure}
 use Rattle.law_bindings.specs.Keys.{NoneIsStale}
-use Rattle.law_bindings.proofs.Stored.{both_floors}
+use Rattle.law_memory.proofs.Floors.{both_floors}
 use Rattle.law_bindings.proofs.Floors.{bound_under, secure_live}
 use Rattle.law_bindings.proofs.Sealed.{is_between}
 use Rattle.law_bindings.proofs.OverPeers.{accepted_draw}
@@ -153,10 +158,50 @@ span_stale : (xs : List InterfaceStatus) (t : Bool) (stream draw : ℕ) (o : Opt
 span_stale xs t stream draw None is = absurd cc
 span_stale xs t stream draw (Some s) is = claim_stale xs s t stream draw (claim_of xs s) refl is
 
-read_stale : (xs : List InterfaceStatus) (unit : UnitName) (p : Packet) (r : Result HeadView TlpFault)
-    → device_effect xs unit p r ≡ effect.Blocked cause.Stale → IsStaleFor xs unit.stream unit.draw
-read_stale xs unit p (Err f) is = absurd cc
-read_stale xs unit p (Ok head) is = span_stale xs p.prefix.t unit.stream unit.draw (write_span head) is
+read_effect_stale : (o : Option BlockCause) → read_effect o ≡ effect.Blocked cause.Stale → o ≡ Some cause.Stale
+read_effect_stale None is = absurd cc
+read_effect_stale (Some c) is = let same : c ≡ cause.Stale = cc (is) in ap (λ (z : BlockCause). Some z) same
+
+-- that too many wait is another cause
+before_full : (o : Option BlockCause) (n : ℕ) → option_or o (full_cause n) ≡ Some cause.Stale → o ≡ Some cause.Stale
+before_full (Some c) n is = is
+before_full None n is = absurd (full (nat_le 64 n) is)
+  where
+    full : (b : Bool) → (if b then Some cause.Full else None) ≡ Some cause.Stale → ⊥
+    full true is = absurd cc
+    full false is = absurd cc
+
+claimed_read_stale : (xs : List InterfaceStatus) (s : Span) (t : Bool) (stream draw n : ℕ) (o : Option Claim)
+    → claim_of xs s ≡ o → claimed_read_effect o s t stream draw n ≡ effect.Blocked cause.Stale
+    → IsStaleFor xs stream draw
+claimed_read_stale xs s t stream draw n None claim is = absurd cc
+claimed_read_stale xs s t stream draw n (Some c) claim is = by c.status.reads is
+  where
+    by : (b : Bool) → (if b then read_effect (device_read_cause c s t stream draw n) else effect.Delivered)
+        ≡ effect.Blocked cause.Stale → IsStaleFor xs stream draw
+    by false is = absurd cc
+    by true is = record {
+      place = c.interface;
+      status = c.status;
+      stands = (claimed xs s c claim).interface;
+      stale = mmio_stale c.status c.range s t stream draw
+          (before_full (mmio_cause c.status c.range s t stream draw) n (read_effect_stale _ is));
+    }
+
+request_stale : (xs : List InterfaceStatus) (t : Bool) (stream draw n : ℕ) (head : HeadView)
+    → device_request_effect xs t stream draw n head ≡ effect.Blocked cause.Stale → IsStaleFor xs stream draw
+request_stale xs t stream draw n head is = by (memory_read head) is
+  where
+    by : (o : Option MemReadView)
+        → effect_by_device_read xs t stream draw n o (mmio_effect xs t stream draw (write_span head))
+        ≡ effect.Blocked cause.Stale → IsStaleFor xs stream draw
+    by None is = span_stale xs t stream draw (write_span head) is
+    by (Some r) is = claimed_read_stale xs r.span t stream draw n (claim_of xs r.span) refl is
+
+head_stale : (xs : List InterfaceStatus) (n : ℕ) (unit : UnitName) (p : Packet) (r : Result HeadView TlpFault)
+    → device_effect xs n unit p r ≡ effect.Blocked cause.Stale → IsStaleFor xs unit.stream unit.draw
+head_stale xs n unit p (Err f) is = absurd cc
+head_stale xs n unit p (Ok head) is = request_stale xs p.prefix.t unit.stream unit.draw n head is
 
 port_stale : (plan : Plan) (policy : Policy) (w link : ℕ) (unit : UnitName) (p : Packet)
     → effect_by plan policy w (device_port link) unit p ≡ effect.Blocked cause.Stale
@@ -164,11 +209,11 @@ port_stale : (plan : Plan) (policy : Policy) (w link : ℕ) (unit : UnitName) (p
 port_stale plan policy w link unit p is = by (is_sync_packet p) (at_switch plan (device_port link)) is
   where
     by : (a c : Bool) → (if a then effect.Sync else if c then switch_effect
-        else device_effect (policy.statuses link) unit p (read_head_of p.head)) ≡ effect.Blocked cause.Stale
+        else device_effect (policy.statuses link) w unit p (read_head_of p.head)) ≡ effect.Blocked cause.Stale
         → IsStaleFor (policy.statuses link) unit.stream unit.draw
     by true c is = absurd cc
     by false true is = absurd cc
-    by false false is = read_stale (policy.statuses link) unit p (read_head_of p.head) is
+    by false false is = head_stale (policy.statuses link) w unit p (read_head_of p.head) is
 
 -- ---- the end at the device's port
 
@@ -283,7 +328,7 @@ late_not : (end : PortName) (link : ℕ) → end ≡ device_port link → link <
 late_not end link same few late =
     let line = ap (λ (q : PortName). q.line) same in grind (arith, nat_tests, few, line, late)
 
--- a stale write would have come on the stream of the lock, or under a draw below that of the stream
+-- a stale request would have come on the stream of the lock, or under a draw below that of the stream
 stale_not : (plan : Plan) → FitsPlan plan → (h : History) (e : Event) (end : PortName) (unit : UnitName)
     (effects : List Effect) → CauseLaw plan ((e, Accepted end unit effects) ∷ h) → nat_le 24 end.line ≡ true
     → (at : IsEndAt plan end unit.stream) → (x : Site) → x.link ≡ at.link
@@ -334,7 +379,8 @@ shown_stale plan h e end unit effects link n is at shown =
     let are : effects ≡ effects_under_policy plan policy (device_port link) unit ps =
     effects_there plan h e end unit effects is
     ∙ ap (λ (q : PortName). effects_under_policy plan policy q unit ps) at in
-    let one = each_effect plan policy (policy.waiting link) (device_port link) unit ps n (effect.Blocked cause.Stale)
+    let one = each_effect plan policy (policy.waiting (device_port link)) (device_port link) unit ps n
+    (effect.Blocked cause.Stale)
     (ap (λ (es : List Effect). slice_get es n) (sym are) ∙ shown) in
     port_stale plan policy one.waiting link unit one.packet one.is
 

@@ -1,12 +1,9 @@
 -- Each key serves one lock of what is stored with T in the memory of an interface: the later of two such writes is from
 -- the floor on, so the interface was in no other RUN since the draw of the earlier one was made.
-use Rattle.law_sealing.proofs.Terms.{◌≡◌, ◌⊎◌, inl, inr, ℕ, ◌==◌, Bool, true, false, List, [], ◌∷◌, ◌++◌, Option}
-use Rattle.law_sealing.proofs.Terms.{Some, None, refl, sym, ◌∙◌, arith, append_assoc, Plan}
+use Rattle.law_sealing.proofs.Terms.{◌≡◌, inl, inr, [], ◌∷◌, ◌++◌}
+use Rattle.law_sealing.proofs.Terms.{Some, refl, sym, ◌∙◌, arith, append_assoc, Plan}
 use Rattle.law_sealing.proofs.Terms.{History, Accepted, CauseLaw, received_in}
-use Rattle.std.specs.Prelude.{find}
 use Rattle.ide_types.specs.Fits.{FitsPlan}
-use Rattle.ide_types.specs.declared.binding.Binding.{Binding}
-use Rattle.interface_state.specs.Bindings.{floor_on, is_binding_on}
 use Rattle.interface_state.specs.Machine.{own_binding, bound_link_stream}
 use Rattle.spec_keys.specs.Operations.{Begun}
 use Rattle.spec_keys.specs.History.{begun_of_draw, manager}
@@ -17,37 +14,16 @@ use Rattle.spec_interfaces.specs.Sites.{Site, site_at}
 use Rattle.spec_interfaces.specs.Devices.{interface_at, locks_accepted}
 use Rattle.spec_interfaces.specs.Floors.{device_floor}
 use Rattle.law_memory.specs.Origin.{CameFrom}
-use Rattle.law_locks.proofs.OneLock.{cause_at, fronts}
+use Rattle.law_locks.proofs.OneLock.{fronts}
+use Rattle.law_memory.proofs.Found.{cause_at}
 use Rattle.law_bytes.specs.NoOtherRun.{IsInNoOtherRun}
 use Rattle.law_bytes.proofs.Taken.{IsTaken, is_taken}
 use Rattle.law_bytes.proofs.NoOtherRun.{no_other_run, no_other_since}
 use Rattle.law_bytes.proofs.BindFloors.{bound_floor}
 use Rattle.law_bindings.specs.OneLock.{StoredTrusted, OneLockPerStoredKey}
-use Rattle.law_bindings.proofs.Calls.{floor_or}
+use Rattle.law_memory.proofs.Floors.{both_floors, own_floor}
 use Rattle.law_locks.proofs.AllLaws.{own_number}
 use Rattle.law_key_facts.proofs.Seats.{on_key}
-
--- ---- the floor that is met
-
-pub both_floors : (stream floor : ℕ) (cs bs : List Binding) → floor_on stream (cs ++ bs) ≡ Some floor
-    → (floor_on stream cs ≡ Some floor) ⊎ (floor_on stream bs ≡ Some floor)
-both_floors stream floor [] bs is = inr is
-both_floors stream floor (a ∷ cs) bs is = by (a.stream == stream) (both_floors stream floor cs bs) is
-  where
-    by : (c : Bool) → (floor_on stream (cs ++ bs) ≡ Some floor
-        → (floor_on stream cs ≡ Some floor) ⊎ (floor_on stream bs ≡ Some floor))
-        → floor_or c a (find (is_binding_on stream) (cs ++ bs)) ≡ Some floor
-        → (floor_or c a (find (is_binding_on stream) cs) ≡ Some floor) ⊎ (floor_on stream bs ≡ Some floor)
-    by true later is = inl is
-    by false later is = later is
-
-own_floor : (stream floor own : ℕ) (o : Option ℕ) → floor_on stream (own_binding own o) ≡ Some floor → floor ≡ own
-own_floor stream floor own None is = absurd cc
-own_floor stream floor own (Some s) is = by (s == stream) is
-  where
-    by : (c : Bool) → floor_or c (record { stream = s; floor = own }) None ≡ Some floor → floor ≡ own
-    by true is = sym (cc (is))
-    by false is = absurd cc
 
 -- ---- the one before the other
 
@@ -81,7 +57,7 @@ module _ (plan : Plan) (fits : FitsPlan plan) (h : History) (cause : CauseLaw pl
       (own_binding (device_floor plan b.older x) (bound_link_stream (interface_at plan b.older x).state))
       (interface_at plan b.older x).bindings taken.bound) [
         | inl own ↦
-            let is = own_floor b.unit.stream taken.floor (device_floor plan b.older x) _ own in
+            let is = (own_floor b.unit.stream taken.floor (device_floor plan b.older x) _ own).1 in
             no_other_run plan fits b.older law x known taken.runs a.older a.unit.draw made.0 made.1
             (omega (arith, is, taken.from_floor, same))
         | inr bound ↦

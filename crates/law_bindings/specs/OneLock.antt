@@ -1,8 +1,9 @@
 -- Each key serves one lock of an interface, also beside the manager's grants: of what an interface seals with T, and of
 -- what is stored with T in its memory.
-use Rattle.std.specs.Prelude.{◌≡◌, ◌⊎◌, ◌<◌, ◌≤◌, ◌++◌, ◌∷◌, ℕ, Bool, true, false, List, Some, slice_get}
+use Rattle.std.specs.Prelude.{◌≡◌, ◌⊎◌, ◌<◌, ◌≤◌, ◌++◌, ◌∷◌, ℕ, true, false, List, Some, slice_get}
 use Rattle.ide_types.specs.Ports.{device_port}
-use Rattle.spec_links.specs.Terms.{PortName, Plan, Event, Send, Effect, UnitName, Accepted, Sealed, SealedPacket}
+use Rattle.spec_links.specs.History.{sent_bytes}
+use Rattle.spec_links.specs.Terms.{PortName, Plan, Event, Effect, UnitName, Accepted, Sealed, SealedPacket}
 use Rattle.spec_links.specs.Terms.{Packet}
 use Rattle.spec_links.specs.Terms.{History, Write, read_of}
 use Rattle.spec_links.specs.Memory.{unit_ended}
@@ -13,25 +14,24 @@ use Rattle.spec_interfaces.specs.Peers.{peer_end}
 use Rattle.spec_interfaces.specs.Views.{managed_view, view_at, needs_at}
 use Rattle.spec_interfaces.specs.Devices.{locks_accepted, runs_at}
 use Rattle.law_locks.specs.Fronts.{AtEach}
+use Rattle.law_memory.specs.Bindings.{is_sent_by_device}
 use Rattle.law_mmio.specs.Stored.{stores}
 
 -- ---- what is sealed
 
--- a pair of the history sealed a packet with T, whose TLP the interface owns, at this end of its device
+-- a send, or a response to a read, sealed a packet with T, whose TLP the interface owns, at this end of its device
 pub record SealedTrusted (plan : Plan) (h : History) (x : Site) : Type 0 where
-  pub port : PortName
-  pub bytes : List ℕ
-  pub more : Bool
-  pub trusted : Bool
+  pub event : Event
+  pub sent : is_sent_by_device event ≡ true
   pub packets : List SealedPacket
   pub older : History
   pub since : History
-  pub came : since ++ (Send port bytes more trusted, Sealed packets) ∷ older ≡ h
+  pub came : since ++ (event, Sealed packets) ∷ older ≡ h
   pub number : ℕ
   pub packet : SealedPacket
   pub listed : slice_get packets number ≡ Some packet
   pub has_t : packet.t ≡ true
-  pub owned : owner_read plan x.link (read_of bytes) ≡ Some x
+  pub owned : owner_read plan x.link (read_of (sent_bytes plan older event)) ≡ Some x
 
 -- it was sealed at the device's port of the link, or at the device's end of a stream between devices
 abbrev pub IsAtLink : (plan : Plan) (h : History) (x : Site) → SealedTrusted plan h x → Type 0

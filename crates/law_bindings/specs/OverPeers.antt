@@ -1,5 +1,5 @@
--- Trusted writes that come to the memory of an interface through a stream between devices: by which interface, in which
--- of its locks, and in which of the target's.
+-- Trusted packets that come through a stream between devices, and writes to the memory of an interface among them: by
+-- which interface, in which of its locks, and in which of the target's.
 use Rattle.std.specs.Prelude.{◌≡◌, ◌+◌, ℕ, true, Some, length, nat_le, slice_get}
 use Rattle.spec_links.specs.Terms.{PortName, Plan, Event, UnitName, Verdict, Accepted, Packet, History, Write}
 use Rattle.spec_links.specs.History.{accepted_packets, received_in}

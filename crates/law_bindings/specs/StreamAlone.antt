@@ -45,7 +45,8 @@ pub record StreamStands (plan : Plan) (h : History) (line stream : ℕ) : Type 0
   pub older : EachPairIf (IsOfStream line stream) ComesAfterOlder plan h
   -- non-posted packets and completions came after what was posted before them
   pub ordered : EachPairIf (IsOfStream line stream) BehindPosted plan h
-  -- each write that was admitted, and each read that was queued, was sealed by its interface in the same RUN
+  -- each write that was admitted, and each read that was queued at a host's port, was sealed by its interface in the
+  -- same RUN
   pub writes : EachPairIf (IsOfStream line stream) AreFrom plan h
   pub reads : EachPairIf (IsOfStream line stream) QueuedFrom plan h
   -- each trusted write that was stored was asked for

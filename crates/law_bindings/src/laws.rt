@@ -36,9 +36,9 @@ pub fn bindings_hold_keys()
     ensures { BindingsHoldKeysHolds }
 {}
 
-/// A packet with T that an interface sealed at its device, on any stream, was sealed in RUN. While the view is Unlocked
-/// or Locked, or no START was asked since the lock, its draw is below the one that the interface needs; while the view
-/// is Running it was sealed under this lock, or its draw is below that.
+/// A packet with T that an interface sealed at its device, of a send or of a response to a read, on any stream, was
+/// sealed in RUN. While the view is Unlocked or Locked, or no START was asked since the lock, its draw is below the one
+/// that the interface needs; while the view is Running it was sealed under this lock, or its draw is below that.
 pub fn trusted_on_all_streams()
     ensures { TrustedOnAllStreamsHolds }
 {}
@@ -55,8 +55,9 @@ pub fn one_lock_per_stored_key()
 {}
 
 /// Provided no tag of the sub-stream and key under which it came verified on a unit that its partner had not sealed:
-/// each packet with T that an end of a stream between devices accepts was sealed for an owner that was in RUN and
-/// bound to the stream, and that was bound to it in no other lock since. It came under the draw of the stream's last
+/// each packet with T that an end of a stream between devices accepts was sealed, by a send or a response to a read,
+/// for an owner that was in RUN and bound to the stream, and that was bound to it in no other lock since. The owner is
+/// the requester of a request, the completer of a completion. The packet came under the draw of the stream's last
 /// establish, and since it was sealed no other one began. While the view of the owner is Unlocked or Locked the draw
 /// is below the one that the owner needs, and while it is Running and the draw is not, the packet was sealed under the
 /// lock that stands. That the owner is still in RUN, bound or locked is not said, since it may not be.
@@ -77,8 +78,8 @@ pub fn peers_are_never_stale()
 
 /// What supposes that no tag was forged stands of each stream of a line of which none was, whatever verified on other
 /// streams, links, hops and streams between devices: what its sub-streams got and delivered are prefixes of what was
-/// sealed and sent, in their order, and what was admitted, queued, stored and shown of it, and what came with T on it
-/// between devices, has its origin.
+/// sealed and sent, in their order, and what was admitted at a host, queued there, stored and shown of it, and what
+/// came with T on it between devices, has its origin.
 pub fn streams_stand_alone()
     ensures { StreamsStandAloneHolds }
 {}

@@ -9,7 +9,8 @@ use Rattle.law_sealing.proofs.Terms.{CauseLaw, DrawFacts, StreamsFit, Tlp, heade
 use Rattle.law_sealing.proofs.Terms.{sub_stream_of, sealed_same, SealedList, sealed_packets, accepted_by, numbered}
 use Rattle.law_sealing.proofs.Terms.{encrypted_bytes, masked_bytes, iv_of, units, open_unit, sub_stream_packets}
 use Rattle.law_sealing.proofs.Terms.{open_unit-unfinished, arrived_packet, packets_in_hold, sent_bytes, sending_port}
-use Rattle.law_sealing.proofs.Terms.{sealing_is, all_live, sealed_by_sealing, key_of, nat_tests}
+use Rattle.law_sealing.proofs.Terms.{sealing_is, all_live, sealed_by_sealing, key_of, nat_tests, Prefix, FitsPacket}
+use Rattle.law_sealing.proofs.Terms.{Pr, subst}
 unfoldable use Rattle.law_sealing.proofs.Terms.{packet_of, due}
 use Rattle.std.proofs.lemmas.Bool.{true≢false}
 use Rattle.law_verdicts.proofs.{Admitted, For, IsNew, all_get, at_device_end, cause_at, cause_before, get_less}
@@ -28,7 +29,9 @@ use Rattle.spec_interfaces.proofs.OnLinks.{number_on_link}
 use Rattle.ide_types.specs.declared.port.Side.TheVariants.{Host, Device}
 use Rattle.spec_links.specs.Plan.{key_plan}
 use Rattle.spec_links.specs.Ports.{sealing_end}
-use Rattle.spec_links.specs.History.{payload_in, head_in}
+use Rattle.spec_links.specs.History.{payload_in, head_in, prefix_of}
+use Rattle.trusted_memory.specs.declared.span.Span.{Span}
+use Rattle.trusted_memory.specs.Spans.{write_span}
 use Rattle.spec_links.specs.Memory.{unit_ended}
 use Rattle.law_key_facts.proofs.Given.{key_cause}
 use Rattle.law_sealing.proofs.Sums.{in_parts}
@@ -44,6 +47,7 @@ use Rattle.spec_interfaces.specs.Laws.{IsTrusted, InRun}
 use Rattle.spec_interfaces.proofs.Views.{views_hold}
 use Rattle.law_verdicts.specs.{CameFrom}
 use Rattle.law_bytes.proofs.SealedBy.{IsAmong, IsSealedFor, sealed_by}
+use Rattle.law_bytes.proofs.Posted.{sub_posted, no_response, not_completed}
 use Rattle.law_bytes.proofs.Ranges.{body_of}
 use Rattle.law_bytes.proofs.Parts.{take-behind, front_take}
 use Rattle.script_events.specs.declared.event.AccessEvent.TheVariants as ae
@@ -53,12 +57,13 @@ use Rattle.script_events.specs.declared.event.Event.TheVariants.{Forward}
 
 -- what stands before packet n of the unit that ends, in its sub-stream and draw: what was got, and n packets of it
 pub record IsWithin (plan : Plan) (h : History) (e : Event) (port : PortName) (unit : UnitName) (n : ℕ) : Type 0 where
-  front : take (length (accepted_packets plan h (received_in port unit) unit.draw) + n)
+  pub front : take (length (accepted_packets plan h (received_in port unit) unit.draw) + n)
       (sent_packets plan h (received_in port unit) unit.draw)
       ≡ accepted_packets plan h (received_in port unit) unit.draw ++ take n (unit_ended plan h e port unit)
-  left : open_unit (accepted_packets plan h (received_in port unit) unit.draw ++ take n (unit_ended plan h e port unit))
+  pub left : open_unit (accepted_packets plan h (received_in port unit) unit.draw
+      ++ take n (unit_ended plan h e port unit))
       ≡ take n (unit_ended plan h e port unit)
-  number : length (units
+  pub number : length (units
       (accepted_packets plan h (received_in port unit) unit.draw ++ take n (unit_ended plan h e port unit))) + 1
       ≡ unit.unit
 
@@ -116,11 +121,11 @@ from_switch plan whole link Upstream l less is =
 
 -- the port of a packet is the one that its event seals at
 pub sealed_port : (plan : Plan) (h : History) (e : Event) (ds : List SealedPacket) (d : SealedPacket) → IsAmong ds d
-    → Sealed ds ≡ due plan h e → d.port ≡ sending_port plan e
+    → Sealed ds ≡ due plan h e → d.port ≡ sending_port plan h e
 sealed_port plan h e ds d among is =
     let sealing = sealing_is plan h e ds is in
     live_port plan h sealing.sending.port sealing.sending.stream ds among.index d
-    (all_live plan h (sending_port plan e) (sent_bytes plan h e) ds sealing) among.listed
+    (all_live plan h (sending_port plan h e) (sent_bytes plan h e) ds sealing) among.listed
     ∙ sealing.at_port
 
 -- the interface that a packet is admitted for
@@ -134,7 +139,8 @@ module _ (plan : Plan) (whole : FitsPlan plan) (fits : StreamsFit plan) (facts :
     (e : Event) (port : PortName)
     (unit : UnitName) (effects : List Effect) (cause : CauseLaw plan ((e, Accepted port unit effects) ∷ h))
     (forged : UnitIsUnforged plan h e (Accepted port unit effects)) (n : ℕ) (p : Packet)
-    (adm : Admitted plan h port unit p) (stands : slice_get (unit_ended plan h e port unit) n ≡ Some p) where
+    (adm : Admitted plan h port unit p) (stands : slice_get (unit_ended plan h e port unit) n ≡ Some p) (span : Span)
+    (writes : write_span adm.head ≡ Some span) where
   abbrev s : SubStream
   s = received_in port unit
 
@@ -234,26 +240,33 @@ module _ (plan : Plan) (whole : FitsPlan plan) (fits : StreamsFit plan) (facts :
   on_link : nat_lt port.line (length plan.links) ≡ true
   on_link = ap (λ (l : ℕ). nat_lt l (length plan.links)) (sym for.link_is) ∙ number_on_link plan for.site for.known
 
-  -- by the event that sealed it: a send
+  -- by the event that sealed it: a send, as an answer's end is a host's, a forward's is a switch's, and a response
+  -- seals
+  -- completions
   by_event : (ev : Event) (ds : List SealedPacket) (older : History) (place : ℕ) (x : SealedPacket × Packet)
       → slice_get (sealed_packets plan h) place ≡ Some x → x.1 ≡ p → sub_stream_of x.0 ≡ s → x.0.draw ≡ unit.draw
       → sub_stream_packets (take place (sealed_packets plan h)) s unit.draw ≡ take m (sent_packets plan h s unit.draw)
-      → CameFrom ((ev, Sealed ds) ∷ older) h → IsAmong ds x.0 → Sealed ds ≡ due plan older ev → x.0.port
-      ≡ device_port port.line → IsSealedFor plan (take place (sealed_packets plan h)) (sent_bytes plan older ev) x
-      → IsOwn
+      → CameFrom ((ev, Sealed ds) ∷ older) h → IsAmong ds x.0 → CauseLaw plan ((ev, Sealed ds) ∷ older) → x.0.t ≡ true
+      → x.0.sub ≡ Pr → x.0.port ≡ device_port port.line
+      → IsSealedFor plan (take place (sealed_packets plan h)) (sent_bytes plan older ev) x → IsOwn
   unfolding bytes_by
-  by_event (Send q bytes more trusted) ds older place x at same stream draw before came among is device made =
+  by_event (Send q bytes more trusted) ds older place x at same stream draw before came among law has_t posted device
+      made =
       own_of q bytes more trusted ds older place x at same stream draw before came among
-      (sym (sealed_port plan older (Send q bytes more trusted) ds x.0 among is)) made
-  by_event (Access (ae.Answer link)) ds older place x at same stream draw before came among is device made =
+      (sym (sealed_port plan older (Send q bytes more trusted) ds x.0 among law.0)) made
+  by_event (Access (ae.Answer link)) ds older place x at same stream draw before came among law has_t posted device
+      made =
       absurd (host_device (sym (ap (λ (q : PortName). q.side)
-      (sealed_port plan older (Access (ae.Answer link)) ds x.0 among is))
+      (sealed_port plan older (Access (ae.Answer link)) ds x.0 among law.0))
       ∙ ap (λ (q : PortName). q.side) device))
-  by_event (Forward link way) ds older place x at same stream draw before came among is device made =
+  by_event (Access (ae.Respond link)) ds older place x at same stream draw before came among law has_t posted device
+      made =
+      absurd (no_response plan older link ds x.0 law among has_t (not_completed x.0.sub posted))
+  by_event (Forward link way) ds older place x at same stream draw before came among law has_t posted device made =
       absurd (from_switch plan whole link way port.line on_link
-      (sym (sealed_port plan older (Forward link way) ds x.0 among is) ∙ device))
-  by_event ev ds older place x at same stream draw before came among is device made =
-      absurd (true≢false (sym (sealed_by_sealing plan older ev ds is)))
+      (sym (sealed_port plan older (Forward link way) ds x.0 among law.0) ∙ device))
+  by_event ev ds older place x at same stream draw before came among law has_t posted device made =
+      absurd (true≢false (sym (sealed_by_sealing plan older ev ds law.0)))
 
   pub own : IsOwn
   own =
@@ -264,5 +277,9 @@ module _ (plan : Plan) (whole : FitsPlan plan) (fits : StreamsFit plan) (facts :
       (ap (λ (t : SubStream). t.line) names.2) (ap (λ (t : SubStream). t.direction) names.2) adm.host in
       let by = sealed_by plan h among.place among.sealed among.stands in
       let there = cause_at plan by.came.since ((by.event, Sealed by.ds) ∷ by.older) h by.came.is cause.1 in
+      let of = placed plan fits facts h cause.1 among.place among.sealed among.stands in
+      let prefix : p.prefix ≡ prefix_of among.sealed.0 = ap (λ (q : Packet). q.prefix) (sym among.packet) ∙ of.prefix in
+      let posted = sub_posted p (subst FitsPacket among.packet of.fits) adm.trusted adm.head adm.reads span writes in
       by_event by.event by.ds by.older among.place among.sealed among.stands among.packet names.2 names.1 among.before
-      by.came by.among there.0 device by.for
+      by.came by.among there (sym (ap (λ (f : Prefix). f.t) prefix) ∙ adm.trusted)
+      (sym (ap (λ (f : Prefix). f.sub) prefix) ∙ posted) device by.for

@@ -1,6 +1,7 @@
 pub mod SealedBy
 pub mod Ranges
 pub mod Parts
+pub mod Posted
 pub mod ByteOrigins
 pub mod Shown
 pub mod MmioOrigins

@@ -1,15 +1,14 @@
 -- A trusted write that is stored in the memory of an interface came on the stream of its lock, or on one between
 -- devices that it is bound to. In the first case it was sealed at the host's port by a trusted send: it was sealed, its
--- direction is the host's, a host's port sets T as it is asked, and an answer seals completions alone.
+-- direction is the host's, a host's port sets T as it is asked, and answers and responses seal completions alone.
 use Rattle.law_sealing.proofs.Terms.{◌≡◌, ◌⊎◌, inl, inr, ℕ, ◌+◌, ◌<◌, ◌≤◌, ◌==◌, ◌&&◌, ◌||◌, zero, suc, Bool, true}
 use Rattle.law_sealing.proofs.Terms.{false, List, [], ◌∷◌, ◌++◌, length, slice_get, nat_le, nat_lt, not, Option, Some}
-use Rattle.law_sealing.proofs.Terms.{None, Result, Ok, refl, ap, sym, subst, ◌∙◌, arith, nat_tests, if◌then◌else◌}
+use Rattle.law_sealing.proofs.Terms.{refl, ap, sym, subst, ◌∙◌, arith, nat_tests, if◌then◌else◌}
 use Rattle.law_sealing.proofs.Terms.{cases_Bool, eqb-true, is_some, Plan, SubStream, History, Event, Send, Verdict}
 use Rattle.law_sealing.proofs.Terms.{Sealed, Accepted, UnitName, Effect, SealedPacket, Packet, Prefix, PortName}
-use Rattle.law_sealing.proofs.Terms.{SubKind, Pr, Cpl, received_in, sent_packets, accepted_packets, CauseLaw}
+use Rattle.law_sealing.proofs.Terms.{SubKind, Cpl, received_in, sent_packets, accepted_packets, CauseLaw}
 use Rattle.law_sealing.proofs.Terms.{DrawFacts, SealedList, sealed_packets, KeyName, sent_bytes, sending_port}
-use Rattle.law_sealing.proofs.Terms.{sealing_is, sealed_by_sealing, class_of, FitsPacket, read_of}
-unfoldable use Rattle.law_sealing.proofs.Terms.{due}
+use Rattle.law_sealing.proofs.Terms.{sealing_is, sealed_by_sealing, FitsPacket, read_of}
 use Rattle.std.specs.Prelude.{find}
 use Rattle.std.specs.Option.{option_map}
 use Rattle.std.proofs.lemmas.Bool.{true≢false}
@@ -22,17 +21,8 @@ use Rattle.ide_types.specs.declared.port.Side.{Side}
 use Rattle.ide_types.specs.declared.port.Side.TheVariants.{Host, Device}
 use Rattle.ide_types.specs.Ends.{hop_end, line_has, own_has_id}
 use Rattle.ide_types.specs.Fits.{FitsPlan}
-use Rattle.tlp_layout.specs.declared.head.HeadView.{HeadView}
-use Rattle.tlp_layout.specs.declared.head.Fields.{Fields}
-use Rattle.tlp_layout.specs.declared.head.Fields.TheVariants.{Memory, Config, Message, Completion}
-use Rattle.tlp_layout.specs.declared.fault.TlpFault.{TlpFault}
-use Rattle.tlp_layout.specs.Reading.{read_head_of}
-use Rattle.tlp_layout.specs.Class.{layout_of, kind_of_layout, kind_class}
-use Rattle.tlp_layout.proofs.Readings.{read_head_spells}
-use Rattle.trusted_memory.specs.declared.span.Span.{Span}
-use Rattle.trusted_memory.specs.Spans.{write_span, span_of_fields}
 use Rattle.spec_keys.specs.Keys.{Keys, key_in, on_in, no_keys}
-use Rattle.spec_keys.specs.Operations.{Begun}
+use Rattle.spec_keys.specs.Operations.{Begun, StreamOperations}
 use Rattle.spec_keys.specs.History.{begun_of_draw, place_keys}
 unfoldable use Rattle.spec_keys.specs.History.{manager}
 use Rattle.spec_keys.proofs.Owners.{owner}
@@ -67,43 +57,19 @@ use Rattle.law_verdicts.specs.{CameFrom, Carries}
 use Rattle.law_delivery.specs.NoForgeryUnder.{UnitIsUnforged}
 use Rattle.law_delivery.proofs.EachForgery.{of_pairs}
 use Rattle.law_bytes.specs.LocalLaws.{LocalMmioOriginLaw}
-use Rattle.law_bytes.specs.MmioOrigin.{WasAsked, CameOnBinding, StoresAsked}
+use Rattle.law_bytes.specs.MmioOrigin.{WasAsked, CameOnBinding, StoresAsked, is_send}
+use Rattle.law_memory.specs.Bindings.{is_sent_by_device}
+use Rattle.spec_links.proofs.SealingIs.{sealing_manager}
 use Rattle.law_key_facts.proofs.SealedKeys.{all_owned}
-use Rattle.law_bytes.proofs.SealedBy.{IsAmong, sealed_by, sealed_before}
+use Rattle.law_bytes.proofs.SealedBy.{IsAmong, sealed_by, sealed_before, among_these}
 use Rattle.law_bytes.proofs.ByteOrigins.{sealed_port, host_device, less_is}
-use Rattle.law_bytes.proofs.Taken.{IsTaken, is_taken}
+use Rattle.law_bytes.proofs.Posted.{sub_posted, no_response, not_completed}
+use Rattle.law_bytes.proofs.Taken.{is_taken}
 use Rattle.law_bytes.proofs.NoOtherRun.{no_other_run, no_other_since, made_by}
 use Rattle.law_bytes.proofs.PeerEnds.{is_between}
 use Rattle.law_bytes.proofs.BindFloors.{bound_floor}
 use Rattle.script_events.specs.declared.event.AccessEvent.TheVariants as ae
 use Rattle.script_events.specs.declared.event.Event.TheVariants.{Forward}
-
--- ---- a write is posted
-
-write_class : (head : HeadView) (s : Span) → write_span head ≡ Some s → class_of head ≡ Pr
-write_class head s is = by head.has_payload head.lead.length head.fields is
-  where
-    by : (has : Bool) (n : ℕ) (fields : Fields) → (if has then span_of_fields n fields else None) ≡ Some s
-        → kind_class (kind_of_layout (layout_of fields) has) ≡ Pr
-    by true n (Memory f) is = refl
-    by true n (Config f) is = absurd cc
-    by true n (Message f) is = absurd cc
-    by true n (Completion f) is = absurd cc
-    by false n fields is = absurd cc
-
-one_head : (r : Result HeadView TlpFault) (a b : HeadView) → r ≡ Ok a → r ≡ Ok b → a ≡ b
-one_head r a b one two = cc (one, two)
-
--- so its sub-stream is the posted one
-sub_posted : (p : Packet) → FitsPacket p → p.prefix.t ≡ true → (head : HeadView) → read_head_of p.head ≡ Ok head
-    → (s : Span) → write_span head ≡ Some s → p.prefix.sub ≡ Pr
-sub_posted p fits trusted head reads s writes = elim fits.carries [
-  | inl carried ↦
-      let again = (read_head_spells carried.head p.head).0 carried.spells in
-      let same : carried.head ≡ head = one_head (read_head_of p.head) carried.head head again reads in
-      sym carried.class ∙ (ap class_of same ∙ write_class head s writes)
-  | inr sync ↦ absurd (true≢false (sym trusted ∙ sync.t))
-]
 
 -- ---- no answer seals it
 
@@ -117,23 +83,20 @@ all_sync plan port stream live from class xs (y ∷ ds) (suc i) d all is =
     all_sync plan port stream live from class (xs ++ (y, no_packet) ∷ []) ds i d (all.1 no_packet) is
 
 no_answer : (plan : Plan) → DrawFacts plan → (h : History) (link : ℕ) (ds : List SealedPacket) (d : SealedPacket)
-    → CauseLaw plan ((Access (ae.Answer link), Sealed ds) ∷ h) → IsAmong ds d → d.t ≡ true → d.sub ≡ Pr → ⊥
-no_answer plan facts h link ds d cause among trusted posted =
+    → CauseLaw plan ((Access (ae.Answer link), Sealed ds) ∷ h) → IsAmong ds d → d.t ≡ true → (d.sub ≡ Cpl → ⊥) → ⊥
+no_answer plan facts h link ds d cause among trusted request =
     let e = Access (ae.Answer link) in
     let sealing = sealing_is plan h e ds cause.0 in
     let t = sealing.sending in
-    let all = all_of_sealing plan facts h cause.1 (sending_port plan e) (sent_bytes plan h e) ds sealing in
+    let all = all_of_sealing plan facts h cause.1 (sending_port plan h e) (sent_bytes plan h e) ds sealing in
     let sync = all_sync plan t.port t.stream (live_at plan h t.port t.stream) (from_at plan h t.port t.stream) t.class
     (sealed_packets plan h) ds among.index d all among.listed in
     let answered = (read_law plan facts ((e, Sealed ds) ∷ h) cause).0 in
     let carries = all_get (Carries h link answered.of.interface) ds among.index d answered.packets among.listed in
     elim (cases_Bool d.sync) [
       | inl is ↦ true≢false (sym trusted ∙ (sync is).t)
-      | inr is ↦ apart (sym posted ∙ carries.sub_is is)
+      | inr is ↦ request (carries.sub_is is)
     ]
-  where
-    apart : Pr ≡ Cpl → ⊥
-    apart is = absurd cc
 
 -- ---- one packet
 
@@ -194,11 +157,11 @@ given_there plan fits x known q bytes is = by (goes_to_hop plan q bytes) is
     by false is = is
     by true is = absurd (by_side q.side q.line is)
 
--- a packet with T that was sealed at the host's end of a link as a posted one was asked for
+-- a request with T that was sealed at the host's end of a link was asked for
 module _ (plan : Plan) (whole : FitsPlan plan) (h : History) (x : Site) (known : site_at plan x.number ≡ Some x)
     (cause : CauseLaw plan h) (place : ℕ) (y : SealedPacket × Packet)
     (at : slice_get (sealed_packets plan h) place ≡ Some y) (end : y.0.port ≡ host_port x.link)
-    (trusted : y.0.t ≡ true) (posted : y.0.sub ≡ Pr) where
+    (trusted : y.0.t ≡ true) (request : y.0.sub ≡ Cpl → ⊥) where
   record IsAsked : Type 0 where
     bytes : List ℕ
     more : Bool
@@ -238,7 +201,9 @@ module _ (plan : Plan) (whole : FitsPlan plan) (h : History) (x : Site) (known :
         made = made_by plan older (Send q bytes more asked) ds among.index y.0 law.0 among.listed;
       }
   by_event (Access (ae.Answer l)) ds older came from until among law =
-      absurd (no_answer plan (draws plan) older l ds y.0 law among trusted posted)
+      absurd (no_answer plan (draws plan) older l ds y.0 law among trusted request)
+  by_event (Access (ae.Respond l)) ds older came from until among law =
+      absurd (no_response plan older l ds y.0 law among trusted request)
   by_event (Forward l d) ds older came from until among law =
       absurd (from_switch l d x.link (low_link plan whole x known)
       (sym (sealed_port plan older (Forward l d) ds y.0 among law.0) ∙ end))
@@ -264,9 +229,9 @@ run_binds floor t runs = by t.state t.bindings runs
     by tdi.Error bs runs = absurd (true≢false (sym runs))
 
 -- the lock's stream with the device's floor, or a stream between devices
-record OnLock (plan : Plan) (h : History) (x : Site) (stream draw : ℕ) : Type 0 where
-  stream_is : stream ≡ x.plan.stream
-  least : device_floor plan h x ≤ draw
+pub record OnLock (plan : Plan) (h : History) (x : Site) (stream draw : ℕ) : Type 0 where
+  pub stream_is : stream ≡ x.plan.stream
+  pub least : device_floor plan h x ≤ draw
 
 pub floor_some : (stream floor : ℕ) (bs : List Binding) → floor_on stream bs ≡ Some floor → binds stream bs ≡ true
 floor_some stream floor [] is = absurd cc
@@ -278,7 +243,7 @@ floor_some stream floor (b ∷ bs) is = by (b.stream == stream) (floor_some stre
     by true later is = refl
     by false later is = later is
 
-bound_on : (plan : Plan) (h : History) (x : Site) (stream draw floor : ℕ) → runs_at plan h x ≡ true
+pub bound_on : (plan : Plan) (h : History) (x : Site) (stream draw floor : ℕ) → runs_at plan h x ≡ true
     → floor_on stream (all_bindings (device_floor plan h x) (interface_at plan h x)) ≡ Some floor → floor ≤ draw
     → OnLock plan h x stream draw ⊎ (floor_on stream (interface_at plan h x).bindings ≡ Some floor)
 bound_on plan h x stream draw floor runs is le =
@@ -298,7 +263,7 @@ bound_on plan h x stream draw floor runs is le =
     by s same false at is = inr (rw at at is)
 
 -- the stream of an interface in RUN is one of its link
-own_there : (plan : Plan) → FitsPlan plan → (h : History) → CauseLaw plan h → (x : Site) → site_at plan x.number
+pub own_there : (plan : Plan) → FitsPlan plan → (h : History) → CauseLaw plan h → (x : Site) → site_at plan x.number
     ≡ Some x → runs_at plan h x ≡ true → own_has_id (slice_get plan.links x.link) x.plan.stream ≡ true
 own_there plan fits h cause x known runs =
     let start = keeps_floors plan h cause x.number x known runs in
@@ -324,13 +289,14 @@ own_there plan fits h cause x known runs =
 -- ---- packet n of a unit
 
 -- on the stream of the lock it was asked for
-was_asked : (plan : Plan) → FitsPlan plan → (h : History) (e : Event) (end : PortName) (unit : UnitName)
+pub was_asked : (plan : Plan) → FitsPlan plan → (h : History) (e : Event) (end : PortName) (unit : UnitName)
     (effects : List Effect) (x : Site) (n : ℕ) (p : Packet) → CauseLaw plan ((e, Accepted end unit effects) ∷ h)
     → UnitIsUnforged plan h e (Accepted end unit effects) → site_at plan x.number ≡ Some x
-    → slice_get (unit_ended plan h e end unit) n ≡ Some p → p.prefix.t ≡ true → IsTaken plan h x end unit p → end
-    ≡ device_port x.link → device_floor plan h x ≤ unit.draw → WasAsked plan h x (received_in end unit) unit.draw
+    → slice_get (unit_ended plan h e end unit) n ≡ Some p → p.prefix.t ≡ true → runs_at plan h x ≡ true
+    → (FitsPacket p → p.prefix.sub ≡ Cpl → ⊥) → end ≡ device_port x.link → device_floor plan h x ≤ unit.draw
+    → WasAsked plan h x (received_in end unit) unit.draw
     (length (accepted_packets plan h (received_in end unit) unit.draw) + n) p
-was_asked plan whole h e end unit effects x n p cause forged known stands trusted taken there least =
+was_asked plan whole h e end unit effects x n p cause forged known stands trusted runs request there least =
     let s = received_in end unit in
     let m = length (accepted_packets plan h s unit.draw) + n in
     let at = sent_at plan (streams_fit plan whole) (draws plan) h e end unit effects cause forged n p stands in
@@ -341,11 +307,9 @@ was_asked plan whole h e end unit effects x n p cause forged known stands truste
     let host = at_host_end among.sealed.0.port x.link
     (ap (λ (t : SubStream). t.line) names.2 ∙ ap (λ (q : PortName). q.line) there)
     (ap (λ (t : SubStream). t.direction) names.2 ∙ ap (λ (q : PortName). received_direction q.side) there) in
-    let sub = sub_posted p (subst FitsPacket among.packet of.fits) trusted taken.head taken.reads taken.span
-    taken.writes
-    in
     let asked = is_asked plan whole h x known cause.1 among.place among.sealed among.stands host
-    (sym (ap (λ (f : Prefix). f.t) prefix) ∙ trusted) (sym (ap (λ (f : Prefix). f.sub) prefix) ∙ sub) in
+    (sym (ap (λ (f : Prefix). f.t) prefix) ∙ trusted)
+    (λ is. request (subst FitsPacket among.packet of.fits) (ap (λ (f : Prefix). f.sub) prefix ∙ is)) in
     let less = get_less (sent_packets plan h s unit.draw) m p at in
     let from_floor : device_floor plan h x ≤ among.sealed.0.draw = omega (arith, least, names.1) in
     record {
@@ -367,33 +331,49 @@ was_asked plan whole h e end unit effects x n p cause forged known stands truste
       until = asked.until;
       index = asked.among.index;
       listed = asked.among.listed;
-      no_other_run = no_other_run plan whole h cause.1 x known taken.runs asked.older among.sealed.0.draw asked.begun
+      no_other_run = no_other_run plan whole h cause.1 x known runs asked.older among.sealed.0.draw asked.begun
           asked.made from_floor;
     }
 
 -- ---- on a stream between devices
 
--- the draw of a packet that was sealed by a pair was made before it
-pub bound_made : (plan : Plan) (h g : History) (port : PortName) (bytes : List ℕ) (more trusted : Bool)
-    (ds : List SealedPacket) (k : ℕ) (y : SealedPacket × Packet) → CauseLaw plan h
-    → CameFrom ((Send port bytes more trusted, Sealed ds) ∷ g) h → slice_get (sealed_packets plan h) k ≡ Some y
-    → k < length (sealed_packets plan ((Send port bytes more trusted, Sealed ds) ∷ g))
-    → begun_of_draw (manager g).begun y.0.draw ≡ Some (owner y.0.port.line y.0.stream y.0.k)
-unfolding manager
-bound_made plan h g port bytes more trusted ds k y cause came at less =
-    let pair : Event × Verdict = (Send port bytes more trusted, Sealed ds) in
-    all_owned plan (pair ∷ g) (cause_at plan came.since (pair ∷ g) h came.is cause) k y
-    (sealed_before plan came.since (pair ∷ g) k y
-    (subst (λ (z : History). slice_get (sealed_packets plan z) k ≡ Some y) (sym came.is) at) less)
+-- a packet that was sealed by a pair is there after it
+pub sealed_then : (plan : Plan) (h g : History) (e : Event) (ds : List SealedPacket) (k : ℕ)
+    (y : SealedPacket × Packet) → CameFrom ((e, Sealed ds) ∷ g) h → slice_get (sealed_packets plan h) k ≡ Some y
+    → k < length (sealed_packets plan ((e, Sealed ds) ∷ g))
+    → slice_get (sealed_packets plan ((e, Sealed ds) ∷ g)) k ≡ Some y
+sealed_then plan h g e ds k y came at less =
+    sealed_before plan came.since ((e, Sealed ds) ∷ g) k y
+    (subst (λ (z : History). slice_get (sealed_packets plan z) k ≡ Some y) (sym came.is) at) less
 
-on_binding : (plan : Plan) → FitsPlan plan → (h : History) (e : Event) (end : PortName) (unit : UnitName)
+-- the draw of a packet that was sealed by a pair was made before it
+pub bound_made : (plan : Plan) (h g : History) (e : Event) (ds : List SealedPacket) (k : ℕ)
+    (y : SealedPacket × Packet) → CauseLaw plan h → CameFrom ((e, Sealed ds) ∷ g) h
+    → slice_get (sealed_packets plan h) k ≡ Some y → k < length (sealed_packets plan ((e, Sealed ds) ∷ g))
+    → begun_of_draw (manager g).begun y.0.draw ≡ Some (owner y.0.port.line y.0.stream y.0.k)
+bound_made plan h g e ds k y cause came at less =
+    let there = cause_at plan came.since ((e, Sealed ds) ∷ g) h came.is cause in
+    ap (λ (m : StreamOperations). begun_of_draw m.begun y.0.draw)
+    (sym (sealing_manager g e (Sealed ds) (sealed_by_sealing plan g e ds there.0)))
+    ∙ all_owned plan ((e, Sealed ds) ∷ g) there k y (sealed_then plan h g e ds k y came at less)
+
+-- a request with T that was sealed by a device is of a send
+sent_by : (plan : Plan) (h : History) (e : Event) (ds : List SealedPacket) (d : SealedPacket)
+    → CauseLaw plan ((e, Sealed ds) ∷ h) → is_sent_by_device e ≡ true → IsAmong ds d → d.t ≡ true
+    → (d.sub ≡ Cpl → ⊥) → is_send e ≡ true
+sent_by plan h (Send port bytes more trusted) ds d cause own among has_t request = refl
+sent_by plan h (Access (ae.Respond link)) ds d cause own among has_t request =
+    absurd (no_response plan h link ds d cause among has_t request)
+sent_by plan h e ds d cause own among has_t request = absurd cc
+
+pub on_binding : (plan : Plan) → FitsPlan plan → (h : History) (e : Event) (end : PortName) (unit : UnitName)
     (effects : List Effect) (x : Site) (n : ℕ) (p : Packet) (floor : ℕ)
     → CauseLaw plan ((e, Accepted end unit effects) ∷ h) → UnitIsUnforged plan h e (Accepted end unit effects)
     → site_at plan x.number ≡ Some x → slice_get (unit_ended plan h e end unit) n ≡ Some p → p.prefix.t ≡ true
-    → runs_at plan h x ≡ true → port_of plan end ≡ device_port x.link
+    → runs_at plan h x ≡ true → port_of plan end ≡ device_port x.link → (FitsPacket p → p.prefix.sub ≡ Cpl → ⊥)
     → floor_on unit.stream (interface_at plan h x).bindings ≡ Some floor → floor ≤ unit.draw
     → CameOnBinding plan h x end unit (length (accepted_packets plan h (received_in end unit) unit.draw) + n) p
-on_binding plan whole h e end unit effects x n p floor cause forged known stands trusted runs at is least =
+on_binding plan whole h e end unit effects x n p floor cause forged known stands trusted runs at request is least =
     let bound = floor_some unit.stream floor (interface_at plan h x).bindings is in
     let secure = bound_secure plan h cause.1 x unit.stream bound in
     let between = is_between plan whole x.link unit.stream secure.end end secure.at_device at
@@ -402,15 +382,24 @@ on_binding plan whole h e end unit effects x n p floor cause forged known stands
     stands trusted in
     let was = from.was in
     let names = in_parts (received_in end unit) unit.draw was.stands.sealed was.stands.under in
-    let made = bound_made plan h was.older was.port was.bytes was.more was.trusted was.packets was.place
-    was.stands.sealed
-    cause.1 was.came was.stands.stands was.until in
+    let made = bound_made plan h was.older was.event was.packets was.place was.stands.sealed cause.1 was.came
+    was.stands.stands was.until in
     let first = bound_floor plan h cause.1 x known unit.stream floor is in
+    let law = cause_at plan was.came.since ((was.event, Sealed was.packets) ∷ was.older) h was.came.is cause.1 in
+    let among = among_these plan was.older was.event was.packets was.place was.stands.sealed
+    (sealed_then plan h was.older was.event was.packets was.place was.stands.sealed was.came was.stands.stands
+    was.until) was.from in
+    let of = placed plan (streams_fit plan whole) (draws plan) h cause.1 was.place was.stands.sealed was.stands.stands
+    in
+    let prefix : p.prefix ≡ prefix_of was.stands.sealed.0 = ap (λ (q : Packet). q.prefix) (sym from.same) ∙ of.prefix in
     record {
       runs = runs;
       between = between;
       bound = bound;
       from = from;
+      sent = sent_by plan was.older was.event was.packets was.stands.sealed.0 law was.sent among
+          (sym (ap (λ (f : Prefix). f.t) prefix) ∙ trusted)
+          (λ is. request (subst FitsPacket from.same of.fits) (ap (λ (f : Prefix). f.sub) prefix ∙ is));
       no_other_run = no_other_since plan h cause.1 x known first.older first.came first.same_lock was.older
           was.stands.sealed.0.draw _ made (omega (arith, first.needs, least, names.1));
     }
@@ -423,6 +412,9 @@ asked_at : (plan : Plan) → FitsPlan plan → (h : History) (e : Event) (end : 
 asked_at plan whole h e end unit effects cause forged x bar n w p known stored stands trusted =
     let taken = is_taken plan h e end unit effects x bar n w p cause.0 known stored stands trusted in
     let there = accepted_known plan h e end unit effects cause.0 in
+    let request : FitsPacket p → p.prefix.sub ≡ Cpl → ⊥ =
+    λ fits. not_completed p.prefix.sub
+    (sub_posted p fits trusted taken.head taken.reads taken.span taken.writes) in
     elim (bound_on plan h x unit.stream unit.draw taken.floor taken.runs taken.bound taken.from_floor) [
       | inl own ↦
           let has : own_has_id (slice_get plan.links (port_of plan end).line) unit.stream ≡ true =
@@ -433,12 +425,12 @@ asked_at plan whole h e end unit effects cause forged x bar n w p known stored s
             runs = taken.runs;
             end_is = at;
             stream_is = own.stream_is;
-            was_asked = was_asked plan whole h e end unit effects x n p cause forged known stands trusted taken at
-                own.least;
+            was_asked = was_asked plan whole h e end unit effects x n p cause forged known stands trusted taken.runs
+                request at own.least;
           })
       | inr bound ↦
           inr (on_binding plan whole h e end unit effects x n p taken.floor cause forged known stands trusted taken.runs
-          taken.at_port bound taken.from_floor)
+          taken.at_port request bound taken.from_floor)
     ]
 
 stores_asked : (plan : Plan) → FitsPlan plan → (h : History) (e : Event) (w : Verdict)

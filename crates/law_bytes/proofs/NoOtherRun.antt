@@ -218,6 +218,6 @@ pub made_by : (plan : Plan) (g : History) (e : Event) (ds : List SealedPacket) (
 made_by plan g e ds i d is at =
     let sealing = sealing_is plan g e ds is in
     let live = live_of plan g sealing.sending.port sealing.sending.stream ds i d
-    (all_live plan g (sending_port plan e) (sent_bytes plan g e) ds sealing) at in
+    (all_live plan g (sending_port plan g e) (sent_bytes plan g e) ds sealing) at in
     on_is_owned g sealing.sending.port (sub_stream_of d) d.k d.draw
     (live_on plan g sealing.sending.port sealing.sending.stream d live)

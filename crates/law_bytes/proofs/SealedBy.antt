@@ -100,6 +100,18 @@ sealed_by plan ((e, Sealed ds) ∷ h) k x is =
     ]
 sealed_by plan (pair ∷ h) k x is = sealed_later plan h pair k x refl (sealed_by plan h k x is)
 
+-- one that is not older is one of the pair's
+pub among_these : (plan : Plan) (h : History) (e : Event) (ds : List SealedPacket) (k : ℕ) (x : SealedPacket × Packet)
+    → slice_get (sealed_packets plan ((e, Sealed ds) ∷ h)) k ≡ Some x → length (sealed_packets plan h) ≤ k
+    → IsAmong ds x.0
+unfolding sealed_packets
+among_these plan h e ds k x is from =
+    elim (with_each plan (ahead_of_packet plan (sealed_packets plan h) (base h)) (sent_bytes plan h e) ds
+    (sealed_packets plan h) k x is) [
+      | inl older ↦ let less = get_less (sealed_packets plan h) k x older.0 in absurd (omega (arith, less, from))
+      | inr new ↦ new.0
+    ]
+
 -- ---- what was sealed is among all that are sealed later
 
 with_longer : (plan : Plan) (ahead : SealedPacket → List ℕ) (bytes : List ℕ) (ds : List SealedPacket) (xs : SealedList)

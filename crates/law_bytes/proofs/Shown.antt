@@ -15,7 +15,10 @@ use Rattle.tlp_layout.specs.declared.fault.TlpFault.{TlpFault}
 use Rattle.tlp_layout.specs.Reading.{read_head_of}
 use Rattle.trusted_memory.specs.Writes.{Write, memory_write, newest_first}
 unfoldable use Rattle.trusted_memory.specs.Writes.{byte_last_written}
+use Rattle.trusted_memory.specs.declared.span.Span.{Span}
+use Rattle.trusted_memory.specs.Spans.{write_span}
 use Rattle.trusted_memory.specs.Admitted.{if_placed}
+use Rattle.std.specs.Option.{option_map}
 use Rattle.spec_links.specs.Ports.{at_switch, port_of, goes_to_hop}
 unfoldable use Rattle.spec_links.specs.Ports.{sealing_end}
 use Rattle.ide_types.specs.Ends.{hop_end}
@@ -171,6 +174,14 @@ write_is plan grants port unit p payload w head is reads =
         subst (λ (z : HeadView). memory_write z payload ≡ Some w) same
         (placed_is plan.memory _ (memory_write k payload) w is)
 
+span_is : (head : HeadView) (payload : List ℕ) (w : Write) → memory_write head payload ≡ Some w
+    → write_span head ≡ Some w.span
+span_is head payload w is = by (write_span head) is
+  where
+    by : (o : Option Span) → option_map (λ s. record { span = s; payload = payload }) o ≡ Some w → o ≡ Some w.span
+    by None is = absurd cc
+    by (Some s) is = cc (is)
+
 -- ---- the port that it was given to
 
 not_there : (links line link : ℕ) → links ≤ 8 → nat_lt line links ≡ true → 16 + link ≡ line → ⊥
@@ -224,6 +235,8 @@ origin_by plan whole fits facts h cause at byte left =
     let adm = at_port plan whole older port unit it.packet (accepted_known plan older e port unit left.effects here.0)
     (admitted_means plan older q unit it.packet payload w is) in
     let site = admitted_for plan older port unit it.packet adm in
+    let writes = span_is adm.head payload w
+    (write_is plan (grant_at plan older) q unit it.packet payload w adm.head is adm.reads) in
     record {
       left = left;
       interface = site.site;
@@ -231,7 +244,8 @@ origin_by plan whole fits facts h cause at byte left =
       link = site.link_is;
       stream = site.stream_is;
       sent = λ unforged.
-          let sent = own plan whole fits facts older e port unit left.effects here unforged n it.packet adm it.stands in
+          let sent = own plan whole fits facts older e port unit left.effects here unforged n it.packet adm it.stands
+          w.span writes in
           let opens : payload ≡ body sent.tlp =
           part_opens (key_of plan unit.draw (received_in port unit)) (iv_of unit.sub unit.unit) ps n it.packet
           (body sent.tlp) it.stands sent.body_is in

@@ -21,7 +21,7 @@ use Rattle.guarded_memory.specs.declared.status.InterfaceStatus.{InterfaceStatus
 use Rattle.guarded_memory.specs.declared.claims.Claim.{Claim}
 use Rattle.guarded_memory.specs.Statuses.{is_in_run}
 use Rattle.guarded_memory.specs.Claims.{claim_of}
-use Rattle.guarded_memory.specs.Causes.{floor_cause, mmio_cause, cause_effect, claim_effect, mmio_effect}
+use Rattle.guarded_memory.specs.Causes.{floor_cause, mmio_cause, cause_effect, claim_effect, mmio_effect, is_stored}
 use Rattle.guarded_memory.proofs.Claimed.{claimed}
 use Rattle.spec_interfaces.specs.Sites.{Site, site_at}
 use Rattle.spec_interfaces.specs.Devices.{runs_at, interface_at}
@@ -31,6 +31,7 @@ use Rattle.spec_links.specs.Ports.{at_switch, port_of}
 use Rattle.spec_links.specs.Admission.{switch_effect, effects_under_policy}
 use Rattle.spec_links.specs.Memory.{Policy, policy_at, device_effect, effect_by, unit_ended, plain_of}
 use Rattle.law_mmio.proofs.OnLinks.{no_switch}
+use Rattle.law_mmio.proofs.Units.{stored_as_write}
 use Rattle.law_verdicts.specs.{claimed_write, if_claims, if_stored, unit_stored_writes, stores, write_read}
 use Rattle.law_verdicts.proofs.{effect_at, effects_there, of_effect, run_state, some_is}
 use Rattle.event_verdicts.specs.declared.verdict.BlockCause.{BlockCause}
@@ -142,25 +143,30 @@ head_stored xs place bar stream draw payload to x p head reads at (Some s) write
       stored is;
 }
 
-read_stored : (xs : List InterfaceStatus) (place bar : ℕ) (unit : UnitName) (payload : List ℕ) (to : Write)
+stored_only : (e : Effect) → is_stored e ≡ true → e ≡ effect.Stored
+stored_only e is = grind arith
+
+read_stored : (xs : List InterfaceStatus) (place bar k : ℕ) (unit : UnitName) (payload : List ℕ) (to : Write)
     (x : InterfaceStatus) (p : Packet) → p.prefix.t ≡ true → slice_get xs place ≡ Some x
-    → (r : Result HeadView TlpFault) → read_head_of p.head ≡ r → device_effect xs unit p r ≡ effect.Stored
+    → (r : Result HeadView TlpFault) → read_head_of p.head ≡ r → device_effect xs k unit p r ≡ effect.Stored
     → claimed_write xs place bar (write_read payload r) ≡ Some to → StoredBy x unit.stream unit.draw p
-read_stored xs place bar unit payload to x p trusted at (Err f) reads stored is = absurd cc
-read_stored xs place bar unit payload to x p trusted at (Ok head) reads stored is =
+read_stored xs place bar k unit payload to x p trusted at (Err f) reads stored is = absurd cc
+read_stored xs place bar k unit payload to x p trusted at (Ok head) reads stored is =
+    let as_write = stored_only (mmio_effect xs p.prefix.t unit.stream unit.draw (write_span head))
+    (sym (stored_as_write xs p.prefix.t unit.stream unit.draw k head) ∙ ap is_stored stored) in
     head_stored xs place bar unit.stream unit.draw payload to x p head reads at (write_span head) refl
-    (subst (λ (t : Bool). mmio_effect xs t unit.stream unit.draw (write_span head) ≡ effect.Stored) trusted stored) is
+    (subst (λ (t : Bool). mmio_effect xs t unit.stream unit.draw (write_span head) ≡ effect.Stored) trusted as_write) is
 
 -- ---- at the device's port
 
 at_device : (plan : Plan) (policy : Policy) (k link : ℕ) (unit : UnitName) (p : Packet)
     → at_switch plan (device_port link) ≡ false → effect_by plan policy k (device_port link) unit p ≡ effect.Stored
-    → device_effect (policy.statuses link) unit p (read_head_of p.head) ≡ effect.Stored
+    → device_effect (policy.statuses link) k unit p (read_head_of p.head) ≡ effect.Stored
 at_device plan policy k link unit p off is = by (is_sync_packet p) (at_switch plan (device_port link)) off is
   where
     by : (a c : Bool) → c ≡ false → (if a then effect.Sync else if c then switch_effect
-        else device_effect (policy.statuses link) unit p (read_head_of p.head)) ≡ effect.Stored
-        → device_effect (policy.statuses link) unit p (read_head_of p.head) ≡ effect.Stored
+        else device_effect (policy.statuses link) k unit p (read_head_of p.head)) ≡ effect.Stored
+        → device_effect (policy.statuses link) k unit p (read_head_of p.head) ≡ effect.Stored
     by true c off is = absurd cc
     by false true off is = absurd cc
     by false false off is = is
@@ -190,9 +196,9 @@ taken_there plan h e end unit effects x bar n w p is known at stored stands trus
     let are = subst (λ (q : PortName). effects ≡ effects_under_policy plan (policy_at plan h) q unit ps) at
     (effects_there plan h e end unit effects is) in
     let policy = policy_at plan h in
-    let one = effect_at plan policy (policy.waiting x.link) (device_port x.link) unit ps n p effect.Stored
+    let one = effect_at plan policy (policy.waiting (device_port x.link)) (device_port x.link) unit ps n p effect.Stored
     (ap (λ (es : List Effect). slice_get es n) (sym are) ∙ listed.effect_is) stands in
-    let by = read_stored xs (place_of plan x) bar unit listed.payload w (device_status plan h x) p trusted
+    let by = read_stored xs (place_of plan x) bar one.0 unit listed.payload w (device_status plan h x) p trusted
     (standing_placed plan h x.number x known) (read_head_of p.head) refl
     (at_device plan policy one.0 x.link unit p (no_switch plan x known) one.1) listed.claims in
     record {

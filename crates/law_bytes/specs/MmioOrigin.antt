@@ -1,5 +1,6 @@
 -- Where trusted writes to the memory of interfaces come from.
-use Rattle.std.specs.Prelude.{◌≡◌, ◌⊎◌, ◌+◌, ◌∷◌, ◌<◌, ◌≤◌, ℕ, Bool, true, List, Some, length, nat_le, slice_get}
+use Rattle.std.specs.Prelude.{◌≡◌, ◌⊎◌, ◌+◌, ◌∷◌, ◌<◌, ◌≤◌, ℕ, Bool, true, false, List, Some, length, nat_le}
+use Rattle.std.specs.Prelude.{slice_get}
 use Rattle.ide_types.specs.Ports.{host_port, device_port}
 use Rattle.spec_links.specs.Terms.{PortName, Plan, Event, Send, UnitName, Verdict, Accepted, Sealed, SealedPacket}
 use Rattle.spec_links.specs.Terms.{Packet, History, Write}
@@ -37,8 +38,13 @@ pub record CameOnLock (plan : Plan) (h : History) (x : Site) (end : PortName) (u
   pub stream_is : unit.stream ≡ x.plan.stream
   pub was_asked : WasAsked plan h x (received_in end unit) unit.draw m p
 
--- The interface is in RUN; it came on a stream between the device and another that the interface is bound to. It was
--- sealed there for an owner that was in RUN and bound to the stream, and since before that the interface was in no
+-- It is a send: no response, which seals a completion alone.
+abbrev pub is_send : Event → Bool
+is_send (Send port bytes more trusted) = true
+is_send e = false
+
+-- The interface is in RUN; it came on a stream between the device and another that the interface is bound to. A send
+-- sealed it there for an owner that was in RUN and bound to the stream, and since before that the interface was in no
 -- other RUN than now.
 pub record CameOnBinding (plan : Plan) (h : History) (x : Site) (end : PortName) (unit : UnitName) (m : ℕ) (p : Packet)
     : Type 0 where
@@ -46,6 +52,7 @@ pub record CameOnBinding (plan : Plan) (h : History) (x : Site) (end : PortName)
   pub between : nat_le 24 end.line ≡ true
   pub bound : is_bound_at plan h x unit.stream ≡ true
   pub from : IsBoundPacket plan h (received_in end unit) unit.draw m p
+  pub sent : is_send from.was.event ≡ true
   pub no_other_run : IsInNoOtherRun plan from.was.older h x
 
 -- each packet with T whose write is stored in the memory of an interface

@@ -158,20 +158,20 @@ same_forwarded h e (v.Sealed ds) link d inert = absurd cc
 same_forwarded h (event.Reset k ends) (v.Reset l) link d inert = absurd cc
 same_forwarded h _ _ link d inert = refl
 
-same_queued : (plan : Plan) (xs : SealedList) (h : History) (e : Event) (w : Verdict) (link : ℕ) → is_inert w ≡ true
-    → queued_in plan xs ((e, w) ∷ h) link ≡ queued_in plan xs h link
+same_queued : (plan : Plan) (xs : SealedList) (h : History) (e : Event) (w : Verdict) (at : PortName)
+    → is_inert w ≡ true → queued_in plan xs ((e, w) ∷ h) at ≡ queued_in plan xs h at
 unfolding queued_in
-same_queued plan xs h e (v.Accepted port unit effects) link inert = absurd cc
-same_queued plan xs h (event.Reset k ends) (v.Reset l) link inert = absurd cc
-same_queued plan xs h _ _ link inert = refl
+same_queued plan xs h e (v.Accepted port unit effects) at inert = absurd cc
+same_queued plan xs h (event.Reset k ends) (v.Reset l) at inert = absurd cc
+same_queued plan xs h _ _ at inert = refl
 
-same_taken : (h : History) (e : Event) (w : Verdict) (link : ℕ) → is_inert w ≡ true
-    → reads_taken ((e, w) ∷ h) link ≡ reads_taken h link
+same_taken : (h : History) (e : Event) (w : Verdict) (at : PortName) → is_inert w ≡ true
+    → reads_taken ((e, w) ∷ h) at ≡ reads_taken h at
 unfolding reads_taken
-same_taken h e (v.Sealed ds) link inert = absurd cc
-same_taken h e (v.Access (av.Dropped interface cause)) link inert = absurd cc
-same_taken h (event.Reset k ends) (v.Reset l) link inert = absurd cc
-same_taken h _ _ link inert = refl
+same_taken h e (v.Sealed ds) at inert = absurd cc
+same_taken h e (v.Access (av.Dropped interface cause)) at inert = absurd cc
+same_taken h (event.Reset k ends) (v.Reset l) at inert = absurd cc
+same_taken h _ _ at inert = refl
 
 -- ---- memory
 
@@ -391,12 +391,12 @@ same_waiting plan h e w link d inert =
     ∙ ap (drop (forwarded_count h link d))
     (same_tlps plan (sealed_packets plan h) h e w link (entering_end link d) inert)
 
-same_reads : (plan : Plan) (h : History) (e : Event) (w : Verdict) (link : ℕ) → is_inert w ≡ true
-    → waiting_reads plan ((e, w) ∷ h) link ≡ waiting_reads plan h link
-same_reads plan h e w link inert =
-    (λ i. drop (same_taken h e w link inert i)
-    (queued_in plan (sealed_same plan h e w (none_sealed w inert) i) ((e, w) ∷ h) link))
-    ∙ ap (drop (reads_taken h link)) (same_queued plan (sealed_packets plan h) h e w link inert)
+same_reads : (plan : Plan) (h : History) (e : Event) (w : Verdict) (at : PortName) → is_inert w ≡ true
+    → waiting_reads plan ((e, w) ∷ h) at ≡ waiting_reads plan h at
+same_reads plan h e w at inert =
+    (λ i. drop (same_taken h e w at inert i)
+    (queued_in plan (sealed_same plan h e w (none_sealed w inert) i) ((e, w) ∷ h) at))
+    ∙ ap (drop (reads_taken h at)) (same_queued plan (sealed_packets plan h) h e w at inert)
 
 pub unchanged : (plan : Plan) (h : History) (e : Event) (w : Verdict) → is_inert w ≡ true → IsUnchanged plan h e w
 unchanged plan h e w inert = record {
@@ -407,7 +407,7 @@ unchanged plan h e w inert = record {
   accepted = λ s j. same_accepted plan h e w s j inert;
   pending_packets = λ s j n. same_held plan h e w s j n inert;
   switches = λ link d. same_waiting plan h e w link d inert;
-  reads = λ link. same_reads plan h e w link inert;
+  reads = λ at. same_reads plan h e w at inert;
   memory = same_writes plan h e w inert;
   devices = λ link. same_happenings plan h e w link inert;
   views = λ x. same_views h e w x inert;

@@ -4,7 +4,7 @@ use Rattle.law_sealing.proofs.Terms.{ap}
 use Rattle.law_sealing.proofs.Terms.{sym, ◌∙◌, arith, nat_tests, subst, inl, inr, Plan, History, PortName, SubKind, Pr}
 use Rattle.law_sealing.proofs.Terms.{Npr, Cpl, lane_in, units_got}
 use Rattle.law_sealing.proofs.Terms.{CauseLaw}
-unfoldable use Rattle.law_sealing.proofs.Terms.{due}
+unfoldable use Rattle.law_sealing.proofs.Terms.{due, sealed_packets}
 use Rattle.std.specs.Prelude.{if◌then◌else◌, ◌+◌}
 use Rattle.ide_types.specs.declared.port.Side.{Side}
 use Rattle.ide_types.specs.declared.view.View.{View}
@@ -114,12 +114,20 @@ failed_still h link l ends side line stream same =
 
 -- ---- what waits
 
-no_reads : (plan : Plan) (h : History) (link l : ℕ) (ends : List PortName) → l ≡ link
-    → waiting_reads plan ((Reset link ends, v.Reset l) ∷ h) link ≡ []
+no_reads : (plan : Plan) (h : History) (link l : ℕ) (ends : List PortName) (port : PortName) → l ≡ link
+    → port.line ≡ link → waiting_reads plan ((Reset link ends, v.Reset l) ∷ h) port ≡ []
 unfolding queued_in reads_taken
-no_reads plan h link l ends same =
-    let here : (l == link) ≡ true = grind (arith, nat_tests) in
+no_reads plan h link l ends port same on =
+    let here : (l == port.line) ≡ true = grind (arith, nat_tests) in
     rw here refl
+
+reads_stay : (plan : Plan) (h : History) (link l : ℕ) (ends : List PortName) (port : PortName) → l ≡ link
+    → (port.line == link) ≡ false
+    → waiting_reads plan ((Reset link ends, v.Reset l) ∷ h) port ≡ waiting_reads plan h port
+unfolding queued_in reads_taken sealed_packets
+reads_stay plan h link l ends port same other =
+    let there : (l == port.line) ≡ false = grind (arith, nat_tests) in
+    rw there refl
 
 no_tlps : (plan : Plan) (h : History) (link l : ℕ) (ends : List PortName) (d : Direction) → clears_hop ends link ≡ true
     → hop_waiting plan ((Reset link ends, v.Reset l) ∷ h) link d ≡ []
@@ -218,7 +226,7 @@ clears plan fits h link l ends cause are = record {
         (rw are (hop_cut plan link less hop).1) (omega (arith, less));
     peers = λ end stream of. stopping end stream of;
   };
-  reads = no_reads plan h link l ends known.0;
+  reads = λ port on. no_reads plan h link l ends port known.0 on;
   switch = λ d hop. no_tlps plan h link l ends d (rw are (hop_clears hop));
   interfaces = λ x on. record {
     unlocked = ap (λ (t : DeviceTdi). t.state) (new_interface plan h link l ends x on);
@@ -238,6 +246,7 @@ clears plan fits h link l ends cause are = record {
     sealed = sealed_same plan h (Reset link ends) (v.Reset l) refl;
     made = same_draws;
     memory = same_writes;
+    reads = λ port other. reads_stay plan h link l ends port known.0 other;
   };
 }
   where

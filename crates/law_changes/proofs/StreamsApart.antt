@@ -18,19 +18,21 @@ use Rattle.spec_keys.specs.History.{place_keys, touches, touches_after, came, se
 use Rattle.spec_keys.specs.History.{fails_there}
 unfoldable use Rattle.spec_keys.specs.History.{failed_there, manager, moments}
 use Rattle.spec_links.specs.Terms.{Event, Verdict, Establish, Refresh, Stop, Reset, Send, Access}
-use Rattle.spec_links.specs.Terms.{IdePacket, cut_of, UnitName}
+use Rattle.spec_links.specs.Terms.{IdePacket, cut_of, UnitName, WaitingRead}
 use Rattle.spec_links.specs.Ports.{id_in}
 use Rattle.spec_links.specs.History.{sent_bytes, sending_port}
 use Rattle.spec_links.proofs.Ends.{id_is}
 use Rattle.spec_links.proofs.Tests.{eqb-refl}
-use Rattle.spec_links.proofs.Causes.{accepted_by, held_by, Came, sealed_by_sealing, is_sealing}
+use Rattle.spec_links.proofs.Causes.{accepted_by, held_by, Came, sealed_by_sealing, is_sealing, is_routed}
+use Rattle.spec_links.proofs.Causes.{sealing_comes}
+use Rattle.law_reads.proofs.Responses.{responded_by}
 use Rattle.spec_links.proofs.SealingIs.{sealing_is, AllLive, all_live}
 use Rattle.spec_links.proofs.Sealed.{left_alone, sent-same}
 use Rattle.tlp_layout.specs.Outgoing.{Outgoing, stream_taken}
 use Rattle.law_key_facts.proofs.RealFacts.{uncleared}
 use Rattle.law_locks.proofs.Fronts.{pairs_due}
 use Rattle.ide_types.specs.declared.sub.SubKind.{SubKind}
-use Rattle.law_changes.specs.StreamsApart.{acts_on, sends_on, brings_on, LeavesOthers}
+use Rattle.law_changes.specs.StreamsApart.{acts_on, sends_on, came_on, brings_on, LeavesOthers}
 use Rattle.law_changes.specs.Statements.{ApartLawHolds}
 use Rattle.law_changes.proofs.Inert.{stays_failed}
 use Rattle.law_changes.proofs.Resets.{same_key}
@@ -84,12 +86,13 @@ came_off plan h e port p line stream s came same off =
 
 -- ---- what is sealed
 
-sends_is : (plan : Plan) (h : History) (e : Event) (line stream : ℕ) → is_sealing e ≡ true
+sends_is : (plan : Plan) (h : History) (e : Event) (line stream : ℕ) → is_sealing e ≡ true → is_routed e ≡ true
     → acts_on plan h e line stream ≡ sends_on plan h e line stream
-sends_is plan h (Send port bytes more trusted) line stream seals = refl
-sends_is plan h (Access (ae.Answer link)) line stream seals = refl
-sends_is plan h (Forward link d) line stream seals = refl
-sends_is plan h e line stream seals = absurd cc
+sends_is plan h (Send port bytes more trusted) line stream seals routed = refl
+sends_is plan h (Access (ae.Answer link)) line stream seals routed = refl
+sends_is plan h (Access (ae.Respond link)) line stream seals routed = absurd cc
+sends_is plan h (Forward link d) line stream seals routed = refl
+sends_is plan h e line stream seals routed = absurd cc
 
 all_off : (plan : Plan) (h : History) (port : PortName) (s line stream : ℕ) (ds : List SealedPacket)
     → is_here line stream port.line s ≡ false → AllLive plan h port s ds
@@ -100,18 +103,38 @@ all_off plan h port s line stream (d ∷ ds) off all = (
   all_off plan h port s line stream ds off all.1,
 )
 
-sealed_off : (plan : Plan) (h : History) (e : Event) (ds : List SealedPacket) (line stream : ℕ)
-    → v.Sealed ds ≡ due plan h e → acts_on plan h e line stream ≡ false → IsOff line stream (v.Sealed ds)
-sealed_off plan h e ds line stream is off =
+routed_off : (plan : Plan) (h : History) (e : Event) (ds : List SealedPacket) (line stream : ℕ)
+    → v.Sealed ds ≡ due plan h e → is_routed e ≡ true → acts_on plan h e line stream ≡ false
+    → IsOff line stream (v.Sealed ds)
+routed_off plan h e ds line stream is routed off =
     let s = sealing_is plan h e ds is in
-    let there = sym (sends_is plan h e line stream (sealed_by_sealing plan h e ds is)) ∙ off in
-    let at : (((sending_port plan e).line == line) && (stream == s.sending.stream)) ≡ false =
-    ap (λ (o : Outgoing). ((sending_port plan e).line == line) && is_stream stream (stream_taken o)) (sym s.comes)
-    ∙ there in
+    let there = sym (sends_is plan h e line stream (sealed_by_sealing plan h e ds is) routed) ∙ off in
+    let at : (((sending_port plan h e).line == line) && (stream == s.sending.stream)) ≡ false =
+    ap (λ (o : Outgoing). ((sending_port plan h e).line == line) && is_stream stream (stream_taken o))
+    (sym (sealing_comes plan h e ds is routed)) ∙ there in
     all_off plan h s.sending.port s.sending.stream line stream ds
     (ap (λ (q : PortName). is_here line stream q.line s.sending.stream) s.at_port
-    ∙ turned (sending_port plan e).line line s.sending.stream stream at)
-    (all_live plan h (sending_port plan e) (sent_bytes plan h e) ds s)
+    ∙ turned (sending_port plan h e).line line s.sending.stream stream at)
+    (all_live plan h (sending_port plan h e) (sent_bytes plan h e) ds s)
+
+-- a response is on the stream on which its read came
+response_off : (plan : Plan) (h : History) (link : ℕ) (ds : List SealedPacket) (line stream : ℕ)
+    → v.Sealed ds ≡ due plan h (Access (ae.Respond link)) → acts_on plan h (Access (ae.Respond link)) line stream
+    ≡ false
+    → IsOff line stream (v.Sealed ds)
+response_off plan h link ds line stream is off =
+    let told = responded_by plan h link ds is in
+    let s = told.sealed.sealing in
+    let there : is_here line stream told.read.came.end.line told.read.came.stream ≡ false =
+    ap (λ (rs : List WaitingRead). came_on rs line stream) (sym told.waits) ∙ off in
+    all_off plan h s.sending.port s.sending.stream line stream ds
+    ((λ i. is_here line stream (s.at_port i).line (told.sealed.on_stream i)) ∙ there)
+    (all_live plan h told.read.came.end (sent_bytes plan h (Access (ae.Respond link))) ds s)
+
+sealed_off : (plan : Plan) (h : History) (e : Event) (ds : List SealedPacket) (line stream : ℕ)
+    → v.Sealed ds ≡ due plan h e → acts_on plan h e line stream ≡ false → IsOff line stream (v.Sealed ds)
+sealed_off plan h (Access (ae.Respond link)) ds line stream is off = response_off plan h link ds line stream is off
+sealed_off plan h e ds line stream is off = routed_off plan h e ds line stream is refl off
 
 off : (plan : Plan) (h : History) (e : Event) (w : Verdict) (line stream : ℕ) → w ≡ due plan h e
     → acts_on plan h e line stream ≡ false → IsOff line stream w

@@ -77,7 +77,7 @@ pub record IsAsNew (plan : Plan) (h : History) (x : Site) : Type 0 where
 -- ---- what is left elsewhere
 
 -- All other ends are as they were, with their keys and failures, and all other streams for the manager; so is what was
--- sealed, how many draws were made, and what stands in trusted memory.
+-- sealed, how many draws were made, what stands in trusted memory, and which reads wait at the ports of other links.
 pub record IsLeft (plan : Plan) (h after : History) (link : ℕ) : Type 0 where
   pub keys : (p : KeyPlace) → is_of_link plan link (end_of_place p) ≡ false → place_keys after p ≡ place_keys h p
   pub failures : (end : PortName) (stream : ℕ) → is_of_link plan link end ≡ false
@@ -87,14 +87,15 @@ pub record IsLeft (plan : Plan) (h after : History) (link : ℕ) : Type 0 where
   pub sealed : sealed_packets plan after ≡ sealed_packets plan h
   pub made : draws after ≡ draws h
   pub memory : writes plan after ≡ writes plan h
+  pub reads : (port : PortName) → (port.line == link) ≡ false → waiting_reads plan after port ≡ waiting_reads plan h port
 
 -- ---- the law
 
 pub record Clears (plan : Plan) (h after : History) (link : ℕ) : Type 0 where
   pub ends : AreClear plan after link
   pub streams : AreDropped plan after link
-  -- no read waits on the link, and nothing at its switch
-  pub reads : waiting_reads plan after link ≡ []
+  -- no read waits at a port of the link, and nothing at its switch
+  pub reads : (port : PortName) → port.line ≡ link → waiting_reads plan after port ≡ []
   pub switch : (d : Direction) → has_hop plan link ≡ true → hop_waiting plan after link d ≡ []
   pub interfaces : (x : Site) → x.link ≡ link → IsAsNew plan after x
   pub rest : IsLeft plan h after link

@@ -10,8 +10,8 @@ pub fn inert_law()
 
 /// A reset of a link leaves nothing at the ends that it clears, those of the link, of its hop, and at its device of
 /// streams between devices: no key, no failure, nothing held, no read and no TLP that waits. Its interfaces are
-/// unlocked as the topology has them, with all bytes 0, and each view of them is Unlocked or Broken. All other ends
-/// keep theirs.
+/// unlocked as the topology has them, with all bytes 0, and each view of them is Unlocked or Broken. All other ends and
+/// links keep theirs.
 pub fn reset_law()
     ensures { ResetLawHolds }
 {}
@@ -22,8 +22,9 @@ pub fn exact_through_law()
     ensures { ExactThroughLawHolds }
 {}
 
-/// An event that is no operation on a stream, resets no end of its line, and neither sends on the stream nor brings
-/// bytes of it, leaves its keys and failures at both ends, and what was sealed, held and accepted in it.
+/// An event that is no operation on a stream, resets no end of its line, and neither sends on the stream (a response
+/// sends on that on which its read came) nor brings bytes of it, leaves its keys and failures at both ends, and what
+/// was sealed, held and accepted in it.
 pub fn streams_apart()
     ensures { ApartLawHolds }
 {}

@@ -75,9 +75,9 @@ all_known plan facts ((e, Sealed ds) ∷ h) cause p stream lone =
     known_more plan from.port from.stream (live_at plan h from.port from.stream)
     (from_at plan h from.port from.stream) from.class (ahead_of_packet plan (sealed_packets plan h) (base h))
     (sent_bytes plan h e) is.tlp is.reads is.class p stream ds (sealed_packets plan h)
-    (all_of_sealing plan facts h cause.1 (sending_port plan e) (sent_bytes plan h e) ds is)
+    (all_of_sealing plan facts h cause.1 (sending_port plan h e) (sent_bytes plan h e) ds is)
     (of_stream plan facts h cause.1 p stream lone from.port from.stream ds
-    (all_live plan h (sending_port plan e) (sent_bytes plan h e) ds is))
+    (all_live plan h (sending_port plan h e) (sent_bytes plan h e) ds is))
     (all_known plan facts h cause.1 p stream lone)
 all_known plan facts ((e, w) ∷ h) cause p stream lone = all_known plan facts h cause.1 p stream lone
 
@@ -198,7 +198,7 @@ here_is plan ((e, Sealed ds) ∷ h) cause link p j segment only =
     ∙ ((λ i. before i ++ subs new)
     ∙ sym (here_more plan (ahead_of_packet plan (sealed_packets plan h) (base h)) (sent_bytes plan h e) p j ds
     (sealed_packets plan h) (of_draw plan h cause.1 link p j segment older is.sending.port is.sending.stream ds
-    (all_live plan h (sending_port plan e) (sent_bytes plan h e) ds is))))
+    (all_live plan h (sending_port plan h e) (sent_bytes plan h e) ds is))))
 here_is plan ((Reset k ends, v.Reset l) ∷ h) cause link p j segment only =
     at_reset plan h k ends l cause.1 link p j only (λ older. here_is plan h cause.1 link p j segment older)
 here_is plan ((e, w) ∷ h) cause link p j segment only =

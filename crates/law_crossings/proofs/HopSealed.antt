@@ -204,9 +204,9 @@ sealed_more : (plan : Plan) → DrawFacts plan → (h : History) (e : Event) (ds
 unfolding hop_sent
 sealed_more plan facts h e ds cause link p stream u segment lone =
     by (live_key h p s) refl (all_of plan facts h cause.1 p is.sending.port is.sending.stream stream u ds lone
-    (all_live plan h (sending_port plan e) (sent_bytes plan h e) ds is))
+    (all_live plan h (sending_port plan h e) (sent_bytes plan h e) ds is))
   where
-    is : IsSealing plan h (sending_port plan e) (sent_bytes plan h e) ds
+    is : IsSealing plan h (sending_port plan h e) (sent_bytes plan h e) ds
     is = sealing_is plan h e ds cause.0
 
     s : SubStream

@@ -14,7 +14,7 @@ use Rattle.ide_types.specs.declared.port.Side.{Side}
 use Rattle.ide_types.specs.declared.port.Side.TheVariants.{Host, Device}
 use Rattle.ide_types.specs.Fits.{FitsPlan}
 use Rattle.ide_types.specs.Ports.{host_port, device_port}
-use Rattle.ide_types.specs.Ends.{own_has_id, line_has, port_beside_end}
+use Rattle.ide_types.specs.Ends.{own_has_id, line_has, port_beside_end, far_hop_port, near_hop_port}
 use Rattle.ide_types.specs.Sub.{sent_direction}
 use Rattle.tlp_layout.specs.declared.head.HeadView.{HeadView}
 use Rattle.tlp_layout.specs.declared.fault.TlpFault.{TlpFault}
@@ -26,11 +26,13 @@ use Rattle.trusted_memory.specs.Spans.{write_span, crosses}
 use Rattle.trusted_memory.specs.Requests.{memory_read}
 use Rattle.trusted_memory.specs.Causes.{grant_cause, write_effect}
 use Rattle.trusted_memory.specs.Admitted.{is_on_bound}
-use Rattle.trusted_memory.specs.Waiting.{effect_by_read, request_effect}
+use Rattle.trusted_memory.specs.Waiting.{effect_by_read, read_effect, request_effect}
 use Rattle.guarded_memory.specs.declared.status.InterfaceStatus.{InterfaceStatus}
 use Rattle.guarded_memory.specs.declared.claims.Claim.{Claim}
 use Rattle.guarded_memory.specs.Claims.{claim_of}
 use Rattle.guarded_memory.specs.Causes.{mmio_cause, cause_effect, claim_effect, mmio_effect, floor_cause}
+use Rattle.guarded_memory.specs.DeviceReads.{claimed_read_effect, device_read_cause, device_request_effect}
+use Rattle.guarded_memory.specs.DeviceReads.{effect_by_device_read}
 use Rattle.guarded_memory.specs.Statuses.{is_in_run}
 use Rattle.guarded_memory.proofs.Claimed.{claimed}
 use Rattle.interface_state.specs.Bindings.{floor_on, is_binding_on}
@@ -72,11 +74,17 @@ use Rattle.ide_types.specs.declared.direction.Direction.TheVariants.{Downstream,
 use Rattle.ide_types.specs.Lines.{is_far_hop_line}
 use Rattle.spec_interfaces.specs.Cause.{SealFits, owner_read, owners_link, t_at}
 use Rattle.spec_links.specs.Terms.{Verdict, Access, Send}
-use Rattle.spec_links.specs.Plan.{has_link}
 use Rattle.spec_links.specs.Hops.{has_hop, leaving_end}
-use Rattle.spec_links.specs.Memory.{waiting_reads, hop_waiting, unit_ended}
+use Rattle.spec_links.specs.Memory.{hop_waiting, unit_ended}
+use Rattle.spec_links.specs.Sent.{reads_taken}
+use Rattle.spec_links.specs.Terms.{ReadArrival, WaitingRead}
+use Rattle.law_reads.proofs.Oldest.{first_means}
+use Rattle.law_hops.proofs.Queued.{QueuedAt, queued_at, was_queued}
+use Rattle.law_memory.proofs.Packets.{IsOf, map_all}
+use Rattle.law_memory.proofs.Responses.{responded, response_packets, response_sending}
+use Rattle.std.proofs.Common.{subst₂}
 use Rattle.spec_links.specs.History.{sent_bytes, sending_port}
-use Rattle.spec_links.specs.Due.{answer_first, outgoing_completion, forward_first}
+use Rattle.spec_links.specs.Due.{forward_first}
 unfoldable use Rattle.spec_links.specs.Due.{due}
 use Rattle.spec_links.proofs.Causes.{sealed_by_sealing}
 use Rattle.spec_links.proofs.SealingIs.{sealing_is, AllLive, all_live}
@@ -114,20 +122,20 @@ off_grant (Some b) stream draw off = by (b.stream == stream) (nat_lt draw b.floo
     by true false less off = absurd (grind (arith, nat_tests, less, off))
 
 off_write : (regions : List Region) (t : Bool) (g : Grant) (o : Option Span)
-    → is_on_bound g.stream g.draw g.bound ≡ false → is_trusted_effect (write_effect regions t g o) t ≡ false
+    → is_on_bound g.stream g.draw g.bound ≡ false → is_trusted_effect Host (write_effect regions t g o) t ≡ false
 off_write regions t g None off = refl
 off_write regions false g (Some s) off = refl
 off_write regions true g (Some s) off = let b = off_grant g.bound g.stream g.draw off in rw b.is refl
 
 off_read : (regions : List Region) (t : Bool) (g : Grant) (n : ℕ) (o : Option MemReadView) (other : Effect)
-    → is_on_bound g.stream g.draw g.bound ≡ false → is_trusted_effect other t ≡ false
-    → is_trusted_effect (effect_by_read regions t g n o other) t ≡ false
+    → is_on_bound g.stream g.draw g.bound ≡ false → is_trusted_effect Host other t ≡ false
+    → is_trusted_effect Host (effect_by_read regions t g n o other) t ≡ false
 off_read regions t g n None other off is = is
 off_read regions false g n (Some r) other off is = refl
 off_read regions true g n (Some r) other off is = let b = off_grant g.bound g.stream g.draw off in rw b.is refl
 
 off_request : (regions : List Region) (t : Bool) (g : Grant) (n : ℕ) (head : HeadView)
-    → is_on_bound g.stream g.draw g.bound ≡ false → is_trusted_effect (request_effect regions t g n head) t ≡ false
+    → is_on_bound g.stream g.draw g.bound ≡ false → is_trusted_effect Host (request_effect regions t g n head) t ≡ false
 off_request regions t g n head off =
     off_read regions t g n (memory_read head) (write_effect regions t g (write_span head)) off
     (off_write regions t g (write_span head) off)
@@ -135,26 +143,29 @@ off_request regions t g n head off =
 -- ---- effects at a device's port
 
 abbrev IsFree : Effect → Bool → Type 0
-IsFree x t = is_trusted_effect x t ≡ false
+IsFree x t = is_trusted_effect Device x t ≡ false
 
 caused_free : (o : Option BlockCause) → IsFree (cause_effect o) false
 caused_free None = refl
 caused_free (Some c) = refl
 
--- an interface stands so that a trusted write on the stream is not stored
+read_free : (o : Option BlockCause) → IsFree (read_effect o) false
+read_free None = refl
+read_free (Some c) = refl
+
+-- an interface stands so that a trusted write on the stream is not stored, nor a trusted read queued
 abbrev IsOff : InterfaceStatus → ℕ → ℕ → Type 0
 IsOff x stream draw = (floor : ℕ) → is_in_run x.state ≡ true → floor_on stream x.bound ≡ Some floor → ⊥
 
 off_claim : (c : Claim) (s : Span) (stream draw : ℕ) → IsOff c.status stream draw
-    → IsFree (cause_effect (mmio_cause c.status c.range s true stream draw)) true
+    → IsBlocked (mmio_cause c.status c.range s true stream draw)
 off_claim c s stream draw off = by (crosses s) (is_in_run c.status.state) refl (floor_on stream c.status.bound) refl
   where
     by : (a r : Bool) → is_in_run c.status.state ≡ r → (o : Option ℕ) → floor_on stream c.status.bound ≡ o
-        → IsFree (cause_effect (if a then Some cause.Crosses else if r then floor_cause o draw
-        else Some cause.NotRunning)) true
-    by true r run o is = refl
-    by false false run o is = refl
-    by false true run None is = refl
+        → IsBlocked (if a then Some cause.Crosses else if r then floor_cause o draw else Some cause.NotRunning)
+    by true r run o is = record { cause = cause.Crosses; is = refl }
+    by false false run o is = record { cause = cause.NotRunning; is = refl }
+    by false true run None is = record { cause = cause.WrongStream; is = refl }
     by false true run (Some floor) is = absurd (off floor run is)
 
 off_span : (xs : List InterfaceStatus) (t : Bool) (stream draw : ℕ) (o : Option Span)
@@ -166,7 +177,34 @@ off_span xs t stream draw (Some s) off = by (claim_of xs s) refl t
     by : (o : Option Claim) → claim_of xs s ≡ o → (t : Bool) → IsFree (claim_effect o s t stream draw) t
     by None is t = refl
     by (Some c) is false = caused_free (mmio_cause c.status c.range s false stream draw)
-    by (Some c) is true = off_claim c s stream draw (off c.interface c.status (claimed xs s c is).interface)
+    by (Some c) is true =
+        let b = off_claim c s stream draw (off c.interface c.status (claimed xs s c is).interface) in rw b.is refl
+
+off_device_read : (xs : List InterfaceStatus) (t : Bool) (stream draw n : ℕ) (s : Span)
+    → ((i : ℕ) (x : InterfaceStatus) → slice_get xs i ≡ Some x → IsOff x stream draw)
+    → IsFree (claimed_read_effect (claim_of xs s) s t stream draw n) t
+off_device_read xs t stream draw n s off = by (claim_of xs s) refl t
+  where
+    answers : (c : Claim) (reads t : Bool) → (t ≡ true → IsBlocked (mmio_cause c.status c.range s true stream draw))
+        → IsFree (if reads then read_effect (device_read_cause c s t stream draw n) else effect.Delivered) t
+    answers c false t blocked = refl
+    answers c true false blocked = read_free (device_read_cause c s false stream draw n)
+    answers c true true blocked = let b = blocked refl in rw b.is refl
+
+    by : (o : Option Claim) → claim_of xs s ≡ o → (t : Bool) → IsFree (claimed_read_effect o s t stream draw n) t
+    by None is t = refl
+    by (Some c) is t = answers c c.status.reads t
+        (λ trusted. off_claim c s stream draw (off c.interface c.status (claimed xs s c is).interface))
+
+off_device_request : (xs : List InterfaceStatus) (t : Bool) (stream draw n : ℕ) (head : HeadView)
+    → ((i : ℕ) (x : InterfaceStatus) → slice_get xs i ≡ Some x → IsOff x stream draw)
+    → IsFree (device_request_effect xs t stream draw n head) t
+off_device_request xs t stream draw n head off = by (memory_read head)
+  where
+    by : (o : Option MemReadView) → IsFree (effect_by_device_read xs t stream draw n o
+        (mmio_effect xs t stream draw (write_span head))) t
+    by None = off_span xs t stream draw (write_span head) off
+    by (Some r) = off_device_read xs t stream draw n r.span off
 
 -- ---- ends of hops
 
@@ -348,7 +386,8 @@ module _ (plan : Plan) (fits : FitsPlan plan) (h : History) (cause : CauseLaw pl
 
 packet_free : (plan : Plan) → FitsPlan plan → (h : History) → CauseLaw plan h → (port : PortName) (unit : UnitName)
     → is_hop_line port.line ≡ true → has_stream plan port unit.stream ≡ true → (k : ℕ) (p : Packet)
-    → IsFree (effect_by plan (policy_at plan h) k (port_of plan port) unit p) p.prefix.t
+    → is_trusted_effect (port_of plan port).side
+    (effect_by plan (policy_at plan h) k (port_of plan port) unit p) p.prefix.t ≡ false
 packet_free plan fits h cause port unit hop known k p =
     by (is_sync_packet p) (at_switch plan (port_of plan port)) refl (port_of plan port).side refl
   where
@@ -356,7 +395,7 @@ packet_free plan fits h cause port unit hop known k p =
     policy = policy_at plan h
 
     at_host : at_switch plan (port_of plan port) ≡ false → (r : Result HeadView TlpFault)
-        → IsFree (host_effect plan policy.grants k (port_of plan port) unit p r) p.prefix.t
+        → is_trusted_effect Host (host_effect plan policy.grants k (port_of plan port) unit p r) p.prefix.t ≡ false
     at_host off (Err f) = refl
     at_host off (Ok head) = off_request plan.memory p.prefix.t
         (unit_grant policy.grants (port_of plan port) unit head) k head
@@ -364,33 +403,93 @@ packet_free plan fits h cause port unit hop known k p =
 
     at_device : at_switch plan (port_of plan port) ≡ false → (port_of plan port).side ≡ Device
         → (r : Result HeadView TlpFault)
-        → IsFree (device_effect (policy.statuses (port_of plan port).line) unit p r) p.prefix.t
+        → IsFree (device_effect (policy.statuses (port_of plan port).line) k unit p r) p.prefix.t
     at_device off side (Err f) = refl
-    at_device off side (Ok head) = off_span (policy.statuses (port_of plan port).line) p.prefix.t unit.stream unit.draw
-        (write_span head) (none_bound plan fits h cause port unit hop known off side)
+    at_device off side (Ok head) = off_device_request (policy.statuses (port_of plan port).line) p.prefix.t unit.stream
+        unit.draw k head (none_bound plan fits h cause port unit hop known off side)
 
     by : (s c : Bool) → at_switch plan (port_of plan port) ≡ c → (side : Side) → (port_of plan port).side ≡ side
-        → IsFree (if s then effect.Sync else if c then switch_effect
+        → is_trusted_effect side (if s then effect.Sync else if c then switch_effect
         else if sent_direction side == 0 then host_effect plan policy.grants k (port_of plan port) unit p
         (read_head_of p.head)
-        else device_effect (policy.statuses (port_of plan port).line) unit p (read_head_of p.head)) p.prefix.t
+        else device_effect (policy.statuses (port_of plan port).line) k unit p (read_head_of p.head)) p.prefix.t
+        ≡ false
     by true c off side is = refl
     by false true off side is = refl
     by false false off Host is = at_host off (read_head_of p.head)
     by false false off Device is = at_device off is (read_head_of p.head)
+
+-- the port of an end of a hop is at its side
+hop_side : (plan : Plan) → FitsPlan plan → (side : Side) (line : ℕ) → is_hop_line line ≡ true
+    → (port_of plan (record { side = side; line = line })).side ≡ side
+unfolding port_of
+hop_side plan fits side line hop = by (nat_lt line (length plan.links)) side
+  where
+    low : nat_lt line 8 ≡ false
+    low = grind (arith, nat_tests, hop)
+
+    far : nat_lt line 24 ≡ true
+    far = grind (arith, nat_tests, hop)
+
+    beside : (near : Bool) (side : Side) → (if near then near_hop_port side (line - 8)
+        else far_hop_port side (line - 16)).side ≡ side
+    beside true Host = refl
+    beside true Device = refl
+    beside false Host = refl
+    beside false Device = refl
+
+    by : (b : Bool) (side : Side) → (if b then record { side = side; line = line }
+        else port_beside_end plan.peers (record { side = side; line = line })).side ≡ side
+    by true side = refl
+    by false side = rw (low, far) (beside (nat_lt line 16) side)
 
 -- ---- what is sealed
 
 answers_low : (plan : Plan) (h : History) (link : ℕ) (ds : List SealedPacket) → FitsPlan plan
     → v.Sealed ds ≡ due plan h (Access (ae.Answer link)) → is_hop_line link ≡ false
 unfolding due
-answers_low plan h link ds fits is = by (has_link plan link) refl is
+answers_low plan h link ds fits is =
+    let known = (first_means plan h (host_port link) _ (v.Sealed ds) refl is).known in
+    let most = fits.links_most in
+    grind (arith, nat_tests, most, known)
+
+-- a read that came over a hop has no T, and so its response has none
+came_untrusted : (plan : Plan) → FitsPlan plan → (h : History) (link : ℕ) (r : WaitingRead)
+    → QueuedAt plan h (device_port link) r → is_device_hop_end r.came.end ≡ true → r.came.trusted ≡ false
+came_untrusted plan fits h link r q there =
+    let is = was_queued plan h (device_port link) r q in
+    let end : q.end ≡ r.came.end = ap (λ (c : ReadArrival). c.end) q.at.came in
+    let trusted : q.at.packet.prefix.t ≡ r.came.trusted = ap (λ (c : ReadArrival). c.trusted) q.at.came in
+    let hop = hop_of_end q.end.side q.end.line (ap is_device_hop_end end ∙ there) in
+    let known = accepted_known plan q.older q.event q.end q.unit q.effects q.cause.0 in
+    let free = packet_free plan fits q.older q.cause.1 q.end q.unit hop known is.0 q.at.packet in
+    let same : effect_by plan (policy_at plan q.older) is.0 (port_of plan q.end) q.unit q.at.packet ≡ effect.Queued =
+    ap (λ (p : PortName). effect_by plan (policy_at plan q.older) is.0 p q.unit q.at.packet) q.at_port ∙ is.1 in
+    sym trusted
+    ∙ subst₂ (λ (p : PortName) (x : Effect). is_trusted_effect p.side x q.at.packet.prefix.t ≡ false) q.at_port same
+    free
   where
-    by : (b : Bool) → has_link plan link ≡ b → v.Sealed ds ≡ (if b
-        then answer_first plan h (sending_port plan (Access (ae.Answer link))) (waiting_reads plan h link)
-        (outgoing_completion plan h link) else v.Nothing) → is_hop_line link ≡ false
-    by true has is = let most = fits.links_most in grind (arith, nat_tests, most, has)
-    by false has is = absurd cc
+    hop_of_end : (side : Side) (line : ℕ) → is_device_hop_end (record { side = side; line = line }) ≡ true
+        → is_hop_line line ≡ true
+    hop_of_end Host line there = absurd cc
+    hop_of_end Device line there = grind (arith, nat_tests, there)
+
+response_untrusted : (plan : Plan) → FitsPlan plan → (h : History) (link : ℕ) (ds : List SealedPacket)
+    → CauseLaw plan ((Access (ae.Respond link), v.Sealed ds) ∷ h)
+    → AllByRecursion (λ (d : SealedPacket). is_device_hop_end d.port ≡ true → d.t ≡ false) ds
+response_untrusted plan fits h link ds cause =
+    let is = responded plan h link ds cause.0 in
+    let r = is.read in
+    let q = queued_at plan h cause.1 (device_port link) (reads_taken h (device_port link)) r is.oldest in
+    map_all {P = IsOf (response_sending r.came is.tlp)}
+    {Q = λ (d : SealedPacket). is_device_hop_end d.port ≡ true → d.t ≡ false}
+    (λ d of there. unless_sync d.sync d.t of.t_is
+    (came_untrusted plan fits h link r q (ap is_device_hop_end (sym of.port_is) ∙ there))) ds
+    (response_packets plan h link ds is)
+  where
+    unless_sync : (b t : Bool) {u : Bool} → t ≡ (if b then false else u) → u ≡ false → t ≡ false
+    unless_sync true t is off = is
+    unless_sync false t is off = is ∙ off
 
 forwards_hop : (plan : Plan) (h : History) (link : ℕ) (d : Direction) (ds : List SealedPacket)
     → v.Sealed ds ≡ due plan h (Forward link d) → has_hop plan link ≡ true
@@ -410,11 +509,11 @@ all_at P plan h port stream (d ∷ ds) p all =
 
 -- each packet is sealed at the end that the event names
 sealed_at : (plan : Plan) (h : History) (e : Event) (ds : List SealedPacket) (P : PortName → Type 0)
-    → v.Sealed ds ≡ due plan h e → P (sending_port plan e) → AllByRecursion (λ (d : SealedPacket). P d.port) ds
+    → v.Sealed ds ≡ due plan h e → P (sending_port plan h e) → AllByRecursion (λ (d : SealedPacket). P d.port) ds
 sealed_at plan h e ds P is p =
     let s = sealing_is plan h e ds is in
     all_at P plan h s.sending.port s.sending.stream ds (subst P (sym s.at_port) p)
-    (all_live plan h (sending_port plan e) (sent_bytes plan h e) ds s)
+    (all_live plan h (sending_port plan h e) (sent_bytes plan h e) ds s)
 
 unless_end : (P : SealedPacket → Type 0) (ds : List SealedPacket)
     → AllByRecursion (λ (d : SealedPacket). is_device_hop_end d.port ≡ false) ds
@@ -485,6 +584,7 @@ trusts_no_hop : (plan : Plan) → FitsPlan plan → (h : History) (e : Event) (w
 trusts_no_hop plan fits h (Access (ae.Answer link)) (v.Sealed ds) cause =
     sealed_at plan h (Access (ae.Answer link)) ds (λ q. is_hop_line q.line ≡ false) cause.0
     (answers_low plan h link ds fits cause.0)
+trusts_no_hop plan fits h (Access (ae.Respond link)) (v.Sealed ds) cause = response_untrusted plan fits h link ds cause
 trusts_no_hop plan fits h (Send port bytes more trusted) (v.Sealed ds) cause =
     all_untrusted plan fits h bytes trusted ds
     (interface_cause plan ((Send port bytes more trusted, v.Sealed ds) ∷ h) cause).0
@@ -496,9 +596,10 @@ trusts_no_hop plan fits h e (v.Sealed ds) cause =
 trusts_no_hop plan fits h e (v.Accepted port unit effects) cause = λ hop n p x stands is.
     let policy = policy_at plan h in
     let are = effects_there plan h e port unit effects cause.0 in
-    let one = effect_at plan policy (policy.waiting (port_of plan port).line) (port_of plan port) unit
+    let one = effect_at plan policy (policy.waiting (port_of plan port)) (port_of plan port) unit
     (unit_ended plan h e port unit) n p x (ap (λ (xs : List Effect). slice_get xs n) (sym are) ∙ is) stands in
-    subst (λ (y : Effect). IsFree y p.prefix.t) one.1
+    subst₂ (λ (side : Side) (y : Effect). is_trusted_effect side y p.prefix.t ≡ false)
+    (hop_side plan fits port.side port.line hop) one.1
     (packet_free plan fits h cause.1 port unit hop (accepted_known plan h e port unit effects cause.0) one.0 p)
 trusts_no_hop plan fits h e w cause = tt
 

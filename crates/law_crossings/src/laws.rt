@@ -2,8 +2,8 @@
 
 ghost use Rattle.law_crossings.specs.Statements.{HopOrderLawHolds, HopPostedLawHolds, HopTrustLawHolds};
 
-/// No packet that comes on a segment of a hop is applied to trusted memory or queued, or stored with T, and no answer
-/// is sealed there. At the end of a hop at a device no packet with T is sealed.
+/// No packet that comes on a segment of a hop is applied to trusted memory or queued for its host, or stored or queued
+/// with T by a device, and no answer is sealed there. At the end of a hop at a device no packet with T is sealed.
 pub fn hop_trust_law()
     ensures { HopTrustLawHolds }
 {}

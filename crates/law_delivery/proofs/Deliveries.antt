@@ -218,7 +218,7 @@ all_opened plan facts ((e, Sealed ds) ∷ h) cause s j =
     from.class (ahead_of_packet plan (sealed_packets plan h) (base h)) (sent_bytes plan h e) is.tlp is.reads is.class s
     j
     ds (sealed_packets plan h)
-    (all_of_sealing plan facts h cause.1 (sending_port plan e) (sent_bytes plan h e) ds is) (tlps_sent plan h s j)
+    (all_of_sealing plan facts h cause.1 (sending_port plan h e) (sent_bytes plan h e) ds is) (tlps_sent plan h s j)
     (all_opened plan facts h cause.1 s j)
 all_opened plan facts (_ ∷ h) cause s j = all_opened plan facts h cause.1 s j
 

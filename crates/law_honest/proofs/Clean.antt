@@ -146,7 +146,7 @@ module _
     (plan : Plan) (h : History) (e : Event) (ds : List SealedPacket)
     (cause : CauseLaw plan ((e, Sealed ds) ∷ h)) (port : PortName) (stream : ℕ) (set : Bool) (draw : ℕ)
     (up : op_of h port.line stream ≡ Up set draw) where
-  abbrev is : IsSealing plan h (sending_port plan e) (sent_bytes plan h e) ds
+  abbrev is : IsSealing plan h (sending_port plan h e) (sent_bytes plan h e) ds
   is = sealing_is plan h e ds cause.0
 
   abbrev j : ℕ
@@ -184,7 +184,7 @@ module _
     | inr off ↦
         none_out port stream j ds (sealed_packets plan h)
         (off_here plan h is.sending.port port is.sending.stream stream ds
-        (all_live plan h (sending_port plan e) (sent_bytes plan h e) ds is) off)
+        (all_live plan h (sending_port plan h e) (sent_bytes plan h e) ds is) off)
   ]
 
 -- one more pair

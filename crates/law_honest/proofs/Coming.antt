@@ -1,5 +1,5 @@
 -- What comes to a port on a stream, and what it makes of what was accepted and is held there.
-use Rattle.law_sealing.proofs.Terms.{◌≡◌, ℕ, ◌+◌, ◌<◌, ◌==◌, ◌&&◌, ◌∷◌, ◌++◌, Bool, true}
+use Rattle.law_sealing.proofs.Terms.{◌≡◌, ℕ, ◌+◌, ◌==◌, ◌&&◌, ◌∷◌, ◌++◌, Bool, true}
 use Rattle.law_sealing.proofs.Terms.{false, Option, Some, None, Result, Ok, Err, List, [], refl, ap, sym, ◌∙◌, subst}
 use Rattle.law_sealing.proofs.Terms.{arith, inl, inr, cases_Bool, and_parts, eqb-true, nat_tests, append_assoc}
 use Rattle.law_sealing.proofs.Terms.{append-nil, if◌then◌else◌, Plan, History, Event, Verdict, Held, Accepted, Fail}
@@ -7,7 +7,7 @@ use Rattle.law_sealing.proofs.Terms.{PortName, SubStream, UnitName, Effect, Pack
 use Rattle.law_sealing.proofs.Terms.{is_same, is_same_port, same_port, same_stream, eqb-refl, received_in}
 use Rattle.law_sealing.proofs.Terms.{is_received_under, arrived_packet, packets_in_hold, pending_packets, units_got}
 use Rattle.law_sealing.proofs.Terms.{accepted_packets, arrival_of_event, ArrivedBytes, CauseLaw, due, Came, accepted_by}
-use Rattle.law_sealing.proofs.Terms.{held_by, Passed, numbered}
+use Rattle.law_sealing.proofs.Terms.{held_by, Passed}
 use Rattle.law_sealing.proofs.Terms.{received_direction}
 use Rattle.ide_prefix.specs.Reading.{CutValue, PlainTlp}
 use Rattle.ide_prefix.specs.declared.fault.PacketFault.{PacketFault}
@@ -16,6 +16,7 @@ use Rattle.spec_links.specs.History.{fails_at}
 use Rattle.spec_links.proofs.Tests.{is_same_port-refl, same_receiver}
 unfoldable use Rattle.law_honest.specs.Honest.{packet_coming}
 use Rattle.law_honest.specs.Honest.{packet_of_stream, packet_for}
+use Rattle.law_key_facts.proofs.Beyond.{none_beyond}
 use Rattle.law_verdicts.proofs.Failed.{failed_by}
 
 -- ---- a packet comes
@@ -72,33 +73,6 @@ pub came_is_coming : (plan : Plan) (h : History) (e : Event) (port : PortName) (
 unfolding packet_coming
 came_is_coming plan h e port stream p came of_stream =
     rw (came.arrival, is_same_port-refl port, came.cut, of_stream, eqb-refl stream) refl
-
--- ---- no packet is held for a later unit than the next
-
-pub none_later : (plan : Plan) (h : History) → CauseLaw plan h → (s : SubStream) (j n : ℕ) → units_got h s j + 1 < n
-    → packets_in_hold plan h s j n ≡ []
-unfolding packets_in_hold units_got
-none_later plan [] cause s j n less = refl
-none_later plan ((e, Held port unit) ∷ h) cause s j n less =
-    let by = held_by plan h e port unit cause.0 in
-    let number = numbered plan h port by.packet unit by.passed in
-    elim (cases_Bool (is_received_under s j port unit && (unit.unit == n))) [
-      | inl here ↦
-          let parts = and_parts (is_received_under s j port unit) (unit.unit == n) here in
-          let names = and_parts (is_same (received_in port unit) s) (unit.draw == j) parts.0 in
-          let same = same_stream (received_in port unit) s names.0 in
-          let count : unit.unit ≡ units_got h s j + 1 =
-          number ∙ (λ i. units_got h (same i) (eqb-true unit.draw j names.1 i) + 1) in
-          absurd (omega (arith, count, eqb-true unit.unit n parts.1, less))
-      | inr other ↦ rw other (none_later plan h cause.1 s j n less)
-    ]
-none_later plan ((e, Accepted port unit effects) ∷ h) cause s j n less = none_later plan h cause.1 s j n
-    (counted (is_received_under s j port unit) (units_got h s j) less)
-  where
-    counted : (b : Bool) (k : ℕ) → (if b then k + 1 else k) + 1 < n → k + 1 < n
-    counted true k less = omega (arith, less)
-    counted false k less = less
-none_later plan (_ ∷ h) cause s j n less = none_later plan h cause.1 s j n less
 
 -- ---- one more pair
 
@@ -163,7 +137,7 @@ accepted_joins plan h cause e q unit effects s j p is t i = by (is_same s t && (
     by true same =
         let test = tests plan h e q unit s j p is t i ∙ same in
         let count = counts plan h e q unit s j p is t i same in
-        rw (test, count, is.packet, none_later plan h cause t i (units_got h t i + 1 + 1) (omega arith))
+        rw (test, count, is.packet, none_beyond plan h cause t i (units_got h t i + 1 + 1) (omega arith))
         (append-nil _ ∙ sym (append_assoc (accepted_packets plan h t i) (pending_packets plan h t i) (p ∷ [])))
     by false other =
         let test = tests plan h e q unit s j p is t i ∙ other in

@@ -1,5 +1,5 @@
 -- What pairs keep of the keys of a stream that is up.
-use Rattle.law_sealing.proofs.Terms.{◌≡◌, ℕ, ◌≤◌, ◌==◌, ◌&&◌, ◌∷◌, ◌++◌, ◌⊎◌, Bool, true, false, Option, Some}
+use Rattle.law_sealing.proofs.Terms.{◌≡◌, ℕ, ◌≤◌, ◌==◌, ◌&&◌, ◌∷◌, ◌++◌, Bool, true, false, Option, Some}
 use Rattle.law_sealing.proofs.Terms.{None, List, [], refl, ap, sym, ◌∙◌, arith, inl, inr, cases_eq}
 use Rattle.law_sealing.proofs.Terms.{not, if◌then◌else◌, nat_tests, eqb-refl, Plan, History, Event}
 use Rattle.law_sealing.proofs.Terms.{Verdict, Sealed, Accepted, SealedPacket, UnitName, Effect, PortName, SubStream}
@@ -18,9 +18,9 @@ use Rattle.spec_links.specs.KeyFacts.{is_steady}
 use Rattle.spec_keys.specs.Operations.{Work}
 use Rattle.std.specs.Prelude.{is_none, is_some}
 unfoldable use Rattle.spec_keys.specs.Due.{key_due}
-use Rattle.spec_keys.specs.Due.{PortView, ports_at, finished_verdict, may_refresh, unless_open}
-use Rattle.spec_keys.specs.Terms.{Operation, Host, StreamStatus}
-use Rattle.spec_keys.proofs.Performs.{is_cut, performed_is}
+use Rattle.spec_keys.specs.Due.{ports_at}
+use Rattle.spec_keys.specs.Terms.{Operation, Host}
+use Rattle.spec_keys.proofs.Performs.{performed_is}
 use Rattle.spec_links.specs.History.{lesser, place_in_sub_stream, after_ends, ended_keys, ends_port_unit, accepted_keys}
 unfoldable use Rattle.spec_links.specs.KeyFacts.{operates}
 use Rattle.spec_links.specs.Plan.{key_plan}
@@ -30,6 +30,7 @@ use Rattle.script_events.specs.declared.event.Event.TheVariants as event
 use Rattle.event_verdicts.specs.declared.verdict.Operation.TheVariants as op
 use Rattle.event_verdicts.specs.declared.verdict.Verdict.TheVariants as v
 use Rattle.spec_links.proofs.Tests.{eqb-sym, in_not_out}
+use Rattle.law_keys.proofs.Ends.{refreshed_as}
 use Rattle.law_keys.proofs.States.{keys_follow_operations}
 use Rattle.law_key_facts.proofs.AllFacts.{facts as key_facts}
 use Rattle.law_key_facts.proofs.Given.{key_cause}
@@ -241,20 +242,13 @@ sent_before plan h e w cause q s still k i on =
 
 -- ---- a whole refresh
 
-refreshed_as : (plan : KeyPlan) (has : Bool) (q : StreamStage) (next : ℕ) (ports : PortView) (host : StreamStatus)
-    (line stream : ℕ) (x : Verdict) (l t j : ℕ)
-    → (x ≡ finished_verdict line stream (work_of op.Refresh q next)) ⊎ (is_cut x ≡ true) → v.Refreshed l t j
-    ≡ (if has then may_refresh plan line next q host (unless_open ports line stream (work_of op.Refresh q next).set) x
-    else v.Nothing) → l ≡ line
-refreshed_as plan has q next ports host line stream x l t j performs is = grind arith
-
 -- the verdict names the line of the event
 names_line : (plan : KeyPlan) (h : History) (line stream : ℕ) (loss : Option Loss) (l t j : ℕ)
     → v.Refreshed l t j ≡ key_due plan h (event.Refresh line stream loss) (v.Refreshed l t j) → l ≡ line
 unfolding key_due
 names_line plan h line stream loss l t j is =
-    refreshed_as plan _ (op_of h line stream) (draws h) (ports_at h) (history_status h Host line stream) line stream _ l
-    t j (performed_is (ports_at h) line stream loss (work_of op.Refresh (op_of h line stream) (draws h))) is
+    (refreshed_as _ plan (op_of h line stream) (draws h) (ports_at h) (history_status h Host line stream) line stream _ l
+    t j (performed_is (ports_at h) line stream loss (work_of op.Refresh (op_of h line stream) (draws h))) is).0
 
 ends_up : (line : ℕ) (set : Bool) (j next : ℕ)
     → op_after_reach (is_hosted line) (work_of op.Refresh (Up set j) next) (whole line op.Refresh) ≡ Up (not set) next

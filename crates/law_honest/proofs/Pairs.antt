@@ -129,7 +129,7 @@ module _
       (λ d live p passes. keep (Sealed ds) cause still d.sub d.draw
       (sealed_received plan h port stream from n stands sealing.sending.port sealing.sending.stream d live p passes)
       (λ r unit effects is here. absurd cc))
-      (all_live plan h (sending_port plan e) (sent_bytes plan h e) ds sealing))
+      (all_live plan h (sending_port plan h e) (sent_bytes plan h e) ds sealing))
       (λ place x up at. keep (Sealed ds) cause still x.0.sub x.0.draw (stands.later place x (omega (arith, le, up)) at)
       (λ r unit effects is here. absurd cc))
   later_after w cause still k le less =

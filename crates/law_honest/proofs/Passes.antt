@@ -36,7 +36,7 @@ known plan facts ((e, Sealed ds) ∷ h) cause i x is =
     each_more (IsKnown plan) plan (ahead_of_packet plan (sealed_packets plan h) (base h)) (sent_bytes plan h e) ds
     (sealed_packets plan h)
     (live_all (IsKnown plan) plan h port stream ds one
-    (all_live plan h (sending_port plan e) (sent_bytes plan h e) ds sealing))
+    (all_live plan h (sending_port plan h e) (sent_bytes plan h e) ds sealing))
     (known plan facts h cause.1) i x is
 known plan facts ((e, w) ∷ h) cause i x is = known plan facts h cause.1 i x is
 

@@ -209,7 +209,7 @@ flags_sent plan facts ((e, Sealed ds) ∷ h) cause s j =
     (from_at plan h from.port from.stream)
     from.class (ahead_of_packet plan (sealed_packets plan h) (base h)) (sent_bytes plan h e) is.tlp is.reads is.class s
     j ds (sealed_packets plan h)
-    (all_of_sealing plan facts h cause.1 (sending_port plan e) (sent_bytes plan h e) ds is) (flags
+    (all_of_sealing plan facts h cause.1 (sending_port plan h e) (sent_bytes plan h e) ds is) (flags
     (sent_packets plan h s j)) refl))
 flags_sent plan facts (_ ∷ h) cause s j = flags_sent plan facts h cause.1 s j
 

@@ -149,7 +149,7 @@ unfolding hop_sent
 none_sent_more plan h e ds cause s j below before =
     let is = sealing_is plan h e ds cause.0 in
     let none = carried_none s j ds (lives_below plan h is.sending.port is.sending.stream j ds below
-    (all_live plan h (sending_port plan e) (sent_bytes plan h e) ds is)) in
+    (all_live plan h (sending_port plan h e) (sent_bytes plan h e) ds is)) in
     (λ i. before i ++ map (sealed_tlp (sent_bytes plan h e)) (none i))
 
 pub none_sealed : (plan : Plan) (h : History) → CauseLaw plan h → (s : SubStream) (j : ℕ) → draws h ≤ j
@@ -372,7 +372,7 @@ sealed_is plan facts ((e, Sealed ds) ∷ h) cause link p stream u j segment lone
     let before = sealed_is plan facts h cause.1 link p stream u j segment lone older in
     let is = sealing_is plan h e ds cause.0 in
     let all = all_known plan facts h cause.1 link p stream j segment lone older is.sending.port is.sending.stream ds
-    (all_live plan h (sending_port plan e) (sent_bytes plan h e) ds is) in
+    (all_live plan h (sending_port plan h e) (sent_bytes plan h e) ds is) in
     let new = sealed_same p stream u j (sent_bytes plan h e) ds all in
     in_sub-append u (tlps_since_reset plan h link p) _ ∙ (λ i. before i ++ new i)
 sealed_is plan facts ((Reset k ends, v.Reset l) ∷ h) cause link p stream u j segment lone only =

@@ -16,7 +16,7 @@ use Rattle.tlp_layout.specs.declared.fault.TlpFault.{TlpFault}
 use Rattle.std.specs.Option.{option_map_or}
 use Rattle.std.proofs.lemmas.List.Elements.{filter-append}
 use Rattle.ide_types.specs.Sub.{direction_number, is_same_sub}
-use Rattle.ide_types.specs.Ports.{host_port}
+use Rattle.ide_types.specs.Ports.{host_port, device_port}
 use Rattle.ide_types.specs.declared.port.Side.{Side}
 use Rattle.ide_types.specs.declared.port.Side.TheVariants.{Host, Device}
 use Rattle.ide_types.specs.declared.direction.Direction.{Direction}
@@ -29,13 +29,14 @@ use Rattle.spec_stream.specs.Sending.{first_that_holds, refusals, sealed_with_sy
 use Rattle.script_events.specs.declared.event.Event.TheVariants.{Access, Forward}
 use Rattle.script_events.specs.declared.event.AccessEvent.TheVariants as ae
 use Rattle.event_verdicts.specs.declared.verdict.Verdict.TheVariants as v
-use Rattle.spec_links.specs.Terms.{Reset}
+use Rattle.spec_links.specs.Terms.{Reset, WaitingRead}
 use Rattle.spec_links.specs.Plan.{has_port, streams_of}
 use Rattle.spec_links.specs.Ports.{at_switch, goes_to_hop, hop_lists}
 unfoldable use Rattle.spec_links.specs.Ports.{sealing_end}
 use Rattle.spec_links.specs.Due.{send_due, bytes_due, forward_out}
 unfoldable use Rattle.spec_links.specs.Due.{t_sealed}
 use Rattle.spec_links.specs.Memory.{accepted_tlps, unit_ended}
+use Rattle.spec_links.specs.Sent.{reads_taken}
 unfoldable use Rattle.spec_links.specs.Sent.{bytes_by}
 use Rattle.spec_links.specs.Hops.{HopTlp, has_hop, entering_end, leaving_end, clears_hop, is_forward_on}
 unfoldable use Rattle.spec_links.specs.Hops.{accepted_tlps_in_list, forwarded_count}
@@ -45,6 +46,7 @@ use Rattle.law_reads.proofs.Oldest.{first_means}
 use Rattle.law_reads.proofs.Forwarded.{Forwarded, forward_means, as_forward}
 use Rattle.law_reads.proofs.Taken.{here_after, taken_accepted, tlps_of}
 use Rattle.law_hops.proofs.TlpsRead.{taken_read, read_at}
+use Rattle.law_hops.proofs.Queued.{came_at, queued_at}
 
 -- ---- what a sealed send tells: its packets, with T
 
@@ -183,13 +185,13 @@ none_carried plan h port stream end (x ∷ xs) other all =
     grind (arith, there, later)
 
 sealed_nothing : (plan : Plan) (h : History) (e : Event) (end : PortName) (ds : List SealedPacket) → v.Sealed ds
-    ≡ due plan h e → is_same_port (sending_port plan e) end ≡ false → filter (is_tlp_of_sender end) ds ≡ []
+    ≡ due plan h e → is_same_port (sending_port plan h e) end ≡ false → filter (is_tlp_of_sender end) ds ≡ []
 sealed_nothing plan h e end ds is other =
     let seals = sealing_is plan h e ds is in
     let there : is_same_port seals.sending.port end ≡ false = ap (λ (p : PortName). is_same_port p end) seals.at_port
     ∙ other in
     none_carried plan h seals.sending.port seals.sending.stream end ds there
-    (all_live plan h (sending_port plan e) (sent_bytes plan h e) ds seals)
+    (all_live plan h (sending_port plan h e) (sent_bytes plan h e) ds seals)
 
 apart : (plan : Plan) (p q : PortName) → at_switch plan p ≡ false → at_switch plan q ≡ true → is_same_port p q ≡ false
 apart plan p q here there = by (is_same_port p q) refl
@@ -241,10 +243,24 @@ answer_apart : (plan : Plan) → FitsPlan plan → (h : History) (link : ℕ) (d
     → v.Sealed ds ≡ due plan h (Access (ae.Answer link)) → at_switch plan (host_port link) ≡ false
 unfolding due
 answer_apart plan fits h link ds is =
-    let first = first_means plan h link (v.Sealed ds) refl is in
+    let first = first_means plan h (host_port link) _ (v.Sealed ds) refl is in
     let less : link < length plan.links = grind (arith, nat_tests, first.known) in
     let most = fits.links_most in
     grind (arith, nat_tests, less, most)
+
+-- a response's end is that of its read
+respond_apart : (plan : Plan) (h : History) → CauseLaw plan h → (link : ℕ) (ds : List SealedPacket)
+    → v.Sealed ds ≡ due plan h (Access (ae.Respond link))
+    → at_switch plan (sending_port plan h (Access (ae.Respond link))) ≡ false
+unfolding due
+respond_apart plan h cause link ds is =
+    let port = device_port link in
+    let first = first_means plan h port _ (v.Sealed ds) refl is in
+    let came = came_at plan h port first.read
+    (queued_at plan h cause port (reads_taken h port) first.read first.oldest) in
+    ap (λ (o : Option WaitingRead). at_switch plan (option_map_or (λ (r : WaitingRead). r.came.end) o port))
+    first.oldest
+    ∙ came.apart
 
 other_way : (l link : ℕ) (way d : Direction) → ((l == link) && (direction_number way == direction_number d)) ≡ false
     → is_same_port (leaving_end l way) (leaving_end link d) ≡ false
@@ -253,17 +269,21 @@ other_way l link Downstream Upstream other = refl
 other_way l link Upstream Downstream other = refl
 other_way l link Upstream Upstream other = grind (arith, nat_tests)
 
-elsewhere : (plan : Plan) → FitsPlan plan → (h : History) (e : Event) (ds : List SealedPacket) (link : ℕ)
-    (d : Direction) → v.Sealed ds ≡ due plan h e → has_hop plan link ≡ true → is_forward_on link d e ≡ false
-    → is_same_port (sending_port plan e) (leaving_end link d) ≡ false
-elsewhere plan fits h (Send port bytes more trusted) ds link d is known other =
+elsewhere : (plan : Plan) → FitsPlan plan → (h : History) → CauseLaw plan h → (e : Event) (ds : List SealedPacket)
+    (link : ℕ) (d : Direction) → v.Sealed ds ≡ due plan h e → has_hop plan link ≡ true
+    → is_forward_on link d e ≡ false → is_same_port (sending_port plan h e) (leaving_end link d) ≡ false
+elsewhere plan fits h cause (Send port bytes more trusted) ds link d is known other =
     apart plan (sealing_end plan port bytes) (leaving_end link d)
     (send_apart plan fits port bytes (may_send_apart plan h port bytes more trusted ds is))
     (leaves_switch plan fits link d known)
-elsewhere plan fits h (Access (ae.Answer l)) ds link d is known other = apart plan (host_port l) (leaving_end link d)
-    (answer_apart plan fits h l ds is) (leaves_switch plan fits link d known)
-elsewhere plan fits h (Forward l way) ds link d is known other = other_way l link way d other
-elsewhere plan fits h e ds link d is known other = let seals = sealed_by_sealing plan h e ds is in absurd cc
+elsewhere plan fits h cause (Access (ae.Answer l)) ds link d is known other =
+    apart plan (host_port l) (leaving_end link d) (answer_apart plan fits h l ds is)
+    (leaves_switch plan fits link d known)
+elsewhere plan fits h cause (Access (ae.Respond l)) ds link d is known other =
+    apart plan (sending_port plan h (Access (ae.Respond l))) (leaving_end link d) (respond_apart plan h cause l ds is)
+    (leaves_switch plan fits link d known)
+elsewhere plan fits h cause (Forward l way) ds link d is known other = other_way l link way d other
+elsewhere plan fits h cause e ds link d is known other = let seals = sealed_by_sealing plan h e ds is in absurd cc
 
 -- ---- both lists
 
@@ -317,7 +337,8 @@ sealed_forwards plan fits h e ds link d cause known before = by (is_forward_on l
 
     other : is_forward_on link d e ≡ false → Both false
     other off =
-        let none = sealed_nothing plan h e end ds cause.0 (elsewhere plan fits h e ds link d cause.0 known off) in
+        let none = sealed_nothing plan h e end ds cause.0 (elsewhere plan fits h cause.1 e ds link d cause.0 known off)
+        in
         let kept = grown plan h link d _ [] before (same ∙ sym (append-nil (accepted_tlps plan h link
         (entering_end link d)))) in (
           ap (λ (es : List SealedPacket). tlps_since_reset plan h link end ++ map (sealed_tlp

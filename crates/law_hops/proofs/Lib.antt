@@ -1,4 +1,6 @@
 pub mod TlpsRead
+pub mod Queued
+pub mod Claimed
 pub mod Forwards
 pub mod Since
 pub mod Carried

@@ -77,7 +77,7 @@ bodies : (ps : List Packet) → AllByRecursion FitsPacket ps → All IsByte (enc
 bodies [] fits = All-nil IsByte
 bodies (p ∷ ps) fits = All-append IsByte p.body (encrypted_bytes ps) fits.0.body (bodies ps fits.1)
 
-plain_bytes : (plan : Plan) (port : PortName) (unit : UnitName) (ps : List Packet) → AllByRecursion FitsPacket ps
+pub plain_bytes : (plan : Plan) (port : PortName) (unit : UnitName) (ps : List Packet) → AllByRecursion FitsPacket ps
     → All IsByte (plain_of plan port unit ps)
 unfolding open_of
 plain_bytes plan port unit ps fits = masked-bytes _ _ 0 (encrypted_bytes ps) (bodies ps fits)
@@ -87,7 +87,7 @@ pub snoc_fits : (ps : List Packet) (p : Packet) → AllByRecursion FitsPacket ps
 snoc_fits [] p fits last = (last, tt)
 snoc_fits (q ∷ ps) p fits last = (fits.0, snoc_fits ps p fits.1 last)
 
-unit_fits : (plan : Plan) (h : History) (e : Event) (port : PortName) (unit : UnitName) (effects : List Effect)
+pub unit_fits : (plan : Plan) (h : History) (e : Event) (port : PortName) (unit : UnitName) (effects : List Effect)
     → CauseLaw plan ((e, Accepted port unit effects) ∷ h) → AllByRecursion FitsPacket (unit_ended plan h e port unit)
 unit_fits plan h e port unit effects cause =
     let by = accepted_by plan h e port unit effects cause.0 in

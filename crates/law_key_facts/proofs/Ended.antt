@@ -380,7 +380,7 @@ still_above plan h e ds law port stream u i host is none place x at =
     sealing.sending.port sealing.sending.stream ds
     (λ d live here. absurd
     (none_seals plan h law.1 port stream u host is sealing.sending.port sealing.sending.stream d live here))
-    (all_live plan h (sending_port plan e) (sent_bytes plan h e) ds sealing))
+    (all_live plan h (sending_port plan h e) (sent_bytes plan h e) ds sealing))
     none place x at
 
 excuse_sent : (plan : Plan) (h : History) (e : Event) (ds : List SealedPacket) → CauseLaw plan ((e, v.Sealed ds) ∷ h)
@@ -435,8 +435,8 @@ opens_sent plan h e ds law port stream u i opens =
     let is = sealing_is plan h e ds law.0 in
     let done = all_open (Excuse plan h port stream u i) i plan h is.sending.port is.sending.stream
     (ahead_of_packet plan (sealed_packets plan h) (base h)) (sent_bytes plan h e)
-    port stream u ds (sealed_packets plan h) (all_live plan h (sending_port plan e) (sent_bytes plan h e) ds is)
-    (all_apart plan h (sending_port plan e) (sent_bytes plan h e) ds is) opens in
+    port stream u ds (sealed_packets plan h) (all_live plan h (sending_port plan h e) (sent_bytes plan h e) ds is)
+    (all_apart plan h (sending_port plan h e) (sent_bytes plan h e) ds is) opens in
     let keys = sealed plan h e ds law port s in
     elim done [
       | inl none ↦ inl none

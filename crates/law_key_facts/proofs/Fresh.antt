@@ -138,7 +138,7 @@ sent_before plan h e (Sealed ds) law port stream u k j on waiting =
     plan (ahead_of_packet plan xs (base h)) (sent_bytes plan h e) ds xs
     (live_all _ plan h is.sending.port is.sending.stream ds
     (none_under plan h law.1 port stream u k j on waiting is.sending.port is.sending.stream)
-    (all_live plan h (sending_port plan e) (sent_bytes plan h e) ds is))
+    (all_live plan h (sending_port plan h e) (sent_bytes plan h e) ds is))
 sent_before plan h e w law port stream u k j on waiting = refl
 
 abbrev IsFresh : Plan → History → Event → Verdict → SubStream → PortName → KeyName → Type 0

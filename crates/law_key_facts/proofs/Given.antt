@@ -62,8 +62,8 @@ pub sealed_given : (plan : Plan) (h : History) (e : Event) (ds : List SealedPack
 sealed_given plan h e ds p due_is =
     let is = sealing_is plan h e ds due_is in
     all_uses plan h p is.sending.port is.sending.stream ds
-    (all_live plan h (sending_port plan e) (sent_bytes plan h e) ds is)
-    (all_apart plan h (sending_port plan e) (sent_bytes plan h e) ds is)
+    (all_live plan h (sending_port plan h e) (sent_bytes plan h e) ds is)
+    (all_apart plan h (sending_port plan h e) (sent_bytes plan h e) ds is)
 
 -- ---- what is accepted
 

@@ -9,4 +9,5 @@ pub mod SealedKeys
 pub mod SealedOrder
 pub mod Fresh
 pub mod Ended
+pub mod Beyond
 pub mod Draws

@@ -77,7 +77,7 @@ all_owned plan ((e, Sealed ds) ∷ h) law i x is =
     (each_more (IsOwned h) plan (ahead_of_packet plan (sealed_packets plan h) (base h)) (sent_bytes plan h e) ds
     (sealed_packets plan h)
     (live_all (IsOwned h) plan h port stream ds (live_owned plan h port stream)
-    (all_live plan h (sending_port plan e) (sent_bytes plan h e) ds sealing))
+    (all_live plan h (sending_port plan h e) (sent_bytes plan h e) ds sealing))
     (all_owned plan h law.1) i x is)
 all_owned plan ((e, w) ∷ h) law i x is = owned_later h e w x.0 (all_owned plan h law.1 i x is)
 

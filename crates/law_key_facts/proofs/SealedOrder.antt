@@ -132,7 +132,8 @@ rises plan [] law = λ s i k x y le at_x at_y in_x in_y. absurd cc
 rises plan ((e, v.Sealed ds) ∷ h) law =
     let is = sealing_is plan h e ds law.0 in
     with_rises plan h is.sending.port is.sending.stream (ahead_of_packet plan (sealed_packets plan h) (base h))
-    (sent_bytes plan h e) ds (sealed_packets plan h) (all_live plan h (sending_port plan e) (sent_bytes plan h e) ds is)
+    (sent_bytes plan h e) ds (sealed_packets plan h) (all_live plan h (sending_port plan h e) (sent_bytes plan h e) ds
+    is)
     (all_above plan h law.1) (rises plan h law.1)
 rises plan ((e, w) ∷ h) law = rises plan h law.1
 
@@ -228,7 +229,7 @@ none_stays plan ((e, v.Sealed ds) ∷ h) law s n le =
           (λ d live here up. absurd
           (let below = live_below plan h sealing.sending.port sealing.sending.stream d live in omega
           (arith, below, up, grown, le)))
-          (all_live plan h (sending_port plan e) (sent_bytes plan h e) ds sealing),
+          (all_live plan h (sending_port plan h e) (sent_bytes plan h e) ds sealing),
       none_stays plan h law.1 s n (omega (arith, grown, le)),
     )
 none_stays plan ((e, w) ∷ h) law s n le = let more = draws_more h e w in rest_stays plan s n h e w refl

@@ -43,8 +43,8 @@ use Rattle.std.specs.Int.{w64, to_be_bytes}
 use Rattle.byteorder.specs.Endian.{big_bytes, big_number}
 use Rattle.law_key_use.specs.Forgeries.{IsOfSealed, CipherNotForgedUnder, NoCipherForgeryUnder}
 use Rattle.law_key_use.specs.Forgeries.{ForgeriesAreOfCipher}
-use Rattle.law_sealing.proofs.Numbers.{direction_small, number_again}
-use Rattle.law_key_use.proofs.OneKey.{same_key, one_stream}
+use Rattle.law_sealing.proofs.Numbers.{direction_small, number_again, same_key}
+use Rattle.law_key_use.proofs.OneKey.{one_stream}
 use Rattle.law_key_use.proofs.Limits.{key_limits}
 use Rattle.law_delivery.proofs.Wholes.{tag_is}
 use Rattle.law_delivery.proofs.SameFronts.{no_front, due_off}

@@ -60,7 +60,7 @@ pub same_keys : (plan : Plan) (h : History) (e : Event) (ds ahead more : List Se
 unfolding moments
 same_keys plan h e ds ahead more d due_is is =
     let p = sender_of d in
-    let apart = all_apart plan h (sending_port plan e) (sent_bytes plan h e) ds (sealing_is plan h e ds due_is) in
+    let apart = all_apart plan h (sending_port plan h e) (sent_bytes plan h e) ds (sealing_is plan h e ds due_is) in
     let none = none_touch ahead more d (subst AllApart is apart) in
     ap (λ (ts : List Touch). keys true (touches_after (moments h p) ts))
     (sealing_touches (manager h).ops (draws h) e ahead p (sealed_by_sealing plan h e ds due_is) ∙ none)
@@ -76,7 +76,7 @@ sealed_least plan h e ds due_is ahead more d is =
     let sealing = sealing_is plan h e ds due_is in
     let port = sealing.sending.port in
     let stream = sealing.sending.stream in
-    let all = all_live plan h (sending_port plan e) (sent_bytes plan h e) ds sealing in
+    let all = all_live plan h (sending_port plan h e) (sent_bytes plan h e) ds sealing in
     let live = live_at plan h port stream ahead more d (subst (AllLive plan h port stream) is all) in
     subst (λ (ks : Keys). (on_in (key_in ks d.k) ≡ Some d.draw)
     × ((other : Bool) (i : ℕ) → on_in (key_in ks other) ≡ Some i → d.draw ≤ i))

@@ -1,9 +1,7 @@
--- Equal bytes of keys stand at one place of the pool, so they are of one draw, direction and sub-stream; and a draw is
--- on one stream.
-use Rattle.law_sealing.proofs.Terms.{◌≡◌, ℕ, ◌+◌, ◌*◌, ◌<◌, length, slice_get}
-use Rattle.law_sealing.proofs.Terms.{Bool, Some, ap, sym, ◌∙◌, subst, arith, nat_tests}
-use Rattle.law_sealing.proofs.Terms.{sub_bits, Plan, SubStream, History, SealedPacket, Packet, CauseLaw}
-use Rattle.law_sealing.proofs.Terms.{sealed_packets, sub_stream_of, same_sub}
+-- Equal bytes of keys are of one draw, direction and sub-stream; and a draw is on one stream.
+use Rattle.law_sealing.proofs.Terms.{◌≡◌, ℕ, slice_get, Bool, Some, ap, sym, ◌∙◌, subst, arith}
+use Rattle.law_sealing.proofs.Terms.{Plan, SubStream, History, SealedPacket, Packet, CauseLaw}
+use Rattle.law_sealing.proofs.Terms.{sealed_packets, sub_stream_of}
 use Rattle.law_sealing.proofs.Drawn.{draws_within}
 use Rattle.law_key_facts.proofs.Given.{key_cause}
 use Rattle.law_key_facts.proofs.SealedKeys.{all_owned, below_draws}
@@ -11,34 +9,9 @@ use Rattle.spec_keys.specs.History.{manager}
 use Rattle.spec_keys.specs.Operations.{Begun}
 use Rattle.spec_keys.proofs.Owners.{Owner, owner}
 use Rattle.spec_links.specs.Plan.{key_plan}
-unfoldable use Rattle.spec_links.specs.Plan.{key_of}
 use Rattle.spec_links.specs.Numbers.{key_used}
 use Rattle.ide_types.specs.Fits.{FitsPlan}
-use Rattle.ide_prefix.proofs.Units.{sub_small}
-use Rattle.std.specs.Prelude.{◌/◌}
-use Rattle.law_sealing.proofs.Numbers.{one_place, direction_small, one_begun}
-
--- two draws with their sub-streams have one key of the pool
-pub record SameKey (i j : ℕ) (s t : SubStream) : Type 0 where
-  pub draw : i ≡ j
-  pub direction : s.direction ≡ t.direction
-  pub sub : s.sub ≡ t.sub
-
-pub same_key : (plan : Plan) → FitsPlan plan → (i j : ℕ) (s t : SubStream) → i < length plan.pool / 6
-    → j < length plan.pool / 6 → s.direction < 2 → t.direction < 2 → key_of plan i s ≡ key_of plan j t → SameKey i j s t
-unfolding key_of
-same_key plan fits i j s t i_less j_less s_less t_less keys =
-    let s_sub = sub_small s.sub in
-    let t_sub = sub_small t.sub in
-    let place = one_place plan.pool (6 * i + 3 * s.direction + sub_bits s.sub)
-    (6 * j + 3 * t.direction + sub_bits t.sub) fits.keys_differ (omega (arith, i_less, s_less, s_sub))
-    (omega (arith, j_less, t_less, t_sub)) keys in
-    let bits : sub_bits s.sub ≡ sub_bits t.sub = omega (arith, place, s_less, t_less, s_sub, t_sub) in
-    record {
-      draw = omega (arith, place, s_less, t_less, s_sub, t_sub);
-      direction = omega (arith, place, s_less, t_less, s_sub, t_sub);
-      sub = same_sub s.sub t.sub (grind (arith, nat_tests));
-    }
+use Rattle.law_sealing.proofs.Numbers.{SameKey, same_key, direction_small, one_begun}
 
 -- ---- whose a draw is
 

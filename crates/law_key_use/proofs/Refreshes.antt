@@ -87,7 +87,7 @@ same_sent : (plan : Plan) (h : History) (e : Event) (ds ahead more : List Sealed
 unfolding sealed_packets
 same_sent plan h e ds ahead more d j due_is is =
     let s = sub_stream_of d in
-    let apart = all_apart plan h (sending_port plan e) (sent_bytes plan h e) ds (sealing_is plan h e ds due_is) in
+    let apart = all_apart plan h (sending_port plan h e) (sent_bytes plan h e) ds (sealing_is plan h e ds due_is) in
     left_alone (λ xs. sub_stream_packets xs s j) (λ c. is_same (sub_stream_of c) s ≡ false)
     (λ xs c q off. sent-same xs (c, q) s j off) plan (ahead_of_packet plan (sealed_packets plan h) (base h))
     (sent_bytes plan h e) ahead (sealed_packets plan h) (all_other ahead (subst AllApart is apart))

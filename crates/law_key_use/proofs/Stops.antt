@@ -180,7 +180,7 @@ uses_none_taken : (plan : Plan) (h : History) (e : Event) (w : Verdict) → Caus
 uses_none_taken plan h e (v.Sealed ds) law =
     let is = sealing_is plan h e ds law.0 in
     all_may plan h law.1 is.sending.port is.sending.stream ds
-    (all_live plan h (sending_port plan e) (sent_bytes plan h e) ds is)
+    (all_live plan h (sending_port plan h e) (sent_bytes plan h e) ds is)
 uses_none_taken plan h e (v.Held port unit) law =
     unit_may plan h law.1 e port unit (uses_on plan h e (v.Held port unit) law.0)
 uses_none_taken plan h e (v.Accepted port unit effects) law =

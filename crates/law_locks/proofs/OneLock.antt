@@ -1,5 +1,5 @@
 -- What is admitted under one draw is admitted under one lock.
-use Rattle.std.proofs.Common.{◌≡◌, ◌⊎◌, ℕ, ◌≤◌, ◌==◌, ◌&&◌, zero, suc, Bool, true, false, List, [], ◌∷◌, ◌++◌}
+use Rattle.std.proofs.Common.{◌≡◌, ◌⊎◌, ℕ, ◌≤◌, ◌==◌, ◌&&◌, not, Bool, true, false, List, [], ◌∷◌, ◌++◌}
 use Rattle.std.proofs.Common.{slice_get, Option, Some, None, Result, Ok, Err, refl, ap, sym, subst, ◌∙◌, inl, inr}
 use Rattle.std.proofs.Common.{arith, append_assoc}
 use Rattle.std.proofs.lemmas.Bool.Decides.{nat_tests}
@@ -7,7 +7,6 @@ use Rattle.std.specs.Prelude.{if◌then◌else◌, is_some}
 use Rattle.spec_links.proofs.Terms.{Plan, History, Event, Accepted, UnitName, Effect, Packet, PortName, CauseLaw}
 use Rattle.spec_links.proofs.Terms.{received_in}
 use Rattle.spec_links.specs.Terms.{is_sync_packet}
-use Rattle.spec_links.proofs.Causes.{accepted_by, unit_that_ends}
 use Rattle.std.proofs.lemmas.Bool.{true≢false}
 use Rattle.std.specs.Option.{option_and_then, option_or}
 use Rattle.ide_types.specs.Sub.{sent_direction}
@@ -24,10 +23,6 @@ use Rattle.trusted_memory.specs.Admitted.{is_on_bound}
 use Rattle.trusted_memory.specs.declared.read.MemReadView.{MemReadView}
 use Rattle.trusted_memory.specs.Requests.{memory_read}
 use Rattle.trusted_memory.specs.Waiting.{full_cause, read_effect, effect_by_read, request_effect}
-use Rattle.guarded_memory.specs.declared.status.InterfaceStatus.{InterfaceStatus}
-use Rattle.guarded_memory.specs.declared.claims.Claim.{Claim}
-use Rattle.guarded_memory.specs.Claims.{claim_of}
-use Rattle.guarded_memory.specs.Causes.{mmio_cause, cause_effect, claim_effect, mmio_effect}
 use Rattle.spec_keys.specs.Keys.{Keyed, On, on_in}
 use Rattle.spec_keys.specs.Operations.{Begun}
 use Rattle.spec_keys.specs.History.{begun_of_draw, manager}
@@ -41,14 +36,15 @@ use Rattle.spec_interfaces.specs.Views.{view_at, floor_at, grant_at, granted_to,
 use Rattle.spec_interfaces.specs.Cause.{owner_id}
 use Rattle.spec_interfaces.proofs.Views.{views_hold}
 use Rattle.spec_links.specs.Plan.{key_plan}
-use Rattle.spec_links.specs.Ports.{at_switch, port_of}
+use Rattle.spec_links.specs.Ports.{at_switch, is_host_port, port_of}
 use Rattle.spec_links.specs.Admission.{switch_effect}
-use Rattle.spec_links.specs.Memory.{Policy, policy_at, unit_grant, requester_bound, host_effect, device_effect}
-use Rattle.spec_links.specs.Memory.{effect_by, effects_each, waiting_then, effects_of, unit_ended}
+use Rattle.spec_links.specs.Memory.{policy_at, unit_grant, requester_bound, host_effect, device_effect}
+use Rattle.spec_links.specs.Memory.{effect_by, unit_ended}
 use Rattle.law_key_facts.proofs.Given.{key_cause, accepted_on}
 use Rattle.law_key_facts.proofs.SealedKeys.{on_is_owned}
 use Rattle.law_memory.proofs.Causes.{interface_cause}
-use Rattle.law_memory.proofs.Found.{found_by_number}
+use Rattle.law_memory.proofs.Found.{cause_at, found_by_number}
+use Rattle.law_mmio.proofs.SameWrites.{effect_there}
 use Rattle.law_locks.specs.Runs.{is_admitted_effect, AdmittedAt, OneLockPerKey}
 use Rattle.law_locks.proofs.Runs.{one_lock}
 
@@ -87,44 +83,31 @@ request_not regions t g n head off = by (memory_read head) t
     by (Some r) true = read_not (grant_cause g.bound g.stream g.draw) (place_cause regions r.span) (full_cause n)
         (grant_some g.bound g.stream g.draw off)
 
-stored_not : (o : Option BlockCause) → is_admitted_effect (cause_effect o) ≡ false
-stored_not None = refl
-stored_not (Some c) = refl
-
-span_not : (xs : List InterfaceStatus) (t : Bool) (stream draw : ℕ) (o : Option Span)
-    → is_admitted_effect (mmio_effect xs t stream draw o) ≡ false
-span_not xs t stream draw None = refl
-span_not xs t stream draw (Some s) = by (claim_of xs s)
-  where
-    by : (o : Option Claim) → is_admitted_effect (claim_effect o s t stream draw) ≡ false
-    by None = refl
-    by (Some c) = stored_not (mmio_cause c.status c.range s t stream draw)
-
 -- the packet's requester is granted its stream and draw
 granted : (plan : Plan) (h : History) (n : ℕ) (port : PortName) (unit : UnitName) (p : Packet) (head : HeadView)
-    → read_head_of p.head ≡ Ok head → is_admitted_effect (effect_by plan (policy_at plan h) n port unit p) ≡ true
+    → is_host_port plan port ≡ true → read_head_of p.head ≡ Ok head
+    → is_admitted_effect (effect_by plan (policy_at plan h) n port unit p) ≡ true
     → is_on_bound unit.stream unit.draw (requester_bound (grant_at plan h) port head) ≡ true
-granted plan h n port unit p head reads is =
-    by (is_sync_packet p) (at_switch plan port) (sent_direction port.side == 0)
+granted plan h n port unit p head at_host reads is =
+    by (is_sync_packet p) (at_switch plan port) (sent_direction port.side == 0) at_host
     (is_on_bound unit.stream unit.draw (requester_bound (grant_at plan h) port head)) refl (read_head_of p.head) reads
     is
   where
-    by : (a c b bound : Bool) → is_on_bound unit.stream unit.draw (requester_bound (grant_at plan h) port head) ≡ bound
+    by : (a c b : Bool) → (not c && b) ≡ true → (bound : Bool)
+        → is_on_bound unit.stream unit.draw (requester_bound (grant_at plan h) port head) ≡ bound
         → (r : Result HeadView TlpFault) → r ≡ Ok head → is_admitted_effect
         (if a then effect.Sync else if c then switch_effect else if b then host_effect plan (grant_at plan h) n port
-        unit p r else device_effect ((policy_at plan h).statuses port.line) unit p r) ≡ true → bound ≡ true
-    by a c b true at r reads is = refl
-    by true c b false at r reads is = absurd (true≢false (sym is))
-    by false true b false at r reads is = absurd (true≢false (sym is))
-    by false false b false at (Err f) reads is = absurd cc
-    by false false true false at (Ok k) reads is =
+        unit p r else device_effect ((policy_at plan h).statuses port.line) n unit p r) ≡ true → bound ≡ true
+    by a c b host true at r reads is = refl
+    by true c b host false at r reads is = absurd (true≢false (sym is))
+    by false true b host false at r reads is = absurd (true≢false (sym is))
+    by false false false host false at r reads is = absurd (true≢false (sym host))
+    by false false true host false at (Err f) reads is = absurd cc
+    by false false true host false at (Ok k) reads is =
         let same : k ≡ head = cc (reads) in
         absurd (true≢false (sym is ∙ request_not plan.memory p.prefix.t (unit_grant (grant_at plan h) port unit k) n k
         (subst (λ (z : HeadView). is_on_bound unit.stream unit.draw (requester_bound (grant_at plan h) port z) ≡ false)
         (sym same) at)))
-    by false false false false at (Ok k) reads is =
-        absurd (true≢false (sym is ∙ span_not ((policy_at plan h).statuses port.line) p.prefix.t unit.stream unit.draw
-        (write_span k)))
 
 -- so the view of the interface that owns it is Running, with a floor up to the draw
 pub record Runs (h : History) (x : Site) (draw : ℕ) : Type 0 where
@@ -154,48 +137,27 @@ number_owned plan link (Some rid) x owns =
 
 -- ---- packet n of a unit
 
-pub effect_at : (plan : Plan) (policy : Policy) (w : ℕ) (port : PortName) (unit : UnitName) (ps : List Packet) (n : ℕ)
-    (p : Packet) (e : Effect) → slice_get (effects_each plan policy w port unit ps) n ≡ Some e
-    → slice_get ps n ≡ Some p → (k : ℕ) × (effect_by plan policy k port unit p ≡ e)
-effect_at plan policy w port unit [] n p e is at = absurd cc
-effect_at plan policy w port unit (q ∷ ps) zero p e is at =
-    let same : q ≡ p = cc (at) in
-    (w, subst (λ (z : Packet). effect_by plan policy w port unit z ≡ e) same (cc (is)))
-effect_at plan policy w port unit (q ∷ ps) (suc n) p e is at =
-    effect_at plan policy (waiting_then (effect_by plan policy w port unit q) w) port unit ps n p e is at
-
-pub cause_at : (plan : Plan) (since g h : History) → since ++ g ≡ h → CauseLaw plan h → CauseLaw plan g
-cause_at plan since g h is cause = by since (subst (CauseLaw plan) (sym is) cause)
-  where
-    by : (since : History) → CauseLaw plan (since ++ g) → CauseLaw plan g
-    by [] c = c
-    by ((e, w) ∷ since) c = by since c.1
-
 -- what is admitted at a pair is granted its stream and draw
 bound_there : (plan : Plan) (h : History) → CauseLaw plan h → (since older : History) (e : Event) (port : PortName)
     (unit : UnitName) (effects : List Effect) → since ++ (e, Accepted port unit effects) ∷ older ≡ h
-    → (n : ℕ) (p : Packet) (effect : Effect) → slice_get (unit_ended plan older e port unit) n ≡ Some p
+    → is_host_port plan (port_of plan port) ≡ true → (n : ℕ) (p : Packet) (effect : Effect)
+    → slice_get (unit_ended plan older e port unit) n ≡ Some p
     → slice_get effects n ≡ Some effect → is_admitted_effect effect ≡ true → (head : HeadView)
     → read_head_of p.head ≡ Ok head
     → is_on_bound unit.stream unit.draw (requester_bound (grant_at plan older) (port_of plan port) head) ≡ true
-bound_there plan h cause since older e port unit effects came n p effect stands has_effect admitted head reads =
+bound_there plan h cause since older e port unit effects came at_host n p effect stands has_effect admitted head reads =
     let here = cause_at plan since ((e, Accepted port unit effects) ∷ older) h came cause in
-    let by = accepted_by plan older e port unit effects here.0 in
-    let same = unit_that_ends plan older e port unit by.packet by.came by.passed in
-    let effects_are : effects ≡ effects_of plan older port unit (unit_ended plan older e port unit) =
-    by.effects_are ∙ ap (λ (ps : List Packet). effects_of plan older port unit ps) (sym same) in
-    let policy = policy_at plan older in
-    let at = port_of plan port in
-    let there = effect_at plan policy (policy.waiting at.line) at unit (unit_ended plan older e port unit) n p effect
-    (ap (λ (es : List Effect). slice_get es n) (sym effects_are) ∙ has_effect) stands in
-    granted plan older there.0 at unit p head reads (ap is_admitted_effect there.1 ∙ admitted)
+    let there = effect_there plan older e port unit effects here.0 n p effect stands has_effect in
+    granted plan older there.0 (port_of plan port) unit p head at_host reads
+    (ap is_admitted_effect there.1 ∙ admitted)
 
 -- at its pair
 pub runs_there : (plan : Plan) (h : History) (x : Site) (a : AdmittedAt plan h x) → CauseLaw plan h
     → Runs a.older x a.unit.draw
 runs_there plan h x a cause =
     owner_runs plan a.older (port_of plan a.port).line a.unit.stream a.unit.draw x (owner_id a.head) a.owns
-    (bound_there plan h cause a.since a.older a.event a.port a.unit a.effects a.came a.number a.packet a.effect a.stands
+    (bound_there plan h cause a.since a.older a.event a.port a.unit a.effects a.came a.at_host a.number a.packet
+    a.effect a.stands
     a.has_effect a.admitted a.head a.reads)
 
 -- an interface that is granted something is there
@@ -206,14 +168,15 @@ site_there plan h link rid stream draw (Some x) at is = ap is_some at
 
 pub owner_there : (plan : Plan) (h : History) → CauseLaw plan h → (since older : History) (e : Event) (port : PortName)
     (unit : UnitName) (effects : List Effect) → since ++ (e, Accepted port unit effects) ∷ older ≡ h
-    → (n : ℕ) (p : Packet) (effect : Effect) → slice_get (unit_ended plan older e port unit) n ≡ Some p
+    → is_host_port plan (port_of plan port) ≡ true → (n : ℕ) (p : Packet) (effect : Effect)
+    → slice_get (unit_ended plan older e port unit) n ≡ Some p
     → slice_get effects n ≡ Some effect → is_admitted_effect effect ≡ true → (head : HeadView)
     → read_head_of p.head ≡ Ok head → (rid : ℕ) → owner_id head ≡ Some rid
     → is_some (site_of_requester plan (port_of plan port).line rid) ≡ true
-owner_there plan h cause since older e port unit effects came n p effect stands has_effect admitted head reads rid owns
-    =
-    let there = bound_there plan h cause since older e port unit effects came n p effect stands has_effect admitted head
-    reads in
+owner_there plan h cause since older e port unit effects came at_host n p effect stands has_effect admitted head reads
+    rid owns =
+    let there = bound_there plan h cause since older e port unit effects came at_host n p effect stands has_effect
+    admitted head reads in
     let link = (port_of plan port).line in
     site_there plan older link rid unit.stream unit.draw (site_of_requester plan link rid) refl
     (subst (λ (o : Option ℕ). is_on_bound unit.stream unit.draw (option_and_then (grant_at plan older link) o) ≡ true)

@@ -5,7 +5,8 @@ use Rattle.spec_links.specs.Terms.{owner_site, site_of_requester, Access, Verdic
 use Rattle.spec_links.specs.Sent.{reads_taken}
 use Rattle.law_locks.specs.Fronts.{AtPairs}
 use Rattle.script_events.specs.declared.event.AccessEvent.TheVariants as ae
-use Rattle.spec_links.specs.Ports.{port_of}
+use Rattle.spec_links.specs.Ports.{port_of, is_host_port}
+use Rattle.ide_types.specs.Ports.{host_port}
 use Rattle.spec_links.specs.Memory.{unit_ended, queued_reads}
 use Rattle.spec_interfaces.specs.Sites.{Site}
 use Rattle.spec_interfaces.specs.Devices.{locks_accepted}
@@ -18,7 +19,8 @@ is_admitted_effect Applied = true
 is_admitted_effect Queued = true
 is_admitted_effect effect = false
 
--- a pair of the history ended a unit in which a packet of the interface, by its requester ID, was admitted
+-- a pair of the history ended a unit at a host's port in which a packet of the interface, by its requester ID, was
+-- admitted
 pub record AdmittedAt (plan : Plan) (h : History) (x : Site) : Type 0 where
   pub event : Event
   pub port : PortName
@@ -27,6 +29,7 @@ pub record AdmittedAt (plan : Plan) (h : History) (x : Site) : Type 0 where
   pub older : History
   pub since : History
   pub came : since ++ (event, Accepted port unit effects) ∷ older ≡ h
+  pub at_host : is_host_port plan (port_of plan port) ≡ true
   pub number : ℕ
   pub packet : Packet
   pub stands : slice_get (unit_ended plan older event port unit) number ≡ Some packet
@@ -47,11 +50,11 @@ OneLockPerKey plan h = (x : Site) (a b : AdmittedAt plan h x) → a.unit.draw �
 -- the oldest read of a link that waits, which an answer takes, was queued under the lock that stands
 pub record IsReadInLock (plan : Plan) (h : History) (link : ℕ) : Type 0 where
   pub read : WaitingRead
-  pub oldest : slice_get (queued_reads plan h link) (reads_taken h link) ≡ Some read
+  pub oldest : slice_get (queued_reads plan h (host_port link)) (reads_taken h (host_port link)) ≡ Some read
   pub interface : Site
   pub owns : site_of_requester plan link read.read.requester ≡ Some interface
   pub from : AdmittedAt plan h interface
-  pub draw : from.unit.draw ≡ read.draw
+  pub draw : from.unit.draw ≡ read.came.draw
   pub is_read : memory_read from.head ≡ Some read.read
   pub same_lock : locks_accepted plan from.older interface ≡ locks_accepted plan h interface
 

@@ -27,8 +27,8 @@ pub fn unlocked_is_scrubbed()
     ensures { ScrubbedHolds }
 {}
 
-/// Two packets of one interface whose write is applied or whose read is queued, and that came under one draw, are
-/// admitted under one lock.
+/// Two packets of one interface whose write is applied or whose read is queued, at a host's port, and that came under
+/// one draw, are admitted under one lock.
 pub fn one_lock_per_key()
     ensures { OneLockPerKeyHolds }
 {}

@@ -4,7 +4,7 @@ use Rattle.law_sealing.proofs.Terms.{◌≡◌, ℕ, ◌+◌, ◌<◌, Bool, tru
 use Rattle.law_sealing.proofs.Terms.{Some, None, refl, ap, sym, subst, ◌∙◌, arith, nat_tests, if◌then◌else◌, Plan}
 use Rattle.law_sealing.proofs.Terms.{SubStream, History, Event, Send, Verdict, Sealed, Accepted, UnitName, Effect}
 use Rattle.law_sealing.proofs.Terms.{SealedPacket, Packet, Prefix, PortName, received_in, sent_packets, CauseLaw}
-use Rattle.law_sealing.proofs.Terms.{DrawFacts, StreamsFit}
+use Rattle.law_sealing.proofs.Terms.{DrawFacts, StreamsFit, sent_bytes}
 unfoldable use Rattle.law_sealing.proofs.Terms.{accepted_packets, sealed_packets}
 use Rattle.std.specs.Prelude.{◌-◌, nat_le, nat_lt}
 use Rattle.std.specs.Option.{unwrap_or}
@@ -31,10 +31,16 @@ use Rattle.law_sealing.proofs.Places.{place_among}
 use Rattle.law_sealing.proofs.Sums.{in_parts}
 use Rattle.law_delivery.specs.NoForgeryUnder.{UnitIsUnforged}
 use Rattle.law_delivery.proofs.EachForgery.{of_pairs}
-use Rattle.law_memory.specs.Bindings.{AreBound}
+use Rattle.script_events.specs.declared.event.Event.TheVariants as event
+use Rattle.script_events.specs.declared.event.AccessEvent.TheVariants as ae
+unfoldable use Rattle.spec_links.proofs.Terms.{bytes_by}
+use Rattle.law_memory.specs.Bindings.{AreBound, is_sent_by_device}
 use Rattle.law_memory.specs.LocalLaws.{LocalBindOriginLaw}
 use Rattle.law_memory.proofs.Causes.{interface_cause}
-use Rattle.law_memory.proofs.Found.{all_get, cause_before, get_less, sealing_by}
+use Rattle.law_memory.proofs.Found.{all_get, cause_at, get_less, sealing_by}
+use Rattle.law_memory.proofs.Packets.{IsOf}
+use Rattle.law_memory.proofs.Responses.{responded, response_packets, response_sending}
+use Rattle.law_memory.proofs.ResponseOwners.{owner_of_response}
 use Rattle.law_memory.proofs.Origins.{accepted_known, sent_at}
 
 -- ---- the end at a device
@@ -52,12 +58,21 @@ among_peers true false true o link e few late is = absurd (low_link _ e is (omeg
 among_peers true false false None link e few late is = absurd (low_link _ e is (omega (arith, few)) late)
 among_peers true false false (Some x) link e few late is = ap (λ (q : PortName). Some q) is
 
--- an end of a stream between devices
-record AtDevice (plan : Plan) (e : PortName) (id : ℕ) : Type 0 where
-  is_peer : is_peer plan e ≡ true
-  found : peer_end plan.peers 0 (owners_link plan e) id ≡ Some e
+-- so the link's own streams have not that ID
+not_own : (low own hop : Bool) (o : Option PortName) (link : ℕ) (e : PortName) → link < 8 → nat_le 24 e.line ≡ true
+    → (if low then (if own then device_port link else if hop then hop_end Device link else unwrap_or o
+    (device_port link)) else device_port link) ≡ e → own ≡ false
+not_own low false hop o link e few late is = refl
+not_own false true hop o link e few late is = absurd (low_link _ e is (omega (arith, few)) late)
+not_own true true hop o link e few late is = absurd (low_link _ e is (omega (arith, few)) late)
 
-at_device : (plan : Plan) → FitsPlan plan → (e : PortName) (id : ℕ) → nat_le 24 e.line ≡ true
+-- an end of a stream between devices
+pub record AtDevice (plan : Plan) (e : PortName) (id : ℕ) : Type 0 where
+  pub is_peer : is_peer plan e ≡ true
+  pub found : peer_end plan.peers 0 (owners_link plan e) id ≡ Some e
+  pub not_own : own_has_id (slice_get plan.links (owners_link plan e)) id ≡ false
+
+pub at_device : (plan : Plan) → FitsPlan plan → (e : PortName) (id : ℕ) → nat_le 24 e.line ≡ true
     → line_has plan e.line id ≡ true → AtDevice plan e id
 at_device plan fits e id late has = by (slice_get plan.peers (e.line - 24)) refl
   where
@@ -87,10 +102,15 @@ at_device plan fits e id late has = by (slice_get plan.peers (e.line - 24)) refl
         (own_has_id (slice_get plan.links (peer_link e.side p)) id)
         (hop_has_id (link_hop (slice_get plan.links (peer_link e.side p))) id)
         (peer_end plan.peers 0 (peer_link e.side p) id) (peer_link e.side p) e (few e.side p fit) late met in
+        let own = not_own (nat_lt (peer_link e.side p) 8)
+        (own_has_id (slice_get plan.links (peer_link e.side p)) id)
+        (hop_has_id (link_hop (slice_get plan.links (peer_link e.side p))) id)
+        (peer_end plan.peers 0 (peer_link e.side p) id) (peer_link e.side p) e (few e.side p fit) late met in
         let link : owners_link plan e ≡ peer_link e.side p = rw peer (ap (λ (q : PortName). q.line) port) in
         record {
           is_peer = peer;
           found = ap (λ (l : ℕ). peer_end plan.peers 0 l id) link ∙ there;
+          not_own = ap (λ (l : ℕ). own_has_id (slice_get plan.links l) id) link ∙ own;
         }
 
 -- ---- neither an answer nor what a switch forwards is sealed there
@@ -119,6 +139,32 @@ peer_fit : (plan : Plan) (h : History) (bytes : List ℕ) (trusted : Bool) (d : 
     → SealFits plan h bytes trusted d → PeerSealFits plan h (owners_link plan d.port) bytes d
 peer_fit plan h bytes trusted d peer fit = fit.t_is ∙ ap (λ (t : Bool). if d.sync then false else t) (rw peer refl)
 
+-- of a send
+owner_of_send : (plan : Plan) (h : History) (port : PortName) (bytes : List ℕ) (more trusted : Bool)
+    (ds : List SealedPacket) (i : ℕ) (d : SealedPacket)
+    → CauseLaw plan ((Send port bytes more trusted, Sealed ds) ∷ h) → slice_get ds i ≡ Some d
+    → is_peer plan d.port ≡ true → d.t ≡ true
+    → OwnerIsBound plan h (owners_link plan d.port) d.stream bytes
+owner_of_send plan h port bytes more trusted ds i d cause at peer has_t =
+    let fit = all_get (SealFits plan h bytes trusted) ds i d
+    (interface_cause plan ((Send port bytes more trusted, Sealed ds) ∷ h) cause).0 at in
+    peer_seals_bound plan h (owners_link plan d.port) bytes d (peer_fit plan h bytes trusted d peer fit) has_t
+
+-- of an event
+pub owner_of : (plan : Plan) → FitsPlan plan → (h : History) (e : Event) (ds : List SealedPacket) (i : ℕ)
+    (d : SealedPacket) → is_sent_by_device e ≡ true → CauseLaw plan ((e, Sealed ds) ∷ h) → slice_get ds i ≡ Some d
+    → is_peer plan d.port ≡ true → own_has_id (slice_get plan.links (owners_link plan d.port)) d.stream ≡ false
+    → d.t ≡ true → OwnerIsBound plan h (owners_link plan d.port) d.stream (sent_bytes plan h e)
+unfolding bytes_by
+owner_of plan fits h (Send port bytes more trusted) ds i d own cause at peer far has_t =
+    owner_of_send plan h port bytes more trusted ds i d cause at peer has_t
+owner_of plan fits h (event.Access (ae.Respond link)) ds i d own cause at peer far has_t =
+    let is = responded plan h link ds cause.0 in
+    owner_of_response plan fits h link ds is d cause.1
+    (all_get (IsOf (response_sending is.read.came is.tlp)) ds i d (response_packets plan h link ds is) at) peer far
+    has_t
+owner_of plan fits h e ds i d own cause at peer far has_t = absurd cc
+
 bound_at : (plan : Plan) → FitsPlan plan → StreamsFit plan → DrawFacts plan
     → (h : History) (e : Event) (port : PortName) (unit : UnitName) (effects : List Effect)
     → CauseLaw plan ((e, Accepted port unit effects) ∷ h) → UnitIsUnforged plan h e (Accepted port unit effects)
@@ -140,15 +186,14 @@ bound_at plan whole fits facts h e port unit effects cause forged late n p is ha
     let device = at_device plan whole d.port unit.stream there known in
     let seal = sealing_by plan h cause.1 among.place d among.sealed.1 (no_answer plan whole d.port there)
     (no_forward plan whole d.port there) among.stands in
-    let fit = all_get (SealFits plan seal.older seal.bytes seal.trusted) seal.ds seal.new.index d
-    (cause_before plan ((Send seal.port seal.bytes seal.more seal.trusted, Sealed seal.ds) ∷ seal.older) h seal.came
-    (interface_cause plan h cause.1)).0 seal.new.listed in
     let prefix = ap (λ (r : Packet). r.prefix) seal.new.packet
-    ∙ prefix_is plan seal.new.ahead seal.bytes d seal.new.unfinished in
+    ∙ prefix_is plan seal.new.ahead (sent_bytes plan seal.older seal.event) d seal.new.unfinished in
     let trusted : d.t ≡ true = sym (ap (λ (f : Prefix). f.t) prefix)
     ∙ (ap (λ (r : Packet). r.prefix.t) among.packet ∙ has_t) in
-    let owner = peer_seals_bound plan seal.older (owners_link plan d.port) seal.bytes d
-    (peer_fit plan seal.older seal.bytes seal.trusted d device.is_peer fit) trusted in
+    let law = cause_at plan seal.came.since ((seal.event, Sealed seal.ds) ∷ seal.older) h seal.came.is cause.1 in
+    let owner = owner_of plan whole seal.older seal.event seal.ds seal.new.index d seal.own law seal.new.listed
+    device.is_peer (subst (λ (i : ℕ). own_has_id (slice_get plan.links (owners_link plan d.port)) i ≡ false)
+    (sym stream) device.not_own) trusted in
     let less = get_less (sent_packets plan h s unit.draw) m p at in
     record {
       was = record {
@@ -160,10 +205,8 @@ bound_at plan whole fits facts h e port unit effects cause forged late n p is ha
           number = sym (ap length among.before ∙ length-take-le m (sent_packets plan h s unit.draw)
               (omega (arith, less)));
         };
-        port = seal.port;
-        bytes = seal.bytes;
-        more = seal.more;
-        trusted = seal.trusted;
+        event = seal.event;
+        sent = seal.own;
         packets = seal.ds;
         older = seal.older;
         came = seal.came;
@@ -171,7 +214,8 @@ bound_at plan whole fits facts h e port unit effects cause forged late n p is ha
         until = seal.until;
         link = owners_link plan d.port;
         at_device = device.found;
-        owner = subst (λ (i : ℕ). OwnerIsBound plan seal.older (owners_link plan d.port) i seal.bytes) stream owner;
+        owner = subst (λ (i : ℕ). OwnerIsBound plan seal.older (owners_link plan d.port) i
+            (sent_bytes plan seal.older seal.event)) stream owner;
       };
       same = among.packet;
     }

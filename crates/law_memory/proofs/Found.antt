@@ -1,4 +1,4 @@
--- Where a sealed packet comes from: the send that sealed it, and what was known then.
+-- Where a sealed packet of a device comes from: the send, or the response, that sealed it, and what was known then.
 use Rattle.law_sealing.proofs.Terms.{◌≡◌, ℕ, ◌+◌, ◌<◌, ◌≤◌, ◌==◌, ◌⊎◌, inl, inr, zero, suc, Bool, true, false, List, []}
 use Rattle.law_sealing.proofs.Terms.{◌∷◌, ◌++◌, length, length-append, slice_get, Some, refl, ap, sym, subst, arith}
 use Rattle.law_sealing.proofs.Terms.{if◌then◌else◌, AllByRecursion, nat_tests, Plan, History, base, Event, Send}
@@ -11,12 +11,10 @@ use Rattle.ide_types.specs.declared.direction.Direction.TheVariants.{Downstream,
 use Rattle.ide_types.specs.Fits.{FitsPlan}
 use Rattle.spec_links.specs.Hops.{has_hop, leaving_end}
 use Rattle.spec_links.specs.Plan.{has_link}
-use Rattle.spec_links.specs.Due.{answer_first, outgoing_completion}
-use Rattle.spec_links.specs.Memory.{waiting_reads}
 use Rattle.ide_types.specs.Ports.{host_port}
 use Rattle.law_reads.proofs.Forwarded.{forward_means}
+use Rattle.law_reads.proofs.Oldest.{first_means}
 use Rattle.spec_links.proofs.Terms.{Device}
-unfoldable use Rattle.spec_links.proofs.Terms.{bytes_by}
 use Rattle.script_events.specs.declared.event.AccessEvent.TheVariants as ae
 use Rattle.spec_interfaces.specs.Sites.{Site, sites_of_plans, sites_of_links, site_at}
 unfoldable use Rattle.spec_interfaces.specs.Sites.{sites}
@@ -24,8 +22,18 @@ use Rattle.spec_interfaces.specs.Terms.{LinkPlan, InterfacePlan}
 use Rattle.spec_interfaces.specs.Cause.{InterfaceCause}
 use Rattle.spec_interfaces.specs.Laws.{OfTrusted}
 use Rattle.law_memory.specs.Origin.{CameFrom}
+use Rattle.law_memory.specs.Bindings.{is_sent_by_device}
 use Rattle.std.specs.Prelude.{find}
 use Rattle.law_delivery.proofs.GotUnits.{last_at}
+use Rattle.std.proofs.Common.{get_or}
+use Rattle.tlp_layout.specs.declared.head.HeadView.{HeadView}
+use Rattle.tlp_layout.specs.declared.fault.TlpFault.{TlpFault}
+use Rattle.tlp_layout.specs.Reading.{read_head_of}
+use Rattle.tlp_layout.proofs.Heads.{kept, head_size_at_least}
+use Rattle.tlp_layout.proofs.Readings.{read_head_spells}
+use Rattle.spec_links.specs.History.{head_in}
+use Rattle.law_sealing.proofs.Below.{is_read}
+use Rattle.law_sealing.proofs.Terms.{Result, Ok, Err, Tlp, header, head_bytes, read_of}
 use Rattle.script_events.specs.declared.event.Event.TheVariants as event
 use Rattle.event_verdicts.specs.declared.verdict.Verdict.TheVariants as v
 
@@ -46,9 +54,9 @@ pub get_behind : {A : Type 0} (xs ys : List A) (n : ℕ) → slice_get (xs ++ ys
 get_behind [] ys n = let e : 0 + n ≡ n = omega arith in ap (λ (k : ℕ). slice_get ys k) e
 get_behind (x ∷ xs) ys n = let e : suc (length xs) + n ≡ suc (length xs + n) = omega arith in rw e (get_behind xs ys n)
 
--- ---- the send that sealed a packet
+-- ---- the event that sealed a packet
 
--- the packet is one of this send
+-- the packet is one of this event's
 pub record IsNew (plan : Plan) (bytes : List ℕ) (ds : List SealedPacket) (d : SealedPacket) (p : Packet) : Type 0 where
   pub index : ℕ
   pub listed : slice_get ds index ≡ Some d
@@ -85,18 +93,45 @@ with_at plan ahead bytes (d ∷ ds) xs k x is =
       | inr new ↦ inr (omega (arith, new.0, length-append xs ((d, p) ∷ [])), new_later plan bytes d x.0 ds x.1 new.1)
     ]
 
--- the pair at which it was sealed
+-- ---- its header
+
+-- a packet with T is no sync packet
+pub not_synced : (sync t : Bool) → (if sync then false else t) ≡ true → sync ≡ false
+not_synced true t e = absurd cc
+not_synced false t e = refl
+
+-- the header that it was sealed with is that of the TLP that was sent
+no_head : (head : HeadView) → read_head_of [] ≡ Ok head → ⊥
+no_head head is =
+    let spells = (read_head_spells head []).1 is in
+    let right = kept head spells.fits in
+    let size = ap length spells.spelled ∙ right.size in
+    omega (arith, size, head_size_at_least (get_or (head_bytes head) 0 0))
+
+pub head_of : (bytes : List ℕ) (head : HeadView) (r : Result Tlp TlpFault) → read_of bytes ≡ r
+    → read_head_of (head_in r) ≡ Ok head → (t : Tlp) × (r ≡ Ok t) × (header t ≡ head)
+head_of bytes head (Ok t) reads is =
+    let again = (read_head_spells (header t) (head_bytes (header t))).0 (is_read bytes t reads).head in
+    (t, refl, cc (again, is))
+head_of bytes head (Err f) reads is = absurd (no_head head is)
+
+pub head_is : (plan : Plan) (ahead bytes : List ℕ) (d : SealedPacket) (unfinished : List Packet) → d.sync ≡ false
+    → (packet_of plan ahead bytes d unfinished).head ≡ head_in (read_of bytes)
+unfolding packet_of
+head_is plan ahead bytes d unfinished sync = rw sync refl
+
+-- ---- its pair
+
+-- at which it was sealed
 pub record Sealing (plan : Plan) (h : History) (k : ℕ) (d : SealedPacket) (p : Packet) : Type 0 where
-  pub port : PortName
-  pub bytes : List ℕ
-  pub more : Bool
-  pub trusted : Bool
+  pub event : Event
+  pub own : is_sent_by_device event ≡ true
   pub ds : List SealedPacket
   pub older : History
-  pub came : CameFrom ((Send port bytes more trusted, Sealed ds) ∷ older) h
+  pub came : CameFrom ((event, Sealed ds) ∷ older) h
   pub from : length (sealed_packets plan older) ≤ k
-  pub until : k < length (sealed_packets plan ((Send port bytes more trusted, Sealed ds) ∷ older))
-  pub new : IsNew plan bytes ds d p
+  pub until : k < length (sealed_packets plan ((event, Sealed ds) ∷ older))
+  pub new : IsNew plan (sent_bytes plan older event) ds d p
 
 came_later : (g h : History) (x : Event × Verdict) → CameFrom g h → CameFrom g (x ∷ h)
 came_later g h x came = record { since = x ∷ came.since; is = ap (λ (k : History). x ∷ k) came.is }
@@ -104,10 +139,8 @@ came_later g h x came = record { since = x ∷ came.since; is = ap (λ (k : Hist
 sealing_later : (plan : Plan) (h : History) (x : Event × Verdict) (k : ℕ) (d : SealedPacket) (p : Packet)
     → Sealing plan h k d p → Sealing plan (x ∷ h) k d p
 sealing_later plan h x k d p at = record {
-  port = at.port;
-  bytes = at.bytes;
-  more = at.more;
-  trusted = at.trusted;
+  event = at.event;
+  own = at.own;
   ds = at.ds;
   older = at.older;
   came = came_later _ h x at.came;
@@ -125,71 +158,59 @@ live_port plan h port stream (y ∷ ds) zero d all is =
 live_port plan h port stream (y ∷ ds) (suc i) d all is = live_port plan h port stream ds i d all.1 is
 
 sealed_at_end : (plan : Plan) (h : History) (e : Event) (ds : List SealedPacket) (i : ℕ) (d : SealedPacket)
-    → Sealed ds ≡ due plan h e → slice_get ds i ≡ Some d → d.port ≡ sending_port plan e
+    → Sealed ds ≡ due plan h e → slice_get ds i ≡ Some d → d.port ≡ sending_port plan h e
 sealed_at_end plan h e ds i d is at =
     let sealing = sealing_is plan h e ds is in
     live_port plan h sealing.sending.port sealing.sending.stream ds i d
-    (all_live plan h (sending_port plan e) (sent_bytes plan h e) ds sealing) at
+    (all_live plan h (sending_port plan h e) (sent_bytes plan h e) ds sealing) at
     ∙ sealing.at_port
 
 -- an answer and a forward that seal are of a link, and of a link's hop, that the topology has
 answers_link : (plan : Plan) (h : History) (link : ℕ) (ds : List SealedPacket)
     → Sealed ds ≡ due plan h (event.Access (ae.Answer link)) → has_link plan link ≡ true
 unfolding due
-answers_link plan h link ds is = by (has_link plan link) refl is
-  where
-    by : (b : Bool) → has_link plan link ≡ b → Sealed ds ≡ (if b
-        then answer_first plan h (sending_port plan (event.Access (ae.Answer link))) (waiting_reads plan h link)
-        (outgoing_completion plan h link) else v.Nothing) → has_link plan link ≡ true
-    by true known is = known
-    by false known is = absurd cc
+answers_link plan h link ds is = (first_means plan h (host_port link) _ (Sealed ds) refl is).known
+
+-- an event that seals at no end of an answer or of a forward is a send or a response
+own_event : (plan : Plan) (h : History) (e : Event) (ds : List SealedPacket) (i : ℕ) (d : SealedPacket)
+    → Sealed ds ≡ due plan h e → slice_get ds i ≡ Some d
+    → ((link : ℕ) → has_link plan link ≡ true → d.port ≡ host_port link → ⊥)
+    → ((link : ℕ) (way : Direction) → has_hop plan link ≡ true → d.port ≡ leaving_end link way → ⊥)
+    → is_sent_by_device e ≡ true
+own_event plan h (Send port bytes more trusted) ds i d is at answers forwards = refl
+own_event plan h (event.Access (ae.Respond link)) ds i d is at answers forwards = refl
+own_event plan h (event.Access (ae.Answer link)) ds i d is at answers forwards =
+    absurd (answers link (answers_link plan h link ds is)
+    (sealed_at_end plan h (event.Access (ae.Answer link)) ds i d is at))
+own_event plan h (event.Forward link way) ds i d is at answers forwards =
+    absurd (forwards link way (forward_means plan h link way ds is).known
+    (sealed_at_end plan h (event.Forward link way) ds i d is at))
+own_event plan h e ds i d is at answers forwards =
+    absurd (let sealing = sealed_by_sealing plan h e ds is in cc)
 
 -- of a packet that was sealed at no end of an answer or of a forward
 pub sealing_by : (plan : Plan) (h : History) → CauseLaw plan h → (k : ℕ) (d : SealedPacket) (p : Packet)
     → ((link : ℕ) → has_link plan link ≡ true → d.port ≡ host_port link → ⊥)
     → ((link : ℕ) (way : Direction) → has_hop plan link ≡ true → d.port ≡ leaving_end link way → ⊥)
     → slice_get (sealed_packets plan h) k ≡ Some (d, p) → Sealing plan h k d p
-unfolding sealed_packets bytes_by
+unfolding sealed_packets
 sealing_by plan [] cause k d p answers forwards is = absurd cc
-sealing_by plan ((Send port bytes more trusted, Sealed ds) ∷ h) cause k d p answers forwards is =
-    elim (with_at plan (ahead_of_packet plan (sealed_packets plan h) (base h)) bytes ds (sealed_packets plan h) k (d, p)
-    is) [
-      | inl before ↦ sealing_later plan h (Send port bytes more trusted, Sealed ds) k d p
+sealing_by plan ((e, Sealed ds) ∷ h) cause k d p answers forwards is =
+    let ahead = ahead_of_packet plan (sealed_packets plan h) (base h) in
+    elim (with_at plan ahead (sent_bytes plan h e) ds (sealed_packets plan h) k (d, p) is) [
+      | inl before ↦ sealing_later plan h (e, Sealed ds) k d p
           (sealing_by plan h cause.1 k d p answers forwards before)
       | inr new ↦ record {
-        port = port;
-        bytes = bytes;
-        more = more;
-        trusted = trusted;
+        event = e;
+        own = own_event plan h e ds new.1.index d cause.0 new.1.listed answers forwards;
         ds = ds;
         older = h;
         came = record { since = []; is = refl };
         from = new.0;
-        until = get_less (with_sealed plan (ahead_of_packet plan (sealed_packets plan h) (base h)) bytes ds
-            (sealed_packets plan h)) k (d, p) is;
+        until = get_less (with_sealed plan ahead (sent_bytes plan h e) ds (sealed_packets plan h)) k (d, p) is;
         new = new.1;
       }
     ]
-sealing_by plan ((event.Access (ae.Answer link), Sealed ds) ∷ h) cause k d p answers forwards is =
-    let e = event.Access (ae.Answer link) in
-    elim (with_at plan (ahead_of_packet plan (sealed_packets plan h) (base h)) (sent_bytes plan h e) ds
-    (sealed_packets plan h) k (d, p) is) [
-      | inl before ↦ sealing_later plan h (e, Sealed ds) k d p
-          (sealing_by plan h cause.1 k d p answers forwards before)
-      | inr new ↦ absurd (answers link (answers_link plan h link ds cause.0)
-          (sealed_at_end plan h e ds new.1.index d cause.0 new.1.listed))
-    ]
-sealing_by plan ((event.Forward link way, Sealed ds) ∷ h) cause k d p answers forwards is =
-    let e = event.Forward link way in
-    elim (with_at plan (ahead_of_packet plan (sealed_packets plan h) (base h)) (sent_bytes plan h e) ds
-    (sealed_packets plan h) k (d, p) is) [
-      | inl before ↦ sealing_later plan h (e, Sealed ds) k d p
-          (sealing_by plan h cause.1 k d p answers forwards before)
-      | inr new ↦ absurd (forwards link way (forward_means plan h link way ds cause.0).known
-          (sealed_at_end plan h e ds new.1.index d cause.0 new.1.listed))
-    ]
-sealing_by plan ((e, Sealed ds) ∷ h) cause k d p answers forwards is = absurd
-    (let sealing = sealed_by_sealing plan h e ds cause.0 in cc)
 sealing_by plan ((e, w) ∷ h) cause k d p answers forwards is =
     sealing_later plan h (e, w) k d p (sealing_by plan h cause.1 k d p answers forwards is)
 
@@ -219,6 +240,13 @@ cause_since plan ((e, w) ∷ since) g cause = cause_since plan since g cause.1
 
 pub cause_before : (plan : Plan) (g h : History) → CameFrom g h → InterfaceCause plan h → InterfaceCause plan g
 cause_before plan g h came cause = cause_since plan came.since g (subst (InterfaceCause plan) (sym came.is) cause)
+
+law_since : (plan : Plan) (since g : History) → CauseLaw plan (since ++ g) → CauseLaw plan g
+law_since plan [] g cause = cause
+law_since plan ((e, w) ∷ since) g cause = law_since plan since g cause.1
+
+pub cause_at : (plan : Plan) (since g h : History) → since ++ g ≡ h → CauseLaw plan h → CauseLaw plan g
+cause_at plan since g h is cause = law_since plan since g (subst (CauseLaw plan) (sym is) cause)
 
 trusted_tail : (plan : Plan) (x : Site) (P : History → SealedPacket → Type 0) (e : Event) (w : Verdict) (h : History)
     → OfTrusted plan x P ((e, w) ∷ h) → OfTrusted plan x P h

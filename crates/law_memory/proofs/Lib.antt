@@ -1,3 +1,4 @@
+pub mod Packets
 pub mod Causes
 pub mod Memory
 pub mod Found
@@ -6,4 +7,9 @@ pub mod AllLaws
 pub mod OfReads
 pub mod QueuedReads
 pub mod OwnStreams
-mod BoundPackets
+pub mod Completions
+pub mod Floors
+pub mod Queued
+pub mod Responses
+pub mod ResponseOwners
+pub mod BoundPackets

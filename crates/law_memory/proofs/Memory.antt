@@ -19,12 +19,13 @@ use Rattle.trusted_memory.specs.declared.span.Span.{Span}
 use Rattle.trusted_memory.specs.Spans.{span_of, write_span}
 use Rattle.trusted_memory.specs.Writes.{memory_write}
 use Rattle.trusted_memory.specs.declared.read.MemReadView.{MemReadView}
-use Rattle.trusted_memory.specs.Requests.{read_with}
+use Rattle.trusted_memory.specs.Requests.{memory_read, read_with}
 use Rattle.trusted_memory.specs.Waiting.{read_cause, read_effect, effect_by_read, request_effect}
 use Rattle.guarded_memory.specs.declared.status.InterfaceStatus.{InterfaceStatus}
 use Rattle.guarded_memory.specs.declared.claims.Claim.{Claim}
 use Rattle.guarded_memory.specs.Claims.{claim_of}
 use Rattle.guarded_memory.specs.Causes.{mmio_cause, cause_effect, claim_effect, mmio_effect}
+use Rattle.guarded_memory.specs.DeviceReads.{device_read_cause, claimed_read_effect, effect_by_device_read}
 use Rattle.tlp_layout.specs.declared.head.Lead.{Lead}
 use Rattle.tlp_layout.specs.declared.head.Fields.{Fields}
 use Rattle.event_verdicts.specs.declared.verdict.BlockCause.{BlockCause}
@@ -101,10 +102,24 @@ mmio_says : (xs : List InterfaceStatus) (t : Bool) (stream draw : ℕ) (o : Opti
 mmio_says xs t stream draw None = refl
 mmio_says xs t stream draw (Some s) = claim_says (claim_of xs s) s t stream draw
 
-device_says : (xs : List InterfaceStatus) (unit : UnitName) (p : Packet) (r : Result HeadView TlpFault)
-    → is_applied (device_effect xs unit p r) ≡ false
-device_says xs unit p (Err f) = refl
-device_says xs unit p (Ok head) = mmio_says xs p.prefix.t unit.stream unit.draw (write_span head)
+claimed_read_says : (o : Option Claim) (s : Span) (t : Bool) (stream draw n : ℕ)
+    → is_applied (claimed_read_effect o s t stream draw n) ≡ false
+claimed_read_says None s t stream draw n = refl
+claimed_read_says (Some c) s t stream draw n = by c.status.reads
+  where
+    by : (b : Bool) → is_applied (if b then read_effect (device_read_cause c s t stream draw n) else Delivered) ≡ false
+    by true = read_says (device_read_cause c s t stream draw n)
+    by false = refl
+
+device_says : (xs : List InterfaceStatus) (n : ℕ) (unit : UnitName) (p : Packet) (r : Result HeadView TlpFault)
+    → is_applied (device_effect xs n unit p r) ≡ false
+device_says xs n unit p (Err f) = refl
+device_says xs n unit p (Ok head) = by (memory_read head)
+  where
+    by : (o : Option MemReadView) → is_applied (effect_by_device_read xs p.prefix.t unit.stream unit.draw n o
+        (mmio_effect xs p.prefix.t unit.stream unit.draw (write_span head))) ≡ false
+    by None = mmio_says xs p.prefix.t unit.stream unit.draw (write_span head)
+    by (Some r) = claimed_read_says (claim_of xs r.span) r.span p.prefix.t unit.stream unit.draw n
 
 -- a packet's effect is applied exactly if its write is admitted
 effect_says : (plan : Plan) (policy : Policy) (n : ℕ) (port : PortName) (unit : UnitName) (p : Packet)
@@ -115,12 +130,12 @@ effect_says plan policy n port unit p payload = by (is_sync_packet p) (at_switch
   where
     by : (s c b : Bool) → is_applied
         (if s then effect.Sync else if c then switch_effect else if b then host_effect plan policy.grants n port unit p
-        (read_head_of p.head) else device_effect (policy.statuses port.line) unit p (read_head_of p.head))
+        (read_head_of p.head) else device_effect (policy.statuses port.line) n unit p (read_head_of p.head))
         ≡ is_some (if not s && (not c && b) then payload_write plan policy.grants port unit p.prefix.t payload
         (read_head_of p.head) else None)
     by true c b = refl
     by false true b = refl
-    by false false false = device_says (policy.statuses port.line) unit p (read_head_of p.head)
+    by false false false = device_says (policy.statuses port.line) n unit p (read_head_of p.head)
     by false false true = head_says plan policy n port unit p payload (read_head_of p.head)
 
 each_says : (plan : Plan) (policy : Policy) (n : ℕ) (port : PortName) (unit : UnitName) (plain : List ℕ)
@@ -140,7 +155,7 @@ applies plan h e port unit effects is =
     let same = unit_that_ends plan h e port unit by.packet by.came by.passed in
     let effects_are = by.effects_are ∙ ap (λ (ps : List Packet). effects_of plan h port unit ps) (sym same) in
     ap (λ (es : List Effect). map is_applied es) effects_are
-    ∙ each_says plan (policy_at plan h) ((policy_at plan h).waiting (port_of plan port).line) (port_of plan port) unit
+    ∙ each_says plan (policy_at plan h) ((policy_at plan h).waiting (port_of plan port)) (port_of plan port) unit
     (plain_of plan port unit (unit_ended plan h e port unit)) (unit_ended plan h e port unit)
 
 -- ---- what is shown

@@ -1,21 +1,14 @@
 -- Answers take the oldest read that waits, from memory as it is then: an answer that sealed passed each test of the
 -- rule, so its interface's view is Running, read and key are of draws from the floor on, and the completion's stream is
 -- the bound one. Its packets are those of a send of the completion.
-use Rattle.law_sealing.proofs.Terms.{◌≡◌, ℕ, ◌≤◌, ◌==◌, ◌&&◌, ◌*◌, ◌+◌, Ok, Bool, true, false, not, nat_lt, List, []}
+use Rattle.law_sealing.proofs.Terms.{◌≡◌, ℕ, ◌≤◌, ◌==◌, ◌&&◌, Ok, Bool, true, false, not, nat_lt, List, []}
 use Rattle.law_sealing.proofs.Terms.{◌∷◌, ◌++◌, Option, Some, None, refl, ap, sym, subst, ◌∙◌, arith, nat_tests}
 use Rattle.law_sealing.proofs.Terms.{if◌then◌else◌, unwrap_or, Plan, History, Event, Verdict, Sealed, PortName}
 use Rattle.law_sealing.proofs.Terms.{SealedPacket, SealedList, CauseLaw, AllByRecursion, DrawFacts, sent_bytes}
-use Rattle.law_sealing.proofs.Terms.{sending_port, sealing_is, IsLive, AllLive, all_live, sealed_packets, lane_out}
+use Rattle.law_sealing.proofs.Terms.{sealing_is, IsLive, AllLive, all_live, sealed_packets, lane_out}
 use Rattle.law_sealing.proofs.Terms.{live_key, KeyName, SubKind, Cpl, lanes_at, Tlp, header, class_of, read_of}
 unfoldable use Rattle.law_sealing.proofs.Terms.{due}
 use Rattle.law_sealing.proofs.Sealings.{AllOf, all_of_sealing, live_at, from_at}
-use Rattle.tlp_layout.proofs.Readings.{read_spells_tlp}
-use Rattle.tlp_layout.specs.Numbers.{bit, routing_bits}
-use Rattle.tlp_layout.specs.Head.{type_of}
-use Rattle.tlp_layout.specs.Class.{layout_of, kind_of_layout, kind_class}
-use Rattle.tlp_layout.specs.declared.head.Fields.{Fields}
-use Rattle.tlp_layout.specs.declared.head.Fields.TheVariants.{Memory, Config, Message, Completion}
-use Rattle.tlp_layout.specs.declared.head.Routing.{Routing}
 use Rattle.tlp_layout.specs.Outgoing.{Outgoing, NoTlp, OnNone, OnStream, stream_taken}
 use Rattle.spec_links.proofs.Terms.{Access, WaitingRead, Site, site_of_requester, granted_to, answer_due, site_answer}
 use Rattle.spec_links.proofs.Terms.{completion_verdict, outgoing_completion, is_stream, is_before}
@@ -24,8 +17,6 @@ use Rattle.spec_links.specs.Due.{send_due, draw_of, first_that_holds, refusals}
 use Rattle.spec_links.specs.Memory.{writes}
 use Rattle.spec_links.specs.History.{no_packet}
 use Rattle.trusted_memory.specs.Writes.{byte_last_written}
-use Rattle.trusted_memory.specs.declared.read.MemReadView.{MemReadView}
-unfoldable use Rattle.trusted_memory.specs.Completions.{completion_bytes}
 use Rattle.spec_interfaces.specs.Views.{view_at, floor_at}
 use Rattle.spec_interfaces.specs.Cause.{SealFits, t_at, owner_read, owners_link}
 use Rattle.spec_interfaces.specs.Devices.{peer_t}
@@ -33,6 +24,9 @@ use Rattle.spec_links.specs.Plan.{has_link}
 use Rattle.std.specs.Prelude.{length, nat_le}
 use Rattle.ide_types.specs.declared.binding.Binding.{Binding}
 use Rattle.ide_types.specs.declared.port.Side.TheVariants.{Host}
+use Rattle.ide_types.specs.Ports.{host_port}
+use Rattle.spec_links.specs.Terms.{host_completer}
+use Rattle.spec_links.proofs.Causes.{sealing_comes}
 use Rattle.event_verdicts.proofs.Admits.{Admits, binding_admits}
 use Rattle.event_verdicts.specs.declared.verdict.BlockCause.{BlockCause}
 use Rattle.event_verdicts.specs.declared.verdict.BlockCause.TheVariants as blocks
@@ -45,26 +39,36 @@ use Rattle.law_reads.proofs.Order.{reads_in_order}
 use Rattle.law_reads.proofs.Requesters.{requester_meets, same_number}
 use Rattle.law_memory.specs.ReadLaws.{IsOldest, Carries, IsReadAnswered, IsDropped, AnswersOldest, ReadLaw}
 use Rattle.law_memory.proofs.Causes.{sent_fits}
+use Rattle.law_memory.proofs.Completions.{completion_class}
 use Rattle.law_memory.proofs.Found.{found_by_number}
 use Rattle.law_memory.proofs.Origins.{if_bound}
 use Rattle.std.proofs.lemmas.Bool.{true≢false}
 
 -- ---- the oldest that waits
 
+-- what it comes to
+abbrev pub host_answer : Plan → History → ℕ → WaitingRead → Verdict
+host_answer plan h link r = site_answer plan h (host_port link) r.came.draw
+    (site_of_requester plan link r.read.requester) (outgoing_completion plan h link)
+
+abbrev pub FirstAnswered : Plan → History → ℕ → Verdict → Type 0
+FirstAnswered plan h link w = First plan h (host_port link) (host_answer plan h link) w
+
 pub record Owned (plan : Plan) (h : History) (link : ℕ) (w : Verdict) (read : WaitingRead) : Type 0 where
   pub site : Site
   pub owns : site_of_requester plan link read.read.requester ≡ Some site
-  pub is : w ≡ completion_verdict plan h (sending_port plan (Access (ae.Answer link))) site.number read.draw
+  pub is : w ≡ completion_verdict plan h (host_port link) site.number read.came.draw
       (granted_to h (Some site)) (outgoing_completion plan h link)
 
 pub owned_means : (plan : Plan) (h : History) (link : ℕ) (w : Verdict) (read : WaitingRead) (o : Option Site)
     → takes w ≡ true → site_of_requester plan link read.read.requester ≡ o
-    → w ≡ site_answer plan h (sending_port plan (Access (ae.Answer link))) read.draw o (outgoing_completion plan h link)
+    → w ≡ site_answer plan h (host_port link) read.came.draw o (outgoing_completion plan h
+    link)
     → Owned plan h link w read
 owned_means plan h link w read None take owns is = absurd (clash w v.Nothing take refl is)
 owned_means plan h link w read (Some x) take owns is = record { site = x; owns = owns; is = is }
 
-abbrev oldest_of : (plan : Plan) (h : History) (link : ℕ) (w : Verdict) (first : First plan h link w)
+abbrev oldest_of : (plan : Plan) (h : History) (link : ℕ) (w : Verdict) (first : FirstAnswered plan h link w)
     (owned : Owned plan h link w first.read) → IsOldest plan h link
 oldest_of plan h link w first owned =
     let meets = requester_meets plan link first.read.read.requester owned.site owned.owns in
@@ -122,11 +126,11 @@ dropped_by plan h port i n draw cause (Some b) out is =
     by None is = admitted (is_before (live_key h port (lane_out port b.stream Cpl)) b.floor) is
 
 dropped_with : (plan : Plan) (h : History) (link i : ℕ) (cause : BlockCause)
-    (first : First plan h link (v.Access (av.Dropped i cause)))
+    (first : FirstAnswered plan h link (v.Access (av.Dropped i cause)))
     (owned : Owned plan h link (v.Access (av.Dropped i cause)) first.read) → IsDropped plan h link i
 dropped_with plan h link i cause first owned = record {
   of = oldest_of plan h link (v.Access (av.Dropped i cause)) first owned;
-  number = dropped_by plan h (sending_port plan (Access (ae.Answer link))) i owned.site.number first.read.draw cause
+  number = dropped_by plan h (host_port link) i owned.site.number first.read.came.draw cause
       (granted_to h (Some owned.site)) (outgoing_completion plan h link) owned.is;
 }
 
@@ -134,7 +138,7 @@ dropped : (plan : Plan) (h : History) (link i : ℕ) (cause : BlockCause)
     → v.Access (av.Dropped i cause) ≡ answer_due plan h link → IsDropped plan h link i
 dropped plan h link i cause is =
     let w = v.Access (av.Dropped i cause) in
-    let first = first_means plan h link w refl is in
+    let first = first_means plan h (host_port link) (host_answer plan h link) w refl is in
     dropped_with plan h link i cause first
     (owned_means plan h link w first.read (site_of_requester plan link first.read.read.requester) refl refl first.is)
 
@@ -145,39 +149,41 @@ pub record Under (plan : Plan) (h : History) (link : ℕ) (ds : List SealedPacke
   pub is : granted_to h (Some x) ≡ Some bound
   pub stream : is_stream bound.stream (stream_taken (outgoing_completion plan h link)) ≡ true
   pub fresh : nat_lt draw bound.floor ≡ false
-  pub key : is_before (live_key h (sending_port plan (Access (ae.Answer link)))
-      (lane_out (sending_port plan (Access (ae.Answer link))) bound.stream Cpl)) bound.floor ≡ false
-  pub sent : Sealed ds ≡ send_due plan h (sending_port plan (Access (ae.Answer link))) (outgoing_completion plan h link)
+  pub key : is_before (live_key h (host_port link)
+      (lane_out (host_port link) bound.stream Cpl)) bound.floor ≡ false
+  pub sent : Sealed ds ≡ send_due plan h (host_port link) (outgoing_completion plan h
+      link)
       false true
 
 pub under_means : (plan : Plan) (h : History) (link : ℕ) (ds : List SealedPacket) (x : Site) (draw : ℕ)
     (o : Option Binding) → granted_to h (Some x) ≡ o → Sealed ds
-    ≡ completion_verdict plan h (sending_port plan (Access (ae.Answer link))) x.number draw o
+    ≡ completion_verdict plan h (host_port link) x.number draw o
     (outgoing_completion plan h link) → Under plan h link ds x draw
 under_means plan h link ds x draw None bound is = absurd cc
 under_means plan h link ds x draw (Some b) bound is =
     by (binding_cause b (stream_taken (outgoing_completion plan h link)) draw) refl is
   where
     admitted : Admits b (stream_taken (outgoing_completion plan h link)) draw → (r : Bool)
-        → is_before (live_key h (sending_port plan (Access (ae.Answer link)))
-        (lane_out (sending_port plan (Access (ae.Answer link))) b.stream Cpl)) b.floor ≡ r
+        → is_before (live_key h (host_port link)
+        (lane_out (host_port link) b.stream Cpl)) b.floor ≡ r
         → Sealed ds ≡ (if r then v.Interface
-        (iv.RefusedRefreshFirst (draw_of (live_key h (sending_port plan (Access (ae.Answer link)))
-        (lane_out (sending_port plan (Access (ae.Answer link))) b.stream Cpl))) b.floor)
-        else send_due plan h (sending_port plan (Access (ae.Answer link))) (outgoing_completion plan h link) false true)
+        (iv.RefusedRefreshFirst (draw_of (live_key h (host_port link)
+        (lane_out (host_port link) b.stream Cpl))) b.floor)
+        else send_due plan h (host_port link) (outgoing_completion plan h link) false
+        true)
         → Under plan h link ds x draw
     admitted a true k is = absurd cc
     admitted a false k is = record
         { bound = b; is = bound; stream = a.stream; fresh = a.fresh; key = k; sent = is }
 
     by : (c : Option BlockCause) → binding_cause b (stream_taken (outgoing_completion plan h link)) draw ≡ c → Sealed ds
-        ≡ answer_judged plan h (sending_port plan (Access (ae.Answer link))) (outgoing_completion plan h link)
+        ≡ answer_judged plan h (host_port link) (outgoing_completion plan h link)
         (judged_by x.number b c) → Under plan h link ds x draw
     by (Some c) blocked is = absurd cc
     by None none is =
         admitted (binding_admits b (stream_taken (outgoing_completion plan h link)) draw none)
-        (is_before (live_key h (sending_port plan (Access (ae.Answer link)))
-        (lane_out (sending_port plan (Access (ae.Answer link))) b.stream Cpl)) b.floor) refl is
+        (is_before (live_key h (host_port link)
+        (lane_out (host_port link) b.stream Cpl)) b.floor) refl is
 
 none_before : (o : Option KeyName) (key : KeyName) (floor : ℕ) → o ≡ Some key → is_before o floor ≡ false
     → floor ≤ key.draw
@@ -208,9 +214,9 @@ host_t plan h link owner stream has = by (nat_le 24 link) (nat_lt link (length p
 
 carried : (plan : Plan) (h : History) (link : ℕ) (x : Site) (bound : Binding) (port : PortName) (stream : ℕ)
     (d : SealedPacket) → bound ≡ record { stream = x.plan.stream; floor = floor_at h x }
-    → port ≡ sending_port plan (Access (ae.Answer link)) → stream ≡ bound.stream
-    → is_before (live_key h (sending_port plan (Access (ae.Answer link)))
-    (lane_out (sending_port plan (Access (ae.Answer link))) bound.stream Cpl)) bound.floor ≡ false
+    → port ≡ host_port link → stream ≡ bound.stream
+    → is_before (live_key h (host_port link)
+    (lane_out (host_port link) bound.stream Cpl)) bound.floor ≡ false
     → IsLive plan h port stream d → (d.sync ≡ false → d.sub ≡ Cpl)
     → has_link plan link ≡ true → SealFits plan h (sent_bytes plan h (Access (ae.Answer link))) true d
     → Carries h link x d
@@ -225,8 +231,8 @@ carried plan h link x bound port stream d bound_is port_is stream_is key live cl
   sub_is = class;
   draw_is = λ plain.
       let is_cpl = class plain in
-      let there : live_key h (sending_port plan (Access (ae.Answer link)))
-      (lane_out (sending_port plan (Access (ae.Answer link))) bound.stream Cpl) ≡ Some live.key =
+      let there : live_key h (host_port link)
+      (lane_out (host_port link) bound.stream Cpl) ≡ Some live.key =
       sym (λ i. live_key h (port_is i) (lane_out (port_is i) (stream_is i) (is_cpl i))) ∙ live.live in
       let up = none_before _ live.key bound.floor there key in
       let floor : bound.floor ≡ floor_at h x = ap (λ (c : Binding). c.floor) bound_is in
@@ -235,9 +241,9 @@ carried plan h link x bound port stream d bound_is port_is stream_is key live cl
 
 all_carried : (plan : Plan) (h : History) (link : ℕ) (x : Site) (bound : Binding) (port : PortName) (stream : ℕ)
     (ds : List SealedPacket) → bound ≡ record { stream = x.plan.stream; floor = floor_at h x }
-    → port ≡ sending_port plan (Access (ae.Answer link)) → stream ≡ bound.stream
-    → is_before (live_key h (sending_port plan (Access (ae.Answer link)))
-    (lane_out (sending_port plan (Access (ae.Answer link))) bound.stream Cpl)) bound.floor ≡ false
+    → port ≡ host_port link → stream ≡ bound.stream
+    → is_before (live_key h (host_port link)
+    (lane_out (host_port link) bound.stream Cpl)) bound.floor ≡ false
     → AllLive plan h port stream ds → AllByRecursion (λ (d : SealedPacket). d.sync ≡ false → d.sub ≡ Cpl) ds
     → has_link plan link ≡ true → AllByRecursion (SealFits plan h (sent_bytes plan h (Access (ae.Answer link))) true) ds
     → AllByRecursion (Carries h link x) ds
@@ -260,39 +266,11 @@ all_class plan port stream live from class xs (d ∷ ds) is all = (
 pub not_less : (m n : ℕ) → nat_lt m n ≡ false → n ≤ m
 not_less m n e = grind (arith, nat_tests)
 
--- ---- what is read of a completion's bytes is a completion: no other begins with the byte 4Ah
-
-no_message : (r : Routing) (has wide : Bool) → 74 ≡ 64 * bit has + 32 * bit wide + (16 + routing_bits r) → ⊥
-no_message r has wide is = grind arith
-
-no_memory : (has wide : Bool) → 74 ≡ 64 * bit has + 32 * bit wide + 0 → ⊥
-no_memory has wide is = grind arith
-
-no_config : (has wide one : Bool) → 74 ≡ 64 * bit has + 32 * bit wide + (4 + bit one) → ⊥
-no_config has wide one is = grind arith
-
-class_by : (has wide : Bool) (fields : Fields) → 74 ≡ 64 * bit has + 32 * bit wide + type_of fields
-    → kind_class (kind_of_layout (layout_of fields) has) ≡ Cpl
-class_by has wide (Memory f) is = absurd (no_memory has wide is)
-class_by has wide (Config f) is = absurd (no_config has wide f.one is)
-class_by has wide (Message f) is = absurd (no_message f.routing has wide is)
-class_by has wide (Completion f) is = refl
-
-first_of : List ℕ → ℕ
-first_of [] = 0
-first_of (b ∷ bs) = b
-
-pub completion_class : (byte : ℕ → ℕ) (r : MemReadView) (t : Tlp) → read_of (completion_bytes byte r) ≡ Ok t
-    → class_of (header t) ≡ Cpl
-unfolding completion_bytes first_of
-completion_class byte r t is = class_by (header t).has_payload (header t).lead.wide (header t).fields
-    (ap first_of ((read_spells_tlp t (completion_bytes byte r)).1 is).spelled)
-
 -- ---- the completion
 
 answered_with : (plan : Plan) → DrawFacts plan → (h : History) (link : ℕ) (ds : List SealedPacket) → CauseLaw plan h
-    → Sealed ds ≡ due plan h (Access (ae.Answer link)) → (first : First plan h link (Sealed ds))
-    (owned : Owned plan h link (Sealed ds) first.read) → Under plan h link ds owned.site first.read.draw
+    → Sealed ds ≡ due plan h (Access (ae.Answer link)) → (first : FirstAnswered plan h link (Sealed ds))
+    (owned : Owned plan h link (Sealed ds) first.read) → Under plan h link ds owned.site first.read.came.draw
     → IsReadAnswered plan h link ds
 answered_with plan facts h link ds cause due_is first owned under =
     let e = Access (ae.Answer link) in
@@ -300,40 +278,42 @@ answered_with plan facts h link ds cause due_is first owned under =
     let view = if_bound (view_at h owned.site) owned.site.plan.stream (floor_at h owned.site) under.bound under.is in
     let sealing = sealing_is plan h e ds due_is in
     let reads = subst (λ (bs : List ℕ). read_of bs ≡ Ok sealing.tlp) bytes sealing.reads in
-    let class = sealing.class ∙ completion_class (byte_last_written (writes plan h)) first.read.read sealing.tlp reads
+    let class = sealing.class ∙ completion_class host_completer (byte_last_written (writes plan h)) first.read.read
+    sealing.tlp reads
     in
     let t = sealing.sending in
     let stream =
-    took (outgoing_completion plan h link) sealing.tlp under.bound.stream t.stream sealing.comes under.stream in
+    took (outgoing_completion plan h link) sealing.tlp under.bound.stream t.stream
+    (sealing_comes plan h e ds due_is refl) under.stream in
     record {
       of = oldest_of plan h link (Sealed ds) first owned;
       view = view.0;
       floor =
           let f : under.bound.floor ≡ floor_at h owned.site = ap (λ (c : Binding). c.floor) view.1 in
-          let up = not_less first.read.draw under.bound.floor under.fresh in
+          let up = not_less first.read.came.draw under.bound.floor under.fresh in
           omega (arith, f, up);
       bytes = bytes;
       tlp = sealing.tlp;
       reads = sealing.reads;
       packets = all_carried plan h link owned.site under.bound t.port t.stream ds view.1 sealing.at_port stream
-          under.key (all_live plan h (sending_port plan e) (sent_bytes plan h e) ds sealing)
+          under.key (all_live plan h (host_port link) (sent_bytes plan h e) ds sealing)
           (all_class plan t.port t.stream (live_at plan h t.port t.stream) (from_at plan h t.port t.stream) t.class
           (sealed_packets plan h) ds class
-          (all_of_sealing plan facts h cause (sending_port plan e) (sent_bytes plan h e) ds sealing))
+          (all_of_sealing plan facts h cause (host_port link) (sent_bytes plan h e) ds sealing))
           first.known
-          (sent_fits plan h (sending_port plan e) (sent_bytes plan h e) false true ds (λ host. absurd cc) under.sent);
+          (sent_fits plan h (host_port link) (sent_bytes plan h e) false true ds (λ host. absurd cc) under.sent);
     }
 
 answered : (plan : Plan) → DrawFacts plan → (h : History) (link : ℕ) (ds : List SealedPacket) → CauseLaw plan h
     → Sealed ds ≡ due plan h (Access (ae.Answer link)) → Sealed ds ≡ answer_due plan h link
     → IsReadAnswered plan h link ds
 answered plan facts h link ds cause due_is is =
-    let first = first_means plan h link (Sealed ds) refl is in
+    let first = first_means plan h (host_port link) (host_answer plan h link) (Sealed ds) refl is in
     let owned = owned_means plan h link (Sealed ds) first.read (site_of_requester plan link first.read.read.requester)
     refl refl
     first.is in
     answered_with plan facts h link ds cause due_is first owned
-    (under_means plan h link ds owned.site first.read.draw (granted_to h (Some owned.site)) refl owned.is)
+    (under_means plan h link ds owned.site first.read.came.draw (granted_to h (Some owned.site)) refl owned.is)
 
 answers_oldest : (plan : Plan) → DrawFacts plan → (h : History) (e : Event) (w : Verdict) → CauseLaw plan h
     → w ≡ due plan h e → AnswersOldest plan h e w

@@ -15,12 +15,12 @@ use Rattle.law_sealing.proofs.Terms.{◌++◌, length, take, drop, slice_get, Op
 use Rattle.law_sealing.proofs.Terms.{◌<◌, sym, ◌∙◌, arith, nat_tests, if◌then◌else◌, Plan, SubStream, History, Event}
 use Rattle.law_sealing.proofs.Terms.{Send, Verdict, Sealed, Accepted, UnitName, Effect, SealedPacket, Packet, Prefix}
 use Rattle.law_sealing.proofs.Terms.{PortName, is_sync_packet, is_same-refl, received_in, sent_packets, CauseLaw}
-use Rattle.law_sealing.proofs.Terms.{DrawFacts, StreamsFit, Tlp, header, head_bytes, read_of, sub_stream_of}
-use Rattle.law_sealing.proofs.Terms.{sealed_same, eqb-refl}
+use Rattle.law_sealing.proofs.Terms.{DrawFacts, StreamsFit, read_of, sub_stream_of}
+use Rattle.law_sealing.proofs.Terms.{sealed_same, eqb-refl, is_some}
 unfoldable use Rattle.law_sealing.proofs.Terms.{accepted_packets, sealed_packets, packet_of}
 use Rattle.std.proofs.lemmas.List.{length-take-le}
 use Rattle.std.proofs.lemmas.Option.{same_Some}
-use Rattle.std.specs.Option.{option_and_then}
+use Rattle.std.specs.Option.{option_and_then, option_map}
 use Rattle.ide_types.specs.Sub.{sent_direction, received_direction}
 use Rattle.ide_types.specs.declared.port.Side.{Side}
 use Rattle.ide_types.specs.declared.port.Side.TheVariants.{Device}
@@ -29,9 +29,9 @@ use Rattle.ide_types.specs.declared.plan.Region.{Region}
 use Rattle.tlp_layout.specs.declared.head.HeadView.{HeadView}
 use Rattle.tlp_layout.specs.declared.fault.TlpFault.{TlpFault}
 use Rattle.tlp_layout.specs.Reading.{read_head_of}
-use Rattle.std.proofs.Common.{get_or, subst}
-use Rattle.tlp_layout.proofs.Heads.{kept, head_size_at_least}
-use Rattle.tlp_layout.proofs.Readings.{read_head_spells}
+use Rattle.std.proofs.Common.{subst}
+use Rattle.trusted_memory.specs.declared.span.Span.{Span}
+use Rattle.trusted_memory.specs.Spans.{span_of}
 use Rattle.trusted_memory.specs.Writes.{Write, memory_write}
 use Rattle.spec_links.specs.History.{head_in}
 unfoldable use Rattle.spec_links.specs.History.{sub_stream_packets}
@@ -39,7 +39,6 @@ use Rattle.trusted_memory.specs.Admitted.{is_on_bound, if_placed}
 use Rattle.spec_links.specs.Memory.{requester_bound, payload_write, write_if_admitted, admitted_each, unit_ended}
 use Rattle.spec_links.specs.Memory.{plain_of}
 use Rattle.law_key_facts.proofs.Given.{key_cause}
-use Rattle.law_sealing.proofs.Below.{is_read}
 use Rattle.law_sealing.proofs.Bounds.{prefix_is}
 use Rattle.law_sealing.proofs.Places.{place_among}
 use Rattle.law_sealing.proofs.Fronts.{at_front}
@@ -60,7 +59,8 @@ use Rattle.law_memory.specs.Origin.{IsFrom, AreFrom}
 use Rattle.law_memory.proofs.Causes.{interface_cause}
 use Rattle.spec_interfaces.proofs.OnLinks.{number_on_link}
 use Rattle.law_memory.proofs.Found.{get_less, all_get, get_behind, IsNew, sealing_of, cause_before, trusted_before}
-use Rattle.law_memory.proofs.Found.{found_by_number}
+use Rattle.law_memory.proofs.Found.{found_by_number, head_is, head_of, not_synced}
+use Rattle.law_memory.proofs.Responses.{by_send}
 use Rattle.law_reads.proofs.Requesters.{requester_meets}
 
 -- ---- what it means that a write is admitted
@@ -82,7 +82,19 @@ pub record Admitted (plan : Plan) (h : History) (port : PortName) (unit : UnitNa
   pub reads : read_head_of p.head ≡ Ok head
   pub host : (sent_direction port.side == 0) ≡ true
   pub trusted : p.prefix.t ≡ true
+  pub request : is_some (span_of head) ≡ true
   pub bound : is_on_bound unit.stream unit.draw (requester_bound (grant_at plan h) port head) ≡ true
+
+-- its header is of a memory request
+write_spans : (regions : List Region) (a : Bool) (head : HeadView) (payload : List ℕ) (w : Write)
+    → if_placed regions a (memory_write head payload) ≡ Some w → is_some (span_of head) ≡ true
+write_spans regions a head payload w is = by head.has_payload (span_of head) is
+  where
+    by : (b : Bool) (o : Option Span) → if_placed regions a (option_map (λ s. record { span = s; payload = payload })
+        (if b then o else None)) ≡ Some w → is_some o ≡ true
+    by true (Some s) is = refl
+    by true None is = absurd cc
+    by false o is = absurd cc
 
 placed_means : (regions : List Region) (a : Bool) (o : Option Write) (w : Write) → if_placed regions a o ≡ Some w → a
     ≡ true
@@ -108,7 +120,14 @@ admitted_means plan h port unit p payload w is = by (not (is_sync_packet p)) (at
     by true false true host (Err f) reads is = absurd cc
     by true false true host (Ok head) reads is =
         let tests = both p.prefix.t _ (placed_means plan.memory _ (memory_write head payload) w is) in
-        record { head = head; reads = reads; host = host; trusted = tests.0; bound = tests.1 }
+        record {
+          head = head;
+          reads = reads;
+          host = host;
+          trusted = tests.0;
+          request = write_spans plan.memory _ head payload w is;
+          bound = tests.1;
+        }
 
 -- the interface that it is admitted for
 pub record For (plan : Plan) (h : History) (link stream draw : ℕ) (head : HeadView) : Type 0 where
@@ -201,30 +220,6 @@ each_at plan h port unit plain (p ∷ ps) (suc n) o is =
 
 -- ---- the packet was sealed for the interface
 
-not_synced : (sync t : Bool) → (if sync then false else t) ≡ true → sync ≡ false
-not_synced true t e = absurd cc
-not_synced false t e = refl
-
--- the header that it was sealed with is that of the TLP that was sent
-no_head : (head : HeadView) → read_head_of [] ≡ Ok head → ⊥
-no_head head is =
-    let spells = (read_head_spells head []).1 is in
-    let right = kept head spells.fits in
-    let size = ap length spells.spelled ∙ right.size in
-    omega (arith, size, head_size_at_least (get_or (head_bytes head) 0 0))
-
-pub head_of : (bytes : List ℕ) (head : HeadView) (r : Result Tlp TlpFault) → read_of bytes ≡ r
-    → read_head_of (head_in r) ≡ Ok head → (t : Tlp) × (r ≡ Ok t) × (header t ≡ head)
-head_of bytes head (Ok t) reads is =
-    let again = (read_head_spells (header t) (head_bytes (header t))).0 (is_read bytes t reads).head in
-    (t, refl, cc (again, is))
-head_of bytes head (Err f) reads is = absurd (no_head head is)
-
-head_is : (plan : Plan) (ahead bytes : List ℕ) (d : SealedPacket) (unfinished : List Packet) → d.sync ≡ false
-    → (packet_of plan ahead bytes d unfinished).head ≡ head_in (read_of bytes)
-unfolding packet_of
-head_is plan ahead bytes d unfinished sync = rw sync refl
-
 -- an end with the line of a host's port and the direction that this receives is the far one
 pub at_device_end : (p : PortName) (side : Side) (link : ℕ) → p.line ≡ link → sent_direction p.side
     ≡ received_direction side → (sent_direction side == 0) ≡ true
@@ -312,9 +307,12 @@ origin_of plan whole fits facts h e port unit effects cause forged n p adm stand
     let below = number_on_link plan x for.known in
     let same : d.port.line ≡ x.link = ap (λ (q : PortName). q.line) device ∙ sym for.link_is in
     let on_link : d.port.line < length plan.links = grind (arith, nat_tests, below, same) in
-    let seal = sealing_of plan whole h cause.1 among.place d among.sealed.1 (ap (λ (q : PortName). q.side) device)
+    let sealing = sealing_of plan whole h cause.1 among.place d among.sealed.1 (ap (λ (q : PortName). q.side) device)
     on_link
     among.stands in
+    let seal = by_send plan h cause.1 among.place d among.sealed.1 adm.head sealing
+    (ap (λ (r : Packet). r.prefix.t) among.packet ∙ adm.trusted)
+    (ap (λ (r : Packet). read_head_of r.head) among.packet ∙ adm.reads) adm.request in
     let known = interface_cause plan h cause.1 in
     let fit = all_get (SealFits plan seal.older seal.bytes seal.trusted) seal.ds seal.new.index d
     (cause_before plan ((Send seal.port seal.bytes seal.more seal.trusted, Sealed seal.ds) ∷ seal.older) h seal.came

@@ -3,7 +3,14 @@
 use Rattle.law_sealing.proofs.Terms.{◌≡◌, ℕ, ◌+◌, ◌==◌, ◌&&◌, suc, Bool, true, false, List, [], ◌∷◌, ◌++◌, length}
 use Rattle.law_sealing.proofs.Terms.{Option, Some, refl, ap, subst, ◌∙◌, arith, if◌then◌else◌, All, AllByRecursion}
 use Rattle.law_sealing.proofs.Terms.{Plan}
-use Rattle.std.specs.Prelude.{find, slice_get, ◌||◌}
+use Rattle.std.specs.Prelude.{find, filter, slice_get, AllPairs, ◌||◌}
+use Rattle.std.proofs.Common.{◌≢◌, zero, sym, inl, inr}
+use Rattle.std.proofs.lemmas.Bool.{cases_Bool}
+use Rattle.std.proofs.lemmas.Bool.Decides.{nat_tests}
+use Rattle.std.proofs.lemmas.Option.{get_or_from_slice_get, slice_get_within}
+use Rattle.spec_links.proofs.Tests.{eqb-refl}
+use Rattle.spec_interfaces.specs.Floors.{interfaces_before, site_on}
+use Rattle.spec_interfaces.proofs.Floors.{planned_on, sites_of_is}
 use Rattle.ide_types.specs.declared.stream.StreamPlan.{StreamPlan}
 use Rattle.ide_types.specs.declared.interface.InterfacePlan.{InterfacePlan}
 use Rattle.ide_types.specs.declared.plan.LinkPlan.{LinkPlan}
@@ -88,3 +95,55 @@ own_stream plan fits link requester x is =
     let own = found_planned plan fits (λ y. (y.link == link) && (y.plan.requester == requester)) x is in
     ap (λ (o : Option LinkPlan). own_has_id o x.plan.stream) own.at
     ∙ own_selective x.plan.stream own.link.streams own.fits.stream
+
+-- ---- the one with a requester ID
+
+find_both : {A : Type 0} (p q : A → Bool) (xs : List A) → find (λ x. p x && q x) xs ≡ find q (filter p xs)
+find_both p q [] = refl
+find_both p q (x ∷ xs) = elim (cases_Bool (p x)) [
+  | inl is ↦ rw is (ap (λ o. if q x then Some x else o) (find_both p q xs))
+  | inr is ↦ rw is (find_both p q xs)
+]
+
+plan_at : (number link : ℕ) (ps : List InterfacePlan) (k : ℕ) (x : Site)
+    → slice_get (sites_of_plans number link ps) k ≡ Some x → slice_get ps k ≡ Some x.plan
+plan_at number link [] k x is = absurd cc
+plan_at number link (p ∷ ps) zero x is =
+    let same : record { number = number; link = link; plan = p } ≡ x = cc (is) in ap (λ (y : Site). Some y.plan) same
+plan_at number link (p ∷ ps) (suc k) x is = plan_at (number + 1) link ps k x is
+
+abbrev RequestersDiffer : List InterfacePlan → Type 0
+RequestersDiffer ps = AllPairs (λ i j. i.requester ≢ j.requester) ps
+
+other_number : (m n : ℕ) → m ≢ n → (m == n) ≡ false
+other_number m n other = grind (arith, nat_tests, other)
+
+first_with : (number link : ℕ) (ps : List InterfacePlan) → RequestersDiffer ps → (k : ℕ) (x : Site)
+    → slice_get (sites_of_plans number link ps) k ≡ Some x
+    → find (λ y. y.plan.requester == x.plan.requester) (sites_of_plans number link ps) ≡ Some x
+first_with number link [] differ k x is = absurd cc
+first_with number link (p ∷ ps) differ zero x is =
+    let same : record { number = number; link = link; plan = p } ≡ x = cc (is) in
+    let here : (p.requester == x.plan.requester) ≡ true =
+    subst (λ (y : Site). (p.requester == y.plan.requester) ≡ true) same (eqb-refl p.requester) in
+    rw here (ap Some same)
+first_with number link (p ∷ ps) differ (suc k) x is =
+    let at = plan_at (number + 1) link ps k x is in
+    let other = subst (λ (q : InterfacePlan). p.requester ≢ q.requester) (get_or_from_slice_get ps k x.plan p at)
+    (differ 0 (suc k) p (omega arith) (omega (arith, slice_get_within ps k x.plan at))) in
+    rw (other_number p.requester x.plan.requester other)
+    (first_with (number + 1) link ps (λ i j d less within. differ (suc i) (suc j) d (omega arith) (omega arith)) k x is)
+
+planned_apart : (ls : List LinkPlan) → All FitsLink ls → (link : ℕ) → RequestersDiffer (planned_on ls link)
+planned_apart [] each link = λ i j d less within. absurd (omega (arith, within))
+planned_apart (l ∷ ls) each zero = (each 0 l (omega arith)).requesters_differ
+planned_apart (l ∷ ls) each (suc link) = planned_apart ls (λ k d less. each (suc k) d (omega arith)) link
+
+pub requested : (plan : Plan) → FitsPlan plan → (link place : ℕ) (x : Site) → site_on plan link place ≡ Some x
+    → site_of_requester plan link x.plan.requester ≡ Some x
+requested plan fits link place x is =
+    let there = ap (λ (xs : List Site). slice_get xs place) (sym (sites_of_is plan link)) ∙ is in
+    find_both (λ (y : Site). y.link == link) (λ (y : Site). y.plan.requester == x.plan.requester) (sites plan)
+    ∙ ap (find (λ (y : Site). y.plan.requester == x.plan.requester)) (sites_of_is plan link)
+    ∙ first_with (interfaces_before plan.links link) link (planned_on plan.links link)
+    (planned_apart plan.links fits.each_link link) place x there

@@ -13,7 +13,7 @@ use Rattle.law_memory.specs.ReadLaws.{QueuedFrom}
 abbrev pub LocalOriginLaw : Plan → History → Type 0
 LocalOriginLaw plan h = EachPairIf UnitIsUnforged AreFrom plan h
 
--- each queued read
+-- each read that is queued at a host's port
 abbrev pub LocalReadOriginLaw : Plan → History → Type 0
 LocalReadOriginLaw plan h = EachPairIf UnitIsUnforged QueuedFrom plan h
 

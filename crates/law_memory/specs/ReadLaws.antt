@@ -1,7 +1,11 @@
 -- Trusted reads: they are answered in order, each from memory as it is then, and each was sealed by its interface.
-use Rattle.std.specs.Prelude.{ℕ, ◌+◌, ◌≤◌, ◌≡◌, ◌∷◌, true, false, [], length, List, Some, Ok, slice_get}
+use Rattle.std.specs.Prelude.{ℕ, ◌+◌, ◌≤◌, ◌≡◌, ◌==◌, ◌∷◌, Bool, true, false, [], length, List, Some, Ok, slice_get}
 use Rattle.spec_links.specs.Terms.{AllByRecursion, Host, Plan, Event, Access, Verdict, Accepted, Sealed, SealedPacket}
+use Rattle.spec_links.specs.Terms.{Reset}
 use Rattle.spec_links.specs.Terms.{Packet, History, Tlp, read_of, byte_last_written, completion_bytes, WaitingRead}
+use Rattle.spec_links.specs.Terms.{host_completer}
+use Rattle.spec_links.specs.Ports.{port_of, is_host_port}
+use Rattle.ide_types.specs.Ports.{host_port}
 use Rattle.spec_links.specs.History.{sent_bytes, accepted_packets, received_in}
 use Rattle.spec_links.specs.Memory.{queued_reads, writes, unit_ended}
 use Rattle.spec_links.specs.Sent.{reads_taken}
@@ -22,7 +26,7 @@ use Rattle.law_memory.specs.Origin.{IsFrom}
 -- the link's last reset it is the one behind those that answers took.
 pub record IsOldest (plan : Plan) (h : History) (link : ℕ) : Type 0 where
   pub read : WaitingRead
-  pub oldest : slice_get (queued_reads plan h link) (reads_taken h link) ≡ Some read
+  pub oldest : slice_get (queued_reads plan h (host_port link)) (reads_taken h (host_port link)) ≡ Some read
   pub interface : Site
   pub known : site_at plan interface.number ≡ Some interface
   pub link_is : interface.link ≡ link
@@ -43,9 +47,9 @@ pub record Carries (h : History) (link : ℕ) (interface : Site) (d : SealedPack
 pub record IsReadAnswered (plan : Plan) (h : History) (link : ℕ) (ds : List SealedPacket) : Type 0 where
   pub of : IsOldest plan h link
   pub view : view_at h of.interface ≡ Running
-  pub floor : floor_at h of.interface ≤ of.read.draw
+  pub floor : floor_at h of.interface ≤ of.read.came.draw
   pub bytes : sent_bytes plan h (Access (ae.Answer link))
-      ≡ completion_bytes (byte_last_written (writes plan h)) of.read.read
+      ≡ completion_bytes host_completer (byte_last_written (writes plan h)) of.read.read
   pub tlp : Tlp
   pub reads : read_of (sent_bytes plan h (Access (ae.Answer link))) ≡ Ok tlp
   pub packets : AllByRecursion (Carries h link of.interface) ds
@@ -60,8 +64,9 @@ AnswersOldest plan h (Access (ae.Answer link)) (Sealed ds) = IsReadAnswered plan
 AnswersOldest plan h (Access (ae.Answer link)) (v.Access (av.Dropped interface cause)) = IsDropped plan h link interface
 AnswersOldest plan h e w = Unit {0}
 
--- After each pair: an answer took the oldest read; what answers took is a prefix, in order, of what was queued; no more
--- than 64 wait.
+-- After each pair: an answer took the oldest read of its host's port; what was taken at each port is a prefix, in
+-- order,
+-- of what was queued there; no more than 64 wait at one.
 abbrev pub ReadLaw : Plan → History → Type 0
 ReadLaw plan [] = Unit {0}
 ReadLaw plan ((e, w) ∷ h) =
@@ -69,10 +74,16 @@ ReadLaw plan ((e, w) ∷ h) =
 
 -- ---- where queued reads come from
 
--- A queued read is packet n of its unit, and was sealed by the interface of its requester ID in the very RUN, under the
--- very lock, that it is queued for.
+-- the pair resets the link, and with it the queues at its ports
+abbrev pub resets : ℕ → Event → Verdict → Bool
+resets link (Reset k ends) (v.Reset l) = l == link
+resets link e w = false
+
+-- A read that is queued at a host's port is packet n of its unit, and was sealed by the interface of its requester ID
+-- in the very RUN, under the very lock, that it is queued for.
 abbrev pub QueuedFrom : Plan → History → Event → Verdict → Type 0
 QueuedFrom plan h e (Accepted port unit effects) =
-    (n : ℕ) (p : Packet) → slice_get effects n ≡ Some Queued → slice_get (unit_ended plan h e port unit) n ≡ Some p
+    is_host_port plan (port_of plan port) ≡ true
+    → (n : ℕ) (p : Packet) → slice_get effects n ≡ Some Queued → slice_get (unit_ended plan h e port unit) n ≡ Some p
     → IsFrom plan h port unit p (length (accepted_packets plan h (received_in port unit) unit.draw) + n)
 QueuedFrom plan h e w = Unit {0}

@@ -21,10 +21,10 @@ pub fn memory_law()
     ensures { MemoryLawHolds }
 {}
 
-/// In every history in which each verdict is the one that is due, answers take the reads of a link in the order in
-/// which they were queued since its last reset, and no more than 64 wait. A completion is that of the oldest read, from
-/// memory as it is then. It has T, and is sealed on its interface's bound stream under a draw from its floor on, while
-/// the manager's view of the interface is Running.
+/// In every history in which each verdict is the one that is due, reads are taken at each port in the order in which
+/// they were queued there since the last reset of its link, and no more than 64 wait at a port. What an answer seals is
+/// the completion of the oldest read at the host's port, from trusted memory as it is then. It has T, and is sealed on
+/// its interface's bound stream under a draw from its floor on, while the manager's view of the interface is Running.
 pub fn read_law()
     ensures { ReadLawHolds }
 {}
@@ -37,7 +37,7 @@ pub fn origin_law()
     ensures { LocalOriginLawHolds }
 {}
 
-/// So it is of each queued read.
+/// So it is of each read that is queued at a host's port.
 pub fn read_origin_law()
     ensures { LocalReadOriginLawHolds }
 {}

@@ -1,21 +1,19 @@
 -- While a lock stands, a byte of a range that is not open changes only by a write that is stored in RUN.
 use Rattle.std.proofs.Common.{subst, ◌≡◌, ◌≢◌, ℕ, ◌+◌, ◌≤◌, ◌==◌, ◌&&◌, ◌||◌, ◌∷◌, zero, suc, Bool, true, false, not}
-use Rattle.std.proofs.Common.{List, [], Option, Some, None, Result, Ok, Err, length, if◌then◌else◌, refl, sym, ap, ◌∙◌}
+use Rattle.std.proofs.Common.{List, [], Option, Some, None, Result, Ok, length, if◌then◌else◌, refl, sym, ap, ◌∙◌}
 use Rattle.std.proofs.Common.{inl, inr, arith}
 use Rattle.law_mmio.proofs.OnLinks.{no_switch}
-use Rattle.spec_links.specs.Ports.{at_switch, port_of}
-use Rattle.spec_links.specs.Admission.{effects_under_policy}
+use Rattle.spec_links.specs.Ports.{port_of}
 use Rattle.std.specs.Prelude.{slice_get, slice_index, take, drop}
 use Rattle.std.specs.Option.{option_map, option_map_or}
 use Rattle.std.proofs.lemmas.Bool.{and_parts, cases_Bool, true≢false, eqb-true, leb-true}
 use Rattle.spec_links.specs.Terms.{PortName, Plan, Event, Effect, UnitName, Verdict, Accepted, Packet, History}
-use Rattle.spec_links.specs.Terms.{is_sync_packet, read_head_of, TlpFault, Write, newest_first, write_span}
+use Rattle.spec_links.specs.Terms.{read_head_of, TlpFault, Write, newest_first, memory_write, write_span}
 use Rattle.spec_links.specs.Terms.{byte_last_written}
 use Rattle.tlp_layout.specs.declared.head.HeadView.{HeadView}
 use Rattle.spec_links.specs.Plan.{is_same_port}
 unfoldable use Rattle.spec_links.specs.Due.{due}
-use Rattle.spec_links.specs.Memory.{Policy, unit_ended, plain_of, policy_at, device_effect, effect_by, waiting_then}
-use Rattle.spec_links.specs.Memory.{effects_each, effects_of}
+use Rattle.spec_links.specs.Memory.{unit_ended, plain_of, policy_at, effect_by}
 use Rattle.spec_links.proofs.Tests.{same_port, eqb-refl}
 use Rattle.interface_state.specs.Machine.{all_bindings, DeviceTdi, Call, StopInterface, LevelReset}
 use Rattle.interface_state.specs.Machine.{interface_after_call}
@@ -54,7 +52,8 @@ use Rattle.ide_types.specs.Ports.{device_port}
 use Rattle.law_mmio.specs.Stored.{asked_zero, sets_to_zero}
 unfoldable use Rattle.law_mmio.specs.Stored.{writes_since_zero}
 use Rattle.law_mmio.specs.Mmio.{IsStoredInRun, GuardsBytes}
-use Rattle.law_mmio.proofs.SameWrites.{some_is, effects_there}
+use Rattle.law_mmio.proofs.SameWrites.{some_is, effect_there}
+use Rattle.law_mmio.proofs.Units.{is_written}
 use Rattle.law_mmio.proofs.Secure.{Held, not_failed}
 use Rattle.event_verdicts.specs.declared.verdict.BlockCause.{BlockCause}
 use Rattle.event_verdicts.specs.declared.verdict.Effect.TheVariants as effect
@@ -132,15 +131,15 @@ changed_by (Some w ∷ os) ws offset differs = elim (cases_Bool (enables w.span 
 -- ---- the packet that it is of
 
 -- by its effect in the verdict
-pub record IsStored (xs : List InterfaceStatus) (place bar : ℕ) (es : List Effect) (ps : List Packet) (n : ℕ)
+record IsStored (xs : List InterfaceStatus) (place bar : ℕ) (es : List Effect) (ps : List Packet) (n : ℕ)
     (w : Write) :
     Type 0
   where
-    pub packet : Packet
-    pub is_packet : slice_get ps n ≡ Some packet
-    pub effect_is : slice_get es n ≡ Some effect.Stored
-    pub payload : List ℕ
-    pub claimed : claimed_write xs place bar (write_read payload (read_head_of packet.head)) ≡ Some w
+    packet : Packet
+    is_packet : slice_get ps n ≡ Some packet
+    effect_is : slice_get es n ≡ Some effect.Stored
+    payload : List ℕ
+    claimed : claimed_write xs place bar (write_read payload (read_head_of packet.head)) ≡ Some w
 
 pub of_effect : (e : Effect) (o : Option Write) (w : Write) → if_stored e o ≡ Some w → (e ≡ effect.Stored)
     × (o ≡ Some w)
@@ -149,7 +148,7 @@ of_effect e o w is = grind arith
 none_is_not : {A : Type 0} (x : A) → None ≡ Some x → ⊥
 none_is_not x is = absurd cc
 
-pub stored_at : (xs : List InterfaceStatus) (place bar : ℕ) (plain : List ℕ) (es : List Effect) (ps : List Packet)
+stored_at : (xs : List InterfaceStatus) (place bar : ℕ) (plain : List ℕ) (es : List Effect) (ps : List Packet)
     (n : ℕ) (w : Write) → slice_get (unit_stored_writes xs place bar plain es ps) n ≡ Some (Some w)
     → IsStored xs place bar es ps n w
 stored_at xs place bar plain [] ps n w is = absurd (none_is_not (Some w) is)
@@ -169,25 +168,51 @@ stored_at xs place bar plain (e ∷ es) (p ∷ ps) (suc n) w is =
       claimed = later.claimed;
     }
 
--- by its own cause, which says the same at any place of the unit
-abbrev pub device_effect_of : List InterfaceStatus → UnitName → Packet → Effect
-device_effect_of xs unit p = if is_sync_packet p then effect.Sync else device_effect xs unit p (read_head_of p.head)
+-- why it is stored
+pub record IsWrite (xs : List InterfaceStatus) (place bar : ℕ) (unit : UnitName) (es : List Effect) (ps : List Packet)
+    (n : ℕ) (w : Write) :
+    Type 0
+  where
+    pub packet : Packet
+    pub is_packet : slice_get ps n ≡ Some packet
+    pub effect_is : slice_get es n ≡ Some effect.Stored
+    pub payload : List ℕ
+    pub head : HeadView
+    pub reads : read_head_of packet.head ≡ Ok head
+    pub stored : mmio_effect xs packet.prefix.t unit.stream unit.draw (write_span head) ≡ effect.Stored
+    pub claimed : claimed_write xs place bar (memory_write head payload) ≡ Some w
 
-pub effect_at : (plan : Plan) (policy : Policy) (k link : ℕ) (unit : UnitName) (ps : List Packet) (n : ℕ) (p : Packet)
-    → at_switch plan (device_port link) ≡ false → slice_get ps n ≡ Some p
-    → slice_get (effects_each plan policy k (device_port link) unit ps) n
-    ≡ Some (device_effect_of (policy.statuses link) unit p)
-effect_at plan policy k link unit [] n p off is = absurd (none_is_not p is)
-effect_at plan policy k link unit (q ∷ ps) zero p off is =
-    rw off (ap (λ (r : Packet). Some (device_effect_of (policy.statuses link) unit r)) (some_is q p is))
-effect_at plan policy k link unit (q ∷ ps) (suc n) p off is =
-    effect_at plan policy (waiting_then (effect_by plan policy k (device_port link) unit q) k) link unit ps n p off is
+pub write_at : (plan : Plan) (h : History) (e : Event) (port : PortName) (unit : UnitName) (effects : List Effect)
+    (x : Site) (bar n : ℕ) (w : Write) → Accepted port unit effects ≡ due plan h e → site_at plan x.number ≡ Some x
+    → port_of plan port ≡ device_port x.link
+    → slice_get (stores plan h e (Accepted port unit effects) x bar) n ≡ Some (Some w)
+    → is_same_port (port_of plan port) (device_port x.link) ≡ true
+    → IsWrite (history_statuses plan h x.link) (place_of plan x) bar unit effects (unit_ended plan h e port unit) n w
+write_at plan h e port unit effects x bar n w is known at stands same =
+    let ps = unit_ended plan h e port unit in
+    let xs = history_statuses plan h x.link in
+    let policy = policy_at plan h in
+    let here : slice_get (unit_stored_writes xs (place_of plan x) bar (plain_of plan port unit ps) effects ps) n
+    ≡ Some (Some w) =
+    rw same at stands in
+    let stored = stored_at xs (place_of plan x) bar (plain_of plan port unit ps) effects ps n w here in
+    let there = effect_there plan h e port unit effects is n stored.packet effect.Stored stored.is_packet
+    stored.effect_is in
+    let written = is_written plan policy there.0 x.link unit stored.packet (no_switch plan x known)
+    (subst (λ (q : PortName). effect_by plan policy there.0 q unit stored.packet ≡ effect.Stored) at there.1) in
+    record {
+      packet = stored.packet;
+      is_packet = stored.is_packet;
+      effect_is = stored.effect_is;
+      payload = stored.payload;
+      head = written.head;
+      reads = written.reads;
+      stored = written.stored;
+      claimed = ap (λ (r : Result HeadView TlpFault). claimed_write xs (place_of plan x) bar (write_read stored.payload
+          r)) (sym written.reads) ∙ stored.claimed;
+    }
 
--- ---- why it is stored
-
-pub not_sync : (s : Bool) (e : Effect) → (if s then effect.Sync else e) ≡ effect.Stored → e ≡ effect.Stored
-not_sync true e is = absurd cc
-not_sync false e is = is
+-- ---- what happens
 
 -- the happening is the write's
 record IsHappening (xs : List InterfaceStatus) (t : Bool) (stream draw place bar : ℕ) (w : Write) : Type 0 where
@@ -223,14 +248,6 @@ span_stores xs t stream draw place bar payload None to stored is = absurd (none_
 span_stores xs t stream draw place bar payload (Some s) to stored is =
     let w : Write = record { span = s; payload = payload } in
     record { of = Some w; is = claim_stores (claim_of xs s) w t stream draw place bar to stored is }
-
-head_stores : (xs : List InterfaceStatus) (unit : UnitName) (p : Packet) (place bar : ℕ) (payload : List ℕ) (to : Write)
-    (r : Result HeadView TlpFault) → device_effect xs unit p r ≡ effect.Stored
-    → claimed_write xs place bar (write_read payload r) ≡ Some to
-    → IsHappening xs p.prefix.t unit.stream unit.draw place bar to
-head_stores xs unit p place bar payload to (Err f) stored is = absurd (none_is_not to is)
-head_stores xs unit p place bar payload to (Ok head) stored is =
-    span_stores xs p.prefix.t unit.stream unit.draw place bar payload (write_span head) to stored is
 
 -- a write to a guarded range is admitted: other TLPs change no byte of it
 by_stays : (xs : List InterfaceStatus) (t : Bool) (stream draw place bar offset : ℕ) (w : Write) (x : InterfaceStatus)
@@ -329,28 +346,15 @@ in_run plan h x t stream draw is =
 stored_in_run : (plan : Plan) (h : History) (e : Event) (port : PortName) (unit : UnitName) (effects : List Effect)
     (x : Site) (bar offset : ℕ) → Accepted port unit effects ≡ due plan h e → site_at plan x.number ≡ Some x
     → IsLocked plan h x → has_open_range x.plan.bars bar ≡ false → port_of plan port ≡ device_port x.link
-    → effects ≡ effects_of plan h port unit (unit_ended plan h e port unit)
     → IsEnabled (stores plan h e (Accepted port unit effects) x bar) offset
     → is_same_port (port_of plan port) (device_port x.link) ≡ true
     → IsStoredInRun plan h e (Accepted port unit effects) x bar offset
-stored_in_run plan h e port unit effects x bar offset is known held shut at es enabled same =
-    let ps = unit_ended plan h e port unit in
+stored_in_run plan h e port unit effects x bar offset is known held shut at enabled same =
     let xs = history_statuses plan h x.link in
-    let stands : slice_get (unit_stored_writes xs (place_of plan x) bar (plain_of plan port unit ps) effects ps)
-    enabled.number
-    ≡ Some (Some enabled.write) =
-    rw same at enabled.stands in
-    let are = subst (λ (q : PortName). effects ≡ effects_under_policy plan (policy_at plan h) q unit ps) at es in
-    let stored = stored_at xs (place_of plan x) bar (plain_of plan port unit ps) effects ps enabled.number enabled.write
-    stands in
-    let here : Some (device_effect_of xs unit stored.packet) ≡ Some effect.Stored =
-    sym (effect_at plan (policy_at plan h) ((policy_at plan h).waiting x.link) x.link unit ps enabled.number
-    stored.packet (no_switch plan x known) stored.is_packet)
-    ∙ ap (λ (fs : List Effect). slice_get fs enabled.number) (sym are) ∙ stored.effect_is in
-    let cause = not_sync (is_sync_packet stored.packet) (device_effect xs unit stored.packet
-    (read_head_of stored.packet.head)) (some_is (device_effect_of xs unit stored.packet) effect.Stored here) in
-    let happening = head_stores xs unit stored.packet (place_of plan x) bar stored.payload enabled.write
-    (read_head_of stored.packet.head) cause stored.claimed in
+    let stored = write_at plan h e port unit effects x bar enabled.number enabled.write is known at enabled.stands same
+    in
+    let happening = span_stores xs stored.packet.prefix.t unit.stream unit.draw (place_of plan x) bar stored.payload
+    (write_span stored.head) enabled.write stored.stored stored.claimed in
     let admitted = by_stays xs stored.packet.prefix.t unit.stream unit.draw (place_of plan x) bar offset enabled.write
     (device_status plan h x) happening enabled.enabled (standing_placed plan h x.number x known)
     (guarded_at plan h x bar held shut) in
@@ -385,8 +389,7 @@ by_pair plan h e (Accepted port unit effects) x bar offset is known held shut en
     elim (cases_Bool (is_same_port (port_of plan port) (device_port x.link))) [
       | inl same ↦
           stored_in_run plan h e port unit effects x bar offset is known held shut
-          (same_port (port_of plan port) (device_port x.link) same) (effects_there plan h e port unit effects is)
-          enabled same
+          (same_port (port_of plan port) (device_port x.link) same) enabled same
       | inr other ↦ absurd (none_enabled offset (rw other at enabled))
     ]
 by_pair plan h e w x bar offset is known held shut enabled = absurd (none_enabled offset enabled)

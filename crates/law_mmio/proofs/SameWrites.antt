@@ -2,7 +2,7 @@
 use Rattle.law_mmio.proofs.OnLinks.{no_switch}
 use Rattle.spec_links.specs.Ports.{at_switch, is_device_port, port_of}
 use Rattle.spec_links.specs.Admission.{effects_under_policy}
-use Rattle.std.specs.Prelude.{not, Option}
+use Rattle.std.specs.Prelude.{not, Option, slice_get}
 use Rattle.std.proofs.Common.{◌≡◌, ℕ, ◌==◌, ◌&&◌, ◌∷◌, Bool, true, false, not, List, [], Option, Some, None}
 use Rattle.std.proofs.Common.{if◌then◌else◌, refl, sym, ap, ◌∙◌, subst, inl, inr}
 use Rattle.std.proofs.lemmas.Bool.{cases_Bool, true≢false, eqb-true}
@@ -13,7 +13,7 @@ use Rattle.ide_types.specs.declared.port.Side.TheVariants as side
 use Rattle.spec_links.specs.Plan.{is_same_port}
 use Rattle.spec_links.specs.Cause.{CauseLaw}
 unfoldable use Rattle.spec_links.specs.Due.{due}
-use Rattle.spec_links.specs.Memory.{unit_ended, plain_of, policy_at, effects_of, accepts_unit}
+use Rattle.spec_links.specs.Memory.{unit_ended, plain_of, policy_at, effect_by, effects_of, accepts_unit}
 use Rattle.spec_links.specs.Guarded.{stored_each, unit_happenings, happens_if, halted_at, reset_at, asked_happens}
 use Rattle.spec_links.specs.Guarded.{happens}
 unfoldable use Rattle.spec_links.specs.Guarded.{link_happenings}
@@ -30,7 +30,7 @@ use Rattle.guarded_memory.specs.Happenings.{writes_since, newest_happened}
 use Rattle.law_mmio.specs.Stored.{unit_stored_writes, stores, asked_zero, sets_to_zero}
 use Rattle.ide_types.specs.Ports.{device_port}
 unfoldable use Rattle.law_mmio.specs.Stored.{writes_since_zero}
-use Rattle.law_mmio.proofs.Units.{unit_stores}
+use Rattle.law_mmio.proofs.Units.{effect_at, unit_stores}
 use Rattle.script_events.specs.declared.event.Event.TheVariants as event
 use Rattle.script_events.specs.declared.event.InterfaceEvent.TheVariants as ie
 use Rattle.event_verdicts.specs.declared.verdict.Verdict.TheVariants as v
@@ -160,6 +160,17 @@ effects_there plan h e port unit effects is =
     ∙ ap (λ (ps : List Packet). effects_of plan h port unit ps)
     (sym (unit_that_ends plan h e port unit by.packet by.came by.passed))
 
+-- packet n of the unit has its effect while some number of reads wait
+pub effect_there : (plan : Plan) (h : History) (e : Event) (port : PortName) (unit : UnitName) (effects : List Effect)
+    → Accepted port unit effects ≡ due plan h e → (n : ℕ) (p : Packet) (effect : Effect)
+    → slice_get (unit_ended plan h e port unit) n ≡ Some p → slice_get effects n ≡ Some effect
+    → (k : ℕ) × (effect_by plan (policy_at plan h) k (port_of plan port) unit p ≡ effect)
+effect_there plan h e port unit effects is n p effect stands has =
+    let policy = policy_at plan h in
+    effect_at plan policy (policy.waiting (port_of plan port)) (port_of plan port) unit (unit_ended plan h e port unit)
+    n p effect (ap (λ (es : List Effect). slice_get es n) (sym (effects_there plan h e port unit effects is)) ∙ has)
+    stands
+
 unit_there : (plan : Plan) (h : History) (e : Event) (port : PortName) (unit : UnitName) (effects : List Effect)
     (x : Site) (bar : ℕ) → site_at plan x.number ≡ Some x → Accepted port unit effects ≡ due plan h e
     → is_same_port (port_of plan port) (device_port x.link) ≡ true
@@ -192,7 +203,8 @@ unit_there plan h e port unit effects x bar known is same =
         ≡ newest_first (unit_stored_writes (history_statuses plan h x.link) (place_of plan x) bar plain fs ps)
         (writes_since (link_happenings plan h x.link) (place_of plan x) bar))
         (sym (rw at at are))
-        (unit_stores plan (policy_at plan h) ((policy_at plan h).waiting x.link) x.link unit (place_of plan x) bar
+        (unit_stores plan (policy_at plan h) ((policy_at plan h).waiting (device_port x.link)) x.link unit
+        (place_of plan x) bar
         plain ps (link_happenings plan h x.link) (no_switch plan x known)))
 
 unit_same : (plan : Plan) (h : History) (e : Event) (port : PortName) (unit : UnitName) (effects : List Effect)

@@ -5,6 +5,7 @@ use Rattle.std.specs.Prelude.{not, nat_le, nat_lt, slice_get, ◌||◌}
 use Rattle.std.specs.List.{list_any, AllByRecursion}
 use Rattle.std.specs.Option.{option_or, option_and_then, option_map, unwrap_or}
 use Rattle.std.proofs.lemmas.Bool.Decides.{nat_tests}
+use Rattle.ide_types.specs.Ports.{host_port}
 use Rattle.ide_types.specs.declared.plan.Region.{Region}
 use Rattle.ide_types.specs.declared.binding.Binding.{Binding}
 use Rattle.tlp_layout.specs.declared.head.HeadView.{HeadView}
@@ -29,14 +30,15 @@ use Rattle.event_verdicts.specs.Causes.{binding_cause, is_stream}
 use Rattle.law_outcomes.specs.Blocks.{first_holding, grant_causes, has_bytes, is_across, place_causes, write_causes}
 use Rattle.law_outcomes.specs.Blocks.{read_causes, cause_of_read, cause_of_request, cause_at_host, cause_in, is_running}
 use Rattle.law_outcomes.specs.Blocks.{is_open_claim, is_bound_on, is_below, claim_causes, cause_of_claim}
-use Rattle.law_outcomes.specs.Blocks.{cause_of_write, cause_at_device, cause_of_packet, is_sync_effect, queued_count}
+use Rattle.law_outcomes.specs.Blocks.{cause_of_device_read, device_read_causes, cause_by_claims, cause_at_device}
+use Rattle.law_outcomes.specs.Blocks.{cause_of_packet, is_sync_effect, queued_count}
 use Rattle.law_outcomes.specs.Blocks.{IsBlockedByCause, DropsByCause, HasCauses, drop_in, takes_own}
 use Rattle.trusted_memory.specs.declared.grant.Grant.{Grant}
 use Rattle.spec_links.specs.Cause.{CauseLaw}
-use Rattle.spec_links.specs.Due.{send_due, completion_verdict, answer_judged, judged_by, answer_with_key, is_before}
+use Rattle.spec_links.specs.Due.{send_due, completion_verdict, answer_judged, judged_by, sent_from, is_before}
 use Rattle.spec_links.specs.Due.{draw_of, outgoing_completion, lanes_at, refusals, first_that_holds}
 unfoldable use Rattle.spec_links.specs.Due.{due}
-use Rattle.spec_links.specs.History.{KeyName, live_key, sending_port}
+use Rattle.spec_links.specs.History.{KeyName, live_key}
 use Rattle.spec_links.specs.Plan.{lane_out}
 use Rattle.spec_links.specs.Ports.{port_of, at_switch}
 use Rattle.spec_links.specs.Memory.{unit_ended, waiting_reads, policy_at}
@@ -50,6 +52,7 @@ use Rattle.event_verdicts.specs.declared.verdict.Verdict.TheVariants as v
 use Rattle.guarded_memory.specs.declared.claims.Claim.{Claim}
 use Rattle.guarded_memory.specs.declared.status.InterfaceStatus.{InterfaceStatus}
 use Rattle.guarded_memory.specs.Claims.{claim_of}
+use Rattle.guarded_memory.specs.DeviceReads.{claimed_read_effect, device_read_cause, effect_by_device_read}
 use Rattle.guarded_memory.specs.Statuses.{is_config_unlocked, is_in_run}
 use Rattle.guarded_memory.specs.Causes.{floor_cause, mmio_cause, access_cause, cause_effect, claim_effect, mmio_effect}
 use Rattle.interface_state.specs.Bindings.{floor_on}
@@ -199,21 +202,22 @@ by_t true plan h o unit waiting r some =
     cause_of_waiting _ ∙ sym (read_is plan h o waiting unit.stream unit.draw r.span some)
 by_t false plan h o unit waiting r some = refl
 
+-- a read is no write
+no_write : (head : HeadView) (r : MemReadView) → memory_read head ≡ Some r → write_span head ≡ None
+no_write head r is = payload head.has_payload is
+  where
+    payload : (b : Bool) → (if b then None else read_with head.lead head.fields (span_of head)) ≡ Some r
+        → (if b then span_of head else None) ≡ None
+    payload true e = absurd cc
+    payload false e = refl
+
 request_is : (plan : Plan) (h : History) (o : Option Site) (t : Bool) (unit : UnitName) (waiting : ℕ) (head : HeadView)
     → cause_in (request_effect plan.memory t
     (record { bound = granted_to h o; stream = unit.stream; draw = unit.draw }) waiting head)
     ≡ cause_of_request plan h o t unit waiting (write_span head) (memory_read head)
 request_is plan h o t unit waiting head =
-    by (memory_read head) (write_span head) (apart head) (λ r is. read_span head r is) (λ s is. write_some head s is)
+    by (memory_read head) (write_span head) (no_write head) (λ r is. read_span head r is) (λ s is. write_some head s is)
   where
-    apart : (head : HeadView) (r : MemReadView) → memory_read head ≡ Some r → write_span head ≡ None
-    apart head r is = payload head.has_payload is
-      where
-        payload : (b : Bool) → (if b then None else read_with head.lead head.fields (span_of head)) ≡ Some r
-            → (if b then span_of head else None) ≡ None
-        payload true e = absurd cc
-        payload false e = refl
-
     by : (m : Option MemReadView) (w : Option Span) → ((r : MemReadView) → m ≡ Some r → w ≡ None)
         → ((r : MemReadView) → m ≡ Some r → 1 ≤ r.span.length) → ((s : Span) → w ≡ Some s → 1 ≤ s.length)
         → cause_in (effect_by_read plan.memory t
@@ -291,16 +295,37 @@ claimed_is : (o : Option Claim) (t : Bool) (unit : UnitName) (s : Span) → 1 �
 claimed_is None t unit s some = refl
 claimed_is (Some c) t unit s some = cause_of_stored _ ∙ sym (claim_is c t unit.stream unit.draw s some)
 
-stored_is : (xs : List InterfaceStatus) (t : Bool) (unit : UnitName) (o : Option Span)
-    → ((s : Span) → o ≡ Some s → 1 ≤ s.length)
-    → cause_in (mmio_effect xs t unit.stream unit.draw o) ≡ cause_of_write xs t unit o
-stored_is xs t unit None some = refl
-stored_is xs t unit (Some s) some = claimed_is (claim_of xs s) t unit s (some s refl)
+device_read_is : (o : Option Claim) (t : Bool) (unit : UnitName) (waiting : ℕ) (s : Span) → 1 ≤ s.length
+    → cause_in (claimed_read_effect o s t unit.stream unit.draw waiting) ≡ cause_of_device_read o t unit waiting s
+device_read_is None t unit waiting s some = refl
+device_read_is (Some c) t unit waiting s some = by c.status.reads
+  where
+    by : (b : Bool) → cause_in (if b then read_effect (device_read_cause c s t unit.stream unit.draw waiting)
+        else effect.Delivered) ≡ (if b
+        then first_holding (device_read_causes c t waiting unit.stream unit.draw s.address (4 * s.length)) else None)
+    by true = cause_of_waiting (device_read_cause c s t unit.stream unit.draw waiting)
+        ∙ sym (first_of_both (claim_causes c t unit.stream unit.draw s.address (4 * s.length))
+        ((nat_le 64 waiting, cause.Full) ∷ [])
+        ∙ ap (λ (o : Option BlockCause). option_or o (full_cause waiting)) (claim_is c t unit.stream unit.draw s some))
+    by false = refl
 
-device_is : (xs : List InterfaceStatus) (unit : UnitName) (p : Packet) (r : Result HeadView TlpFault)
-    → cause_in (device_effect xs unit p r) ≡ cause_at_device xs unit p.prefix.t r
-device_is xs unit p (Err f) = refl
-device_is xs unit p (Ok head) = stored_is xs p.prefix.t unit (write_span head) (λ s is. write_some head s is)
+claims_are : (xs : List InterfaceStatus) (t : Bool) (unit : UnitName) (waiting : ℕ) (m : Option MemReadView)
+    (w : Option Span) → ((r : MemReadView) → m ≡ Some r → w ≡ None)
+    → ((r : MemReadView) → m ≡ Some r → 1 ≤ r.span.length) → ((s : Span) → w ≡ Some s → 1 ≤ s.length)
+    → cause_in (effect_by_device_read xs t unit.stream unit.draw waiting m
+    (mmio_effect xs t unit.stream unit.draw w)) ≡ cause_by_claims xs t unit waiting w m
+claims_are xs t unit waiting (Some r) (Some s) one two three = let none = one r refl in absurd cc
+claims_are xs t unit waiting (Some r) None one two three =
+    device_read_is (claim_of xs r.span) t unit waiting r.span (two r refl)
+claims_are xs t unit waiting None (Some s) one two three = claimed_is (claim_of xs s) t unit s (three s refl)
+claims_are xs t unit waiting None None one two three = refl
+
+device_is : (xs : List InterfaceStatus) (unit : UnitName) (waiting : ℕ) (p : Packet) (r : Result HeadView TlpFault)
+    → cause_in (device_effect xs waiting unit p r) ≡ cause_at_device xs unit waiting p.prefix.t r
+device_is xs unit waiting p (Err f) = refl
+device_is xs unit waiting p (Ok head) =
+    claims_are xs p.prefix.t unit waiting (memory_read head) (write_span head) (no_write head)
+    (λ r is. read_span head r is) (λ s is. write_some head s is)
 
 -- ---- a packet of a unit
 
@@ -312,16 +337,16 @@ packet_is plan h port unit waiting p =
     by : (sync switch : Bool) (side : Side)
         → cause_in (if sync then effect.Sync else if switch then switch_effect else if sent_direction side == 0
         then host_effect plan (grant_at plan h) waiting port unit p (read_head_of p.head)
-        else device_effect (history_statuses plan h port.line) unit p (read_head_of p.head))
+        else device_effect (history_statuses plan h port.line) waiting unit p (read_head_of p.head))
         ≡ (if sync then None else if not switch && (sent_direction side == 0)
         then cause_at_host plan h port unit waiting p.prefix.t (read_head_of p.head)
         else if not switch && (sent_direction side == 1)
-        then cause_at_device (history_statuses plan h port.line) unit p.prefix.t (read_head_of p.head)
+        then cause_at_device (history_statuses plan h port.line) unit waiting p.prefix.t (read_head_of p.head)
         else None)
     by true switch side = refl
     by false true side = refl
     by false false Host = host_is plan h port unit waiting p (read_head_of p.head)
-    by false false Device = device_is (history_statuses plan h port.line) unit p (read_head_of p.head)
+    by false false Device = device_is (history_statuses plan h port.line) unit waiting p (read_head_of p.head)
 
 blocked_no_sync : (o : Option BlockCause) → is_sync_effect (block_effect o) ≡ false
 blocked_no_sync None = refl
@@ -359,10 +384,26 @@ write_no_sync xs t unit (Some s) = by (claim_of xs s)
     by None = refl
     by (Some c) = stored_no_sync _
 
-device_no_sync : (xs : List InterfaceStatus) (unit : UnitName) (p : Packet) (r : Result HeadView TlpFault)
-    → is_sync_effect (device_effect xs unit p r) ≡ false
-device_no_sync xs unit p (Err f) = refl
-device_no_sync xs unit p (Ok head) = write_no_sync xs p.prefix.t unit (write_span head)
+claimed_no_sync : (o : Option Claim) (s : Span) (t : Bool) (stream draw waiting : ℕ)
+    → is_sync_effect (claimed_read_effect o s t stream draw waiting) ≡ false
+claimed_no_sync None s t stream draw waiting = refl
+claimed_no_sync (Some c) s t stream draw waiting = by c.status.reads
+  where
+    by : (b : Bool) → is_sync_effect (if b then read_effect (device_read_cause c s t stream draw waiting)
+        else effect.Delivered) ≡ false
+    by true = waiting_no_sync (device_read_cause c s t stream draw waiting)
+    by false = refl
+
+device_no_sync : (xs : List InterfaceStatus) (waiting : ℕ) (unit : UnitName) (p : Packet)
+    (r : Result HeadView TlpFault) → is_sync_effect (device_effect xs waiting unit p r) ≡ false
+device_no_sync xs waiting unit p (Err f) = refl
+device_no_sync xs waiting unit p (Ok head) = by (memory_read head)
+  where
+    by : (o : Option MemReadView)
+        → is_sync_effect (effect_by_device_read xs p.prefix.t unit.stream unit.draw waiting o
+        (mmio_effect xs p.prefix.t unit.stream unit.draw (write_span head))) ≡ false
+    by None = write_no_sync xs p.prefix.t unit (write_span head)
+    by (Some r) = claimed_no_sync (claim_of xs r.span) r.span p.prefix.t unit.stream unit.draw waiting
 
 sync_is : (plan : Plan) (h : History) (port : PortName) (unit : UnitName) (waiting : ℕ) (p : Packet)
     → is_sync_effect (effect_by plan (policy_at plan h) waiting port unit p) ≡ is_sync_packet p
@@ -372,11 +413,11 @@ sync_is plan h port unit waiting p =
     by : (sync switch host : Bool)
         → is_sync_effect (if sync then effect.Sync else if switch then switch_effect else if host
         then host_effect plan (grant_at plan h) waiting port unit p (read_head_of p.head)
-        else device_effect (history_statuses plan h port.line) unit p (read_head_of p.head)) ≡ sync
+        else device_effect (history_statuses plan h port.line) waiting unit p (read_head_of p.head)) ≡ sync
     by true switch host = refl
     by false true host = refl
     by false false true = host_no_sync plan h port unit waiting p (read_head_of p.head)
-    by false false false = device_no_sync (history_statuses plan h port.line) unit p (read_head_of p.head)
+    by false false false = device_no_sync (history_statuses plan h port.line) waiting unit p (read_head_of p.head)
 
 -- ---- all packets of a unit
 
@@ -405,7 +446,7 @@ blocked_by_cause : (plan : Plan) (h : History) (e : Event) (port : PortName) (un
 blocked_by_cause plan h e port unit effects cause n p f at has =
     let are = effects_there plan h e port unit effects cause in
     let q = port_of plan port in
-    let waiting = length (waiting_reads plan h q.line) in
+    let waiting = length (waiting_reads plan h q) in
     let there = each_is plan (policy_at plan h) q unit (unit_ended plan h e port unit) waiting n p f at
     (sym (ap (λ (fs : List Effect). slice_get fs n) are) ∙ has) in
     let same = there ∙ ap (λ (fs : List Effect). effect_by plan (policy_at plan h) (waiting + queued_count fs n) q
@@ -432,7 +473,7 @@ send_drops plan h port (OnStream t stream) more trusted =
     (refl, (refl, (refl, (refl, (refl, (refl, (refl, (refl, tt)))))))) refl
 
 keyed_drops : (plan : Plan) (h : History) (port : PortName) (floor : ℕ) (key : Option KeyName) (out : Outgoing)
-    → drop_in (answer_with_key plan h port floor key out) ≡ None
+    → drop_in (sent_from floor key (send_due plan h port out false true)) ≡ None
 keyed_drops plan h port floor key out = by (is_before key floor)
   where
     by : (b : Bool) → drop_in (if b then v.Interface (iv.RefusedRefreshFirst (draw_of key) floor)
@@ -473,14 +514,15 @@ drops_by_cause : (plan : Plan) (h : History) (link : ℕ) (w : Verdict) → w �
     → DropsByCause plan h (Access (ae.Answer link)) w
 unfolding due
 drops_by_cause plan h link w is x r rs has oldest owner =
-    let first : w ≡ completion_verdict plan h (sending_port plan (Access (ae.Answer link))) x.number r.draw
-    (granted_to h (Some x)) (outgoing_completion plan h link) = rw (has, oldest, owner) at is in
+    let port = host_port link in
+    let first : w ≡ completion_verdict plan h port x.number r.came.draw (granted_to h (Some x))
+    (outgoing_completion plan h link) = rw (has, oldest, owner) at is in
     let out = outgoing_completion plan h link in
     ap drop_in first
-    ∙ (bound_drops plan h (sending_port plan (Access (ae.Answer link))) x.number r.draw (granted_to h (Some x)) out
+    ∙ (bound_drops plan h port x.number r.came.draw (granted_to h (Some x)) out
     ∙ ap (λ (o : Option BlockCause). option_map (λ (c : BlockCause). (x.number, c)) o)
-    (view_drops (view_at h x) x.plan.stream (floor_at h x) r.draw (stream_taken out) (takes_own x (stream_taken out))
-    (nat_lt r.draw (floor_at h x)) (own_taken x (stream_taken out)) refl))
+    (view_drops (view_at h x) x.plan.stream (floor_at h x) r.came.draw (stream_taken out)
+    (takes_own x (stream_taken out)) (nat_lt r.came.draw (floor_at h x)) (own_taken x (stream_taken out)) refl))
 
 -- ---- the pair
 

@@ -13,7 +13,6 @@ use Rattle.ide_types.specs.Fits.{FitsPlan}
 use Rattle.spec_links.specs.Plan.{stream_plan, with_id, streams_by_link, behind_links}
 unfoldable use Rattle.spec_links.specs.Plan.{stream_plan, streams_by_line}
 use Rattle.spec_interfaces.specs.Sites.{Site, site_at}
-unfoldable use Rattle.spec_interfaces.specs.Sites.{sites}
 use Rattle.interface_state.specs.Machine.{are_lock_flags, is_page}
 use Rattle.law_memory.proofs.OwnStreams.{IsPlanned, found_planned}
 

@@ -7,6 +7,7 @@ use Rattle.std.specs.List.{list_any}
 use Rattle.std.specs.Option.{option_map}
 use Rattle.ide_types.specs.declared.plan.Region.{Region}
 use Rattle.ide_types.specs.declared.binding.Binding.{Binding}
+use Rattle.ide_types.specs.Ports.{host_port}
 use Rattle.tlp_layout.specs.declared.head.HeadView.{HeadView}
 use Rattle.tlp_layout.specs.Outgoing.{stream_taken}
 use Rattle.trusted_memory.specs.declared.span.Span.{Span}
@@ -84,7 +85,7 @@ abbrev pub write_causes : Plan → History → Option Site → Bool → (stream 
 write_causes plan h x t stream draw address bytes =
     (not t, cause.NotTrusted) ∷ grant_causes h x stream draw ++ place_causes plan.memory address bytes
 
--- of a memory read with T, while so many reads of the link wait
+-- of a memory read with T, while so many reads wait at the port
 abbrev pub read_causes : Plan → History → Option Site → (waiting stream draw address bytes : ℕ)
     → List (Bool × BlockCause)
 read_causes plan h x waiting stream draw address bytes =
@@ -139,13 +140,28 @@ abbrev pub cause_of_claim : Option Claim → Bool → UnitName → Span → Opti
 cause_of_claim None t unit s = None
 cause_of_claim (Some c) t unit s = first_holding (claim_causes c t unit.stream unit.draw s.address (4 * s.length))
 
-abbrev pub cause_of_write : List InterfaceStatus → Bool → UnitName → Option Span → Option BlockCause
-cause_of_write xs t unit None = None
-cause_of_write xs t unit (Some s) = cause_of_claim (claim_of xs s) t unit s
+-- of a read that a BAR claims, of an interface that answers reads, while so many reads wait at the port: what would
+-- block a write there, and that no more may wait
+abbrev pub device_read_causes : Claim → Bool → (waiting stream draw address bytes : ℕ) → List (Bool × BlockCause)
+device_read_causes c t waiting stream draw address bytes =
+    claim_causes c t stream draw address bytes ++ (nat_le 64 waiting, cause.Full) ∷ []
 
-abbrev pub cause_at_device : List InterfaceStatus → UnitName → Bool → Result HeadView TlpFault → Option BlockCause
-cause_at_device xs unit t (Err f) = None
-cause_at_device xs unit t (Ok head) = cause_of_write xs t unit (write_span head)
+abbrev pub cause_of_device_read : Option Claim → Bool → UnitName → ℕ → Span → Option BlockCause
+cause_of_device_read None t unit waiting s = None
+cause_of_device_read (Some c) t unit waiting s =
+    if c.status.reads
+    then first_holding (device_read_causes c t waiting unit.stream unit.draw s.address (4 * s.length)) else None
+
+-- of a memory write by its bytes, else of a memory read
+abbrev pub cause_by_claims : List InterfaceStatus → Bool → UnitName → ℕ → Option Span → Option MemReadView
+    → Option BlockCause
+cause_by_claims xs t unit waiting (Some s) read = cause_of_claim (claim_of xs s) t unit s
+cause_by_claims xs t unit waiting None (Some r) = cause_of_device_read (claim_of xs r.span) t unit waiting r.span
+cause_by_claims xs t unit waiting None None = None
+
+abbrev pub cause_at_device : List InterfaceStatus → UnitName → ℕ → Bool → Result HeadView TlpFault → Option BlockCause
+cause_at_device xs unit waiting t (Err f) = None
+cause_at_device xs unit waiting t (Ok head) = cause_by_claims xs t unit waiting (write_span head) (memory_read head)
 
 -- ---- of each packet of an accepted unit
 
@@ -153,13 +169,13 @@ abbrev pub cause_in : Effect → Option BlockCause
 cause_in (Blocked c) = Some c
 cause_in effect = None
 
--- while so many reads of the port's link wait
+-- while so many reads wait at the port
 abbrev pub cause_of_packet : Plan → History → PortName → UnitName → ℕ → Packet → Option BlockCause
 cause_of_packet plan h port unit waiting p =
     if is_sync_packet p then None
     else if is_host_port plan port then cause_at_host plan h port unit waiting p.prefix.t (read_head_of p.head)
     else if is_device_port plan port
-    then cause_at_device (history_statuses plan h port.line) unit p.prefix.t (read_head_of p.head)
+    then cause_at_device (history_statuses plan h port.line) unit waiting p.prefix.t (read_head_of p.head)
     else None
 
 -- and exactly a sync packet has the effect `sync`
@@ -177,7 +193,7 @@ IsBlockedByCause plan h e (Accepted port unit effects) =
     → slice_get effects n ≡ Some effect
     → (cause_in effect
     ≡ cause_of_packet plan h (port_of plan port) unit
-    (length (waiting_reads plan h (port_of plan port).line) + queued_count effects n) p)
+    (length (waiting_reads plan h (port_of plan port)) + queued_count effects n) p)
     × (is_sync_effect effect ≡ is_sync_packet p)
 IsBlockedByCause plan h e w = Unit {0}
 
@@ -192,7 +208,7 @@ abbrev pub drop_causes : Plan → History → ℕ → Site → WaitingRead → L
 drop_causes plan h link x r =
     (not (is_running (view_at h x)), cause.NotRunning)
     ∷ (not (takes_own x (stream_taken (outgoing_completion plan h link))), cause.WrongStream)
-    ∷ (nat_lt r.draw (floor_at h x), cause.Stale) ∷ []
+    ∷ (nat_lt r.came.draw (floor_at h x), cause.Stale) ∷ []
 
 -- whose read a verdict drops, and why
 abbrev pub drop_in : Verdict → Option (ℕ × BlockCause)
@@ -203,7 +219,7 @@ drop_in w = None
 abbrev pub DropsByCause : Plan → History → Event → Verdict → Type 0
 DropsByCause plan h (Access (ae.Answer link)) w =
     (x : Site) (r : WaitingRead) (rs : List WaitingRead) → has_link plan link ≡ true
-    → waiting_reads plan h link ≡ r ∷ rs → site_of_requester plan link r.read.requester ≡ Some x
+    → waiting_reads plan h (host_port link) ≡ r ∷ rs → site_of_requester plan link r.read.requester ≡ Some x
     → drop_in w ≡ option_map (λ (c : BlockCause). (x.number, c)) (first_holding (drop_causes plan h link x r))
 DropsByCause plan h e w = Unit {0}
 

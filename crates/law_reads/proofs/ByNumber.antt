@@ -15,7 +15,14 @@ use Rattle.spec_links.specs.History.{arrived_in, arrival_at_partner, altered_arr
 use Rattle.spec_links.specs.History.{is_received_under}
 use Rattle.spec_links.specs.Memory.{admitted_writes, unit_ended}
 unfoldable use Rattle.spec_links.specs.Memory.{writes}
-use Rattle.spec_links.specs.Sent.{unit_accepted, reads_by}
+use Rattle.spec_links.specs.Sent.{unit_accepted, reads_by, targets_at}
+use Rattle.spec_links.specs.Plan.{is_same_port}
+use Rattle.spec_links.specs.Terms.{history_statuses}
+use Rattle.spec_links.specs.Happens.{happens_by_packets, unit_in_list}
+unfoldable use Rattle.spec_links.specs.Happens.{happenings_in_list}
+use Rattle.spec_links.specs.Guarded.{verdict_unit}
+unfoldable use Rattle.spec_links.specs.Guarded.{link_happenings}
+use Rattle.spec_interfaces.specs.{newest_happened}
 unfoldable use Rattle.spec_links.specs.Sent.{packets_held, writes_in_list, queued_in}
 use Rattle.ide_prefix.specs.Packet.{packet_bytes}
 use Rattle.event_verdicts.specs.declared.verdict.Verdict.TheVariants as v
@@ -113,22 +120,39 @@ writes_same plan ((e, Accepted port unit effects) ∷ h) cause xs behind =
 writes_same plan ((e, w) ∷ h) cause xs behind = writes_same plan h cause.1 xs (behind_earlier plan h e w xs behind)
 
 pub queued_same : (plan : Plan) (h : History) → CauseLaw plan h → (xs ys : SealedList) → IsBehind plan h xs
-    → IsBehind plan h ys → (link : ℕ) → queued_in plan xs h link ≡ queued_in plan ys h link
+    → IsBehind plan h ys → (at : PortName) → queued_in plan xs h at ≡ queued_in plan ys h at
 unfolding queued_in
-queued_same plan [] cause xs ys left right link = refl
-queued_same plan ((e, Accepted port unit effects) ∷ h) cause xs ys left right link =
+queued_same plan [] cause xs ys left right at = refl
+queued_same plan ((e, Accepted port unit effects) ∷ h) cause xs ys left right at =
     let one = behind_earlier plan h e (Accepted port unit effects) xs left in
     let two = behind_earlier plan h e (Accepted port unit effects) ys right in
-    let before = queued_same plan h cause.1 xs ys one two link in
+    let before = queued_same plan h cause.1 xs ys one two at in
     let same = unit_same plan h e port unit effects cause xs one ∙ sym
     (unit_same plan h e port unit effects cause ys two) in
-    (λ i. if (port_of plan port).line == link then before i ++ reads_by unit.draw effects (same i) else before i)
-queued_same plan ((Reset k ends, v.Reset l) ∷ h) cause xs ys left right link =
+    (λ i. if is_same_port (port_of plan port) at
+    then before i ++ reads_by (targets_at at.side (history_statuses plan h at.line)) port unit effects (same i)
+    else before i)
+queued_same plan ((Reset k ends, v.Reset l) ∷ h) cause xs ys left right at =
     let before = queued_same plan h cause.1 xs ys (behind_earlier plan h (Reset k ends) (v.Reset l) xs left)
-    (behind_earlier plan h (Reset k ends) (v.Reset l) ys right) link in
-    (λ i. if l == link then [] else before i)
-queued_same plan ((e, w) ∷ h) cause xs ys left right link = queued_same plan h cause.1 xs ys
-    (behind_earlier plan h e w xs left) (behind_earlier plan h e w ys right) link
+    (behind_earlier plan h (Reset k ends) (v.Reset l) ys right) at in
+    (λ i. if l == at.line then [] else before i)
+queued_same plan ((e, w) ∷ h) cause xs ys left right at = queued_same plan h cause.1 xs ys
+    (behind_earlier plan h e w xs left) (behind_earlier plan h e w ys right) at
+
+pub happenings_same : (plan : Plan) (h : History) → CauseLaw plan h → (xs : SealedList) → IsBehind plan h xs
+    → (link : ℕ) → happenings_in_list plan xs h link ≡ link_happenings plan h link
+unfolding happenings_in_list link_happenings
+happenings_same plan [] cause xs behind link = refl
+happenings_same plan ((e, w) ∷ h) cause xs behind link =
+    let earlier = behind_earlier plan h e w xs behind in
+    let before = happenings_same plan h cause.1 xs earlier link in
+    let same = by w cause earlier in
+    (λ i. newest_happened (happens_by_packets plan (history_statuses plan h) (same i) e w link) (before i))
+  where
+    by : (w : Verdict) → CauseLaw plan ((e, w) ∷ h) → IsBehind plan h xs
+        → unit_in_list plan xs h e w ≡ verdict_unit plan h e w
+    by (Accepted port unit effects) cause earlier = unit_same plan h e port unit effects cause xs earlier
+    by _ cause earlier = refl
 
 -- by the packets that had been sealed when the pair was there
 pub unit_again : (plan : Plan) (h : History) (e : Event) (port : PortName) (unit : UnitName) (effects : List Effect)

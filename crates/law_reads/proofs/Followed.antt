@@ -1,6 +1,6 @@
 -- Each pair changes what waits at a switch by one step.
-use Rattle.spec_links.proofs.Terms.{◌≡◌, ℕ, ◌+◌, ◌≤◌, List, [], ◌∷◌, ◌++◌, drop, refl, ap, Bool, ◌∙◌, arith, inl, inr}
-use Rattle.spec_links.proofs.Terms.{if◌then◌else◌, drop-append-le, Plan, History, Event, Verdict, Sealed, Accepted}
+use Rattle.spec_links.proofs.Terms.{◌≡◌, ℕ, ◌+◌, List, [], ◌∷◌, ◌++◌, drop, refl, ap, ◌∙◌, arith, inl, inr}
+use Rattle.spec_links.proofs.Terms.{if◌then◌else◌, drop-append-le, Plan, History, Event, Sealed, Accepted}
 use Rattle.spec_links.proofs.Terms.{UnitName, Effect, PortName, SealedPacket, CauseLaw, is_same_port}
 use Rattle.std.proofs.Common.{zero, suc}
 use Rattle.std.proofs.lemmas.Bool.{cases_Bool}

@@ -1,5 +1,6 @@
 pub mod ByNumber
 pub mod Oldest
+pub mod Responses
 pub mod Order
 pub mod Requesters
 pub mod Taken

@@ -32,7 +32,12 @@ use Rattle.guarded_memory.specs.Causes.{mmio_cause, cause_effect, claim_effect, 
 use Rattle.spec_links.specs.Memory.{Policy, policy_at, effect_by, effects_each, waiting_then, unit_grant, host_effect}
 use Rattle.spec_links.specs.Memory.{device_effect, unit_ended, queued_reads}
 unfoldable use Rattle.spec_links.specs.Sent.{reads_taken, queued_in}
-use Rattle.spec_links.specs.Sent.{is_answer_on, unit_accepted, reads_by, read_in, drawn_read}
+use Rattle.spec_links.specs.Sent.{answers_at, unit_accepted, reads_by, read_in, read_of_target, targets_at, arrival_of}
+use Rattle.spec_links.specs.Plan.{is_same_port}
+use Rattle.spec_links.proofs.Tests.{same_port}
+use Rattle.spec_links.specs.Terms.{ReadArrival, ReadTarget, history_statuses}
+use Rattle.ide_types.specs.Ports.{host_port, device_port}
+use Rattle.guarded_memory.specs.DeviceReads.{device_request_effect, effect_by_device_read, claimed_read_effect}
 use Rattle.event_verdicts.specs.declared.verdict.BlockCause.{BlockCause}
 use Rattle.event_verdicts.specs.declared.verdict.BlockCause.TheVariants as blocks
 use Rattle.event_verdicts.specs.declared.verdict.Effect.TheVariants as effect
@@ -42,9 +47,8 @@ use Rattle.event_verdicts.specs.declared.verdict.Verdict.TheVariants as v
 use Rattle.law_reads.specs.Order.{TakesFirst, FewWait, ReadsInOrder}
 use Rattle.law_reads.proofs.ByNumber.{IsBehind, unit_same, queued_same}
 use Rattle.law_reads.proofs.Oldest.{takes, first_means}
-use Rattle.law_reads.proofs.Requesters.{same_number}
 
-pub here_after : (plan : Plan) (h : History) (e : Event) (w : Verdict) → CauseLaw plan ((e, w) ∷ h) → (link : ℕ)
+pub here_after : (plan : Plan) (h : History) (e : Event) (w : Verdict) → CauseLaw plan ((e, w) ∷ h) → (link : PortName)
     → queued_in plan (sealed_packets plan ((e, w) ∷ h)) h link ≡ queued_reads plan h link
 here_after plan h e w cause link =
     let grown = packets_grow plan h e w in
@@ -52,22 +56,27 @@ here_after plan h e w cause link =
     ([], append-nil (sealed_packets plan h)) link
 
 -- an answer that took a read found one
-found : (plan : Plan) (h : History) (e : Event) (w : Verdict) (link : ℕ) → CauseLaw plan ((e, w) ∷ h) → takes w ≡ true
-    → is_answer_on link e ≡ true → reads_taken h link < length (queued_reads plan h link)
+found : (plan : Plan) (h : History) (e : Event) (w : Verdict) (link : PortName) → CauseLaw plan ((e, w) ∷ h)
+    → takes w ≡ true
+    → answers_at link e ≡ true → reads_taken h link < length (queued_reads plan h link)
 unfolding due
 found plan h (Access (ae.Answer l)) w link cause take is =
-    let same : l ≡ link = same_number l link is in
-    let first = first_means plan h l w take cause.0 in
-    subst (λ (k : ℕ). reads_taken h k < length (queued_reads plan h k)) same
-    (at_front (queued_reads plan h l) [] (reads_taken h l) first.read first.oldest).1
+    let first = first_means plan h (host_port l) _ w take cause.0 in
+    subst (λ (k : PortName). reads_taken h k < length (queued_reads plan h k)) (same_port (host_port l) link is)
+    (at_front (queued_reads plan h (host_port l)) [] (reads_taken h (host_port l)) first.read first.oldest).1
+found plan h (Access (ae.Respond l)) w link cause take is =
+    let first = first_means plan h (device_port l) _ w take cause.0 in
+    subst (λ (k : PortName). reads_taken h k < length (queued_reads plan h k)) (same_port (device_port l) link is)
+    (at_front (queued_reads plan h (device_port l)) [] (reads_taken h (device_port l)) first.read first.oldest).1
 found plan h e w link cause take is = absurd cc
 
-took_one : (plan : Plan) (h : History) (e : Event) (w : Verdict) (link n : ℕ) → CauseLaw plan ((e, w) ∷ h) → takes w
+took_one : (plan : Plan) (h : History) (e : Event) (w : Verdict) (link : PortName) (n : ℕ)
+    → CauseLaw plan ((e, w) ∷ h) → takes w
     ≡ true → n ≡ length (queued_reads plan h link) → reads_taken h link ≤ length (queued_reads plan h link)
-    → (if is_answer_on link e then reads_taken h link + 1 else reads_taken h link) ≤ n
-took_one plan h e w link n cause take same le = by (is_answer_on link e) refl
+    → (if answers_at link e then reads_taken h link + 1 else reads_taken h link) ≤ n
+took_one plan h e w link n cause take same le = by (answers_at link e) refl
   where
-    by : (b : Bool) → is_answer_on link e ≡ b → (if b then reads_taken h link + 1 else reads_taken h link) ≤ n
+    by : (b : Bool) → answers_at link e ≡ b → (if b then reads_taken h link + 1 else reads_taken h link) ≤ n
     by true is = let less = found plan h e w link cause take is in omega (arith, less, same)
     by false is = omega (arith, le, same)
 
@@ -83,7 +92,7 @@ takes_first plan ((e, v.Access (av.Dropped i c)) ∷ h) cause link =
 takes_first plan ((e, Accepted port unit effects) ∷ h) cause link =
     let le = takes_first plan h cause.1 link in
     let same = ap length (here_after plan h e (Accepted port unit effects) cause link) in
-    by ((port_of plan port).line == link) (omega (arith, le, same))
+    by (is_same_port (port_of plan port) link) (omega (arith, le, same))
   where
     xs : List (SealedPacket × Packet)
     xs = sealed_packets plan ((e, Accepted port unit effects) ∷ h)
@@ -92,20 +101,21 @@ takes_first plan ((e, Accepted port unit effects) ∷ h) cause link =
         (queued_in plan (sealed_packets plan ((e, Accepted port unit effects) ∷ h)) h link)
         → reads_taken h link ≤ length
         (if b then queued_in plan (sealed_packets plan ((e, Accepted port unit effects) ∷ h)) h link
-        ++ reads_by unit.draw effects
+        ++ reads_by (targets_at link.side (history_statuses plan h link.line)) port unit effects
         (unit_accepted plan (sealed_packets plan ((e, Accepted port unit effects) ∷ h)) h e port unit)
         else queued_in plan (sealed_packets plan ((e, Accepted port unit effects) ∷ h)) h link)
     by true le = omega (
       arith,
       le,
       length-append (queued_in plan xs h link)
-          (reads_by unit.draw effects (unit_accepted plan xs h e port unit)),
+          (reads_by (targets_at link.side (history_statuses plan h link.line)) port unit effects (unit_accepted plan
+          xs h e port unit)),
     )
     by false le = le
 takes_first plan ((Reset k ends, v.Reset l) ∷ h) cause link =
     let le = takes_first plan h cause.1 link in
     let same = ap length (here_after plan h (Reset k ends) (v.Reset l) cause link) in
-    by (l == link) (omega (arith, le, same))
+    by (l == link.line) (omega (arith, le, same))
   where
     by : (b : Bool) → reads_taken h link ≤ length
         (queued_in plan (sealed_packets plan ((Reset k ends, v.Reset l) ∷ h)) h link)
@@ -166,6 +176,16 @@ request_room regions t g n head is =
     let waits = request_waits regions t g n head is in
     has_room (block_cause regions waits.read.span true g) n waits.unblocked
 
+claim_room : (o : Option Claim) (s : Span) (t : Bool) (stream draw n : ℕ)
+    → claimed_read_effect o s t stream draw n ≡ effect.Queued → n < 64
+claim_room None s t stream draw n is = absurd cc
+claim_room (Some c) s t stream draw n is = by c.status.reads is
+  where
+    by : (b : Bool) → (if b then read_effect (option_or (mmio_cause c.status c.range s t stream draw)
+        (if nat_le 64 n then Some blocks.Full else None)) else effect.Delivered) ≡ effect.Queued → n < 64
+    by true is = has_room (mmio_cause c.status c.range s t stream draw) n (unblocked _ is)
+    by false is = absurd cc
+
 cause_waits : (o : Option BlockCause) → cause_effect o ≡ effect.Queued → ⊥
 cause_waits None is = absurd cc
 cause_waits (Some c) is = absurd cc
@@ -180,11 +200,21 @@ mmio_waits : (xs : List InterfaceStatus) (t : Bool) (stream draw : ℕ) (o : Opt
 mmio_waits xs t stream draw None is = absurd cc
 mmio_waits xs t stream draw (Some s) is = claim_waits (claim_of xs s) s t stream draw is
 
--- at a device's port nothing is
-pub device_waits : (xs : List InterfaceStatus) (unit : UnitName) (p : Packet) (r : Result HeadView TlpFault)
-    → device_effect xs unit p r ≡ effect.Queued → ⊥
-device_waits xs unit p (Err f) is = absurd cc
-device_waits xs unit p (Ok head) is = mmio_waits xs p.prefix.t unit.stream unit.draw (write_span head) is
+device_request_room : (xs : List InterfaceStatus) (t : Bool) (stream draw n : ℕ) (head : HeadView)
+    → device_request_effect xs t stream draw n head ≡ effect.Queued → n < 64
+device_request_room xs t stream draw n head is = by (memory_read head) is
+  where
+    by : (o : Option MemReadView)
+        → effect_by_device_read xs t stream draw n o (mmio_effect xs t stream draw (write_span head)) ≡ effect.Queued
+        → n < 64
+    by None is = absurd (mmio_waits xs t stream draw (write_span head) is)
+    by (Some r) is = claim_room (claim_of xs r.span) r.span t stream draw n is
+
+-- at a device's port too
+pub device_room : (xs : List InterfaceStatus) (n : ℕ) (unit : UnitName) (p : Packet) (r : Result HeadView TlpFault)
+    → device_effect xs n unit p r ≡ effect.Queued → n < 64
+device_room xs n unit p (Err f) is = absurd cc
+device_room xs n unit p (Ok head) is = device_request_room xs p.prefix.t unit.stream unit.draw n head is
 
 effect_room : (plan : Plan) (policy : Policy) (n : ℕ) (port : PortName) (unit : UnitName) (p : Packet)
     → effect_by plan policy n port unit p ≡ effect.Queued → n < 64
@@ -194,37 +224,41 @@ effect_room plan policy n port unit p is =
     by : (a c b : Bool) (r : Result HeadView TlpFault)
         → (if a then effect.Sync else if c then switch_effect else if b then host_effect plan policy.grants n port
         unit p r
-        else device_effect (policy.statuses port.line) unit p r) ≡ effect.Queued → n < 64
+        else device_effect (policy.statuses port.line) n unit p r) ≡ effect.Queued → n < 64
     by true c b r is = absurd cc
     by false true b r is = absurd cc
-    by false false false r is = absurd (device_waits (policy.statuses port.line) unit p r is)
+    by false false false r is = device_room (policy.statuses port.line) n unit p r is
     by false false true (Err f) is = absurd cc
     by false false true (Ok head) is = request_room plan.memory p.prefix.t
         (unit_grant policy.grants port unit head) n head is
 
-one_read : (draw : ℕ) (o : Option MemReadView) → length (drawn_read draw o) ≤ 1
-one_read draw (Some read) = omega arith
-one_read draw None = omega arith
+one_read : (target : Span → Option ReadTarget) (came : ReadArrival) (o : Option MemReadView)
+    → length (read_of_target target came o) ≤ 1
+one_read target came (Some read) = omega arith
+one_read target came None = omega arith
 
-one_in : (draw : ℕ) (r : Result HeadView TlpFault) → length (read_in draw r) ≤ 1
-one_in draw (Ok head) = one_read draw (memory_read head)
-one_in draw (Err f) = omega arith
+one_in : (target : Span → Option ReadTarget) (came : ReadArrival) (r : Result HeadView TlpFault)
+    → length (read_in target came r) ≤ 1
+one_in target came (Ok head) = one_read target came (memory_read head)
+one_in target came (Err f) = omega arith
 
-unit_room : (plan : Plan) (policy : Policy) (port : PortName) (unit : UnitName) (ps : List Packet) (n : ℕ) → n ≤ 64
-    → n + length (reads_by unit.draw (effects_each plan policy n port unit ps) ps) ≤ 64
-unit_room plan policy port unit [] n le = omega (arith, le)
-unit_room plan policy port unit (p ∷ ps) n le = by (λ k few. unit_room plan policy port unit ps k few)
-    (effect_by plan policy n port unit p) refl
+unit_room : (plan : Plan) (policy : Policy) (target : Span → Option ReadTarget) (end port : PortName) (unit : UnitName)
+    (ps : List Packet) (n : ℕ) → n ≤ 64
+    → n + length (reads_by target end unit (effects_each plan policy n port unit ps) ps) ≤ 64
+unit_room plan policy target end port unit [] n le = omega (arith, le)
+unit_room plan policy target end port unit (p ∷ ps) n le =
+    by (λ k few. unit_room plan policy target end port unit ps k few) (effect_by plan policy n port unit p) refl
   where
-    by : ((k : ℕ) → k ≤ 64 → k + length (reads_by unit.draw (effects_each plan policy k port unit ps) ps) ≤ 64)
+    by : ((k : ℕ) → k ≤ 64 → k + length (reads_by target end unit (effects_each plan policy k port unit ps) ps) ≤ 64)
         → (e : Effect) → effect_by plan policy n port unit p ≡ e
-        → n + length (reads_by unit.draw (e ∷ effects_each plan policy (waiting_then e n) port unit ps) (p ∷ ps)) ≤ 64
+        → n + length (reads_by target end unit (e ∷ effects_each plan policy (waiting_then e n) port unit ps) (p ∷ ps))
+        ≤ 64
     by more effect.Queued is =
         let less = effect_room plan policy n port unit p is in
         let rest = more (n + 1) (omega (arith, less)) in
-        let one = one_in unit.draw (read_head_of p.head) in
-        let both = length-append (read_in unit.draw (read_head_of p.head))
-        (reads_by unit.draw (effects_each plan policy (n + 1) port unit ps) ps) in
+        let one = one_in target (arrival_of end unit p) (read_head_of p.head) in
+        let both = length-append (read_in target (arrival_of end unit p) (read_head_of p.head))
+        (reads_by target end unit (effects_each plan policy (n + 1) port unit ps) ps) in
         omega (arith, rest, one, both)
     by more effect.Sync is = more n le
     by more effect.Delivered is = more n le
@@ -235,31 +269,35 @@ unit_room plan policy port unit (p ∷ ps) n le = by (λ k few. unit_room plan p
 
 -- those that an accepted unit queues find room
 unit_few : (plan : Plan) (h : History) (e : Event) (port : PortName) (unit : UnitName) (effects : List Effect)
-    → CauseLaw plan ((e, Accepted port unit effects) ∷ h) → (link : ℕ) → (port_of plan port).line ≡ link
+    → CauseLaw plan ((e, Accepted port unit effects) ∷ h) → (link : PortName) → port_of plan port ≡ link
     → length (waiting_reads plan h link) ≤ 64 → length (waiting_reads plan h link) + length
-    (reads_by unit.draw effects (unit_ended plan h e port unit)) ≤ 64
+    (reads_by (targets_at link.side (history_statuses plan h link.line)) port unit effects (unit_ended plan h e port
+    unit)) ≤ 64
 unit_few plan h e port unit effects cause link same few =
     let by = accepted_by plan h e port unit effects cause.0 in
     let ends = unit_that_ends plan h e port unit by.packet by.came by.passed in
     let effects_are : effects ≡ effects_of plan h port unit (unit_ended plan h e port unit) = by.effects_are ∙ ap
     (λ (ps : List Packet). effects_of plan h port unit ps) (sym ends) in
-    let room = unit_room plan (policy_at plan h) (port_of plan port) unit (unit_ended plan h e port unit)
+    let room = unit_room plan (policy_at plan h) (targets_at link.side (history_statuses plan h link.line)) port
+    (port_of plan port) unit (unit_ended plan h e port unit)
     (length (waiting_reads plan h link)) few in
-    let at = ap (λ (l : ℕ). effects_each plan (policy_at plan h) (length (waiting_reads plan h l)) (port_of plan port)
+    let at = ap (λ (l : PortName). effects_each plan (policy_at plan h) (length (waiting_reads plan h l)) (port_of
+    plan port)
     unit
     (unit_ended plan h e port unit)) same in
     subst (λ (es : List Effect). length (waiting_reads plan h link) + length
-    (reads_by unit.draw es (unit_ended plan h e port unit)) ≤ 64) (sym (effects_are ∙ at)) room
+    (reads_by (targets_at link.side (history_statuses plan h link.line)) port unit es (unit_ended plan h e port unit))
+    ≤ 64) (sym (effects_are ∙ at)) room
 
 -- so many wait at most
-few_more : (plan : Plan) (h : History) → CauseLaw plan h → (link : ℕ)
+few_more : (plan : Plan) (h : History) → CauseLaw plan h → (link : PortName)
     → length (queued_reads plan h link) ≤ reads_taken h link + 64
 unfolding reads_taken queued_in
 few_more plan [] cause link = omega arith
 few_more plan ((e, Sealed ds) ∷ h) cause link =
     let le = few_more plan h cause.1 link in
     let same = ap length (here_after plan h e (Sealed ds) cause link) in
-    by (is_answer_on link e) (omega (arith, le, same))
+    by (answers_at link e) (omega (arith, le, same))
   where
     by : (b : Bool) → length (queued_in plan (sealed_packets plan ((e, Sealed ds) ∷ h)) h link) ≤ reads_taken h link +
         64
@@ -270,7 +308,7 @@ few_more plan ((e, Sealed ds) ∷ h) cause link =
 few_more plan ((e, v.Access (av.Dropped i c)) ∷ h) cause link =
     let le = few_more plan h cause.1 link in
     let same = ap length (here_after plan h e (v.Access (av.Dropped i c)) cause link) in
-    by (is_answer_on link e) (omega (arith, le, same))
+    by (answers_at link e) (omega (arith, le, same))
   where
     by : (b : Bool) → length (queued_in plan (sealed_packets plan ((e, v.Access (av.Dropped i c)) ∷ h)) h link) ≤
         reads_taken
@@ -282,7 +320,7 @@ few_more plan ((e, v.Access (av.Dropped i c)) ∷ h) cause link =
 few_more plan ((Reset k ends, v.Reset l) ∷ h) cause link =
     let le = few_more plan h cause.1 link in
     let same = ap length (here_after plan h (Reset k ends) (v.Reset l) cause link) in
-    by (l == link) (omega (arith, le, same))
+    by (l == link.line) (omega (arith, le, same))
   where
     by : (b : Bool) → length (queued_in plan (sealed_packets plan
         ((Reset k ends, v.Reset l) ∷ h)) h link) ≤ reads_taken h
@@ -295,7 +333,7 @@ few_more plan ((Reset k ends, v.Reset l) ∷ h) cause link =
 few_more plan ((e, Accepted port unit effects) ∷ h) cause link =
     let le = few_more plan h cause.1 link in
     let same = ap length (here_after plan h e (Accepted port unit effects) cause link) in
-    by ((port_of plan port).line == link) refl (omega (arith, le, same)) le same
+    by (is_same_port (port_of plan port) link) refl (omega (arith, le, same)) le same
   where
     xs : List (SealedPacket × Packet)
     xs = sealed_packets plan ((e, Accepted port unit effects) ∷ h)
@@ -303,22 +341,23 @@ few_more plan ((e, Accepted port unit effects) ∷ h) cause link =
     behind : IsBehind plan h (sealed_packets plan ((e, Accepted port unit effects) ∷ h))
     behind = let grown = packets_grow plan h e (Accepted port unit effects) in (grown.0, grown.1)
 
-    by : (b : Bool) → ((port_of plan port).line == link) ≡ b → length
+    by : (b : Bool) → (is_same_port (port_of plan port) link) ≡ b → length
         (queued_in plan (sealed_packets plan ((e, Accepted port unit effects) ∷ h)) h link) ≤ reads_taken h link + 64
         → length (queued_reads plan h link) ≤ reads_taken h link + 64
         → length (queued_in plan (sealed_packets plan ((e, Accepted port unit effects) ∷ h)) h link)
         ≡ length (queued_reads plan h link)
         → length (if b then queued_in plan (sealed_packets plan ((e, Accepted port unit effects) ∷ h)) h link
-        ++ reads_by unit.draw effects
+        ++ reads_by (targets_at link.side (history_statuses plan h link.line)) port unit effects
         (unit_accepted plan (sealed_packets plan ((e, Accepted port unit effects) ∷ h)) h e port unit)
         else queued_in plan (sealed_packets plan ((e, Accepted port unit effects) ∷ h)) h link) ≤ reads_taken h link +
         64
     by true here le few same =
         let drops = length-drop (reads_taken h link) (queued_reads plan h link) in
         let first = takes_first plan h cause.1 link in
-        let room = unit_few plan h e port unit effects cause link (same_number (port_of plan port).line link here)
+        let room = unit_few plan h e port unit effects cause link (same_port (port_of plan port) link here)
         (omega (arith, drops, few)) in
-        let us = ap (λ (ps : List Packet). length (reads_by unit.draw effects ps))
+        let us = ap (λ (ps : List Packet). length (reads_by (targets_at link.side (history_statuses plan h link.line))
+        port unit effects ps))
         (unit_same plan h e port unit effects cause xs behind) in
         omega (
           arith,
@@ -328,7 +367,8 @@ few_more plan ((e, Accepted port unit effects) ∷ h) cause link =
           drops,
           first,
           length-append (queued_in plan xs h link)
-              (reads_by unit.draw effects (unit_accepted plan xs h e port unit)),
+              (reads_by (targets_at link.side (history_statuses plan h link.line)) port unit effects (unit_accepted
+              plan xs h e port unit)),
         )
     by false here le few same = le
 few_more plan ((e, w) ∷ h) cause link =

@@ -1,5 +1,5 @@
 -- The TLPs that were accepted at an end of a hop: more packets that are sealed change nothing of them.
-use Rattle.spec_links.proofs.Terms.{◌≡◌, ℕ, ◌&&◌, ◌==◌, List, [], ◌∷◌, ◌++◌, refl, sym, ◌∙◌, append-nil, Bool}
+use Rattle.spec_links.proofs.Terms.{◌≡◌, ℕ, List, [], ◌∷◌, ◌++◌, refl, sym, ◌∙◌, append-nil}
 use Rattle.spec_links.proofs.Terms.{if◌then◌else◌, Plan, History, Event, Verdict, Accepted, Effect, UnitName, Packet}
 use Rattle.spec_links.proofs.Terms.{PortName, CauseLaw, SealedList, sealed_packets, Reset, is_same_port}
 use Rattle.spec_links.proofs.Growth.{packets_grow}

@@ -243,7 +243,7 @@ unfolding sealed_packets
 sealing_bounded plan fits facts h e ds law port stream before =
     let is = sealing_is plan h e ds law.0 in
     let s = is.sending in
-    let all = all_of_sealing plan facts h law.1 (sending_port plan e) (sent_bytes plan h e) ds is in
+    let all = all_of_sealing plan facts h law.1 (sending_port plan h e) (sent_bytes plan h e) ds is in
     let xs = sealed_packets plan h in
     let ahead = ahead_of_packet plan xs (base h) in
     elim (cases_Bool (is_same_port s.port port && (s.stream == stream))) [

@@ -66,7 +66,7 @@ counted plan facts ((e, Sealed ds) ∷ h) cause s from other stays =
     all_counted plan h t.port t.stream (live_at plan h t.port t.stream) t.class
     (ahead_of_packet plan (sealed_packets plan h) (base h)) (sent_bytes plan h e) from s other ds
     (sealed_packets plan h)
-    (all_of_sealing plan facts h cause.1 (sending_port plan e) (sent_bytes plan h e) ds is) stays.0
+    (all_of_sealing plan facts h cause.1 (sending_port plan h e) (sent_bytes plan h e) ds is) stays.0
     (counted plan facts h cause.1 s from other stays.1)
 counted plan facts ((e, w) ∷ h) cause s from other stays = counted plan facts h cause.1 s from other
     (later_stays plan s from e w h stays)

@@ -26,7 +26,7 @@ unfolding sealed_packets
 sealed_few plan [] law = omega arith
 sealed_few plan ((e, Sealed ds) ∷ h) law =
     let rest = sealed_few plan h law.1 in
-    let three = three_sealed plan h (sending_port plan e) (sent_bytes plan h e) ds (sealing_is plan h e ds law.0) in
+    let three = three_sealed plan h (sending_port plan h e) (sent_bytes plan h e) ds (sealing_is plan h e ds law.0) in
     let all = sealed_length plan (ahead_of_packet plan (sealed_packets plan h) (base h)) (sent_bytes plan h e) ds
     (sealed_packets plan h) in
     omega (arith, rest, three, all)

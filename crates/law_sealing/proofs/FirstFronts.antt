@@ -125,7 +125,7 @@ front_is plan fits facts ((e, Sealed ds) ∷ h) law s j x up =
         → total_in (sealed_packets plan h) s (base h s.line s.stream) ≡ sum_sent plan g s (base g s.line s.stream) j
     from_new some =
         let is = sealing_is plan h e ds law.0 in
-        let live = all_live plan h (sending_port plan e) (sent_bytes plan h e) ds is in
+        let live = all_live plan h (sending_port plan h e) (sent_bytes plan h e) ds is in
         let one = any_live plan h is.sending.port is.sending.stream (is_of_unit s j 1) ds live some in
         let names = unit_parts s j 1 one.0 one.2 in
         let each = rw names.1 at (draws_one plan h is.sending.port is.sending.stream one.0 s one.1 names.0 ds live) in

@@ -6,7 +6,7 @@ use Rattle.law_sealing.proofs.Terms.{filter, take, drop, slice_get, slice_index_
 use Rattle.law_sealing.proofs.Terms.{subst, arith, nat_tests, cases_lt, length-append, sub_bits, SealedPacket, Packet}
 use Rattle.law_sealing.proofs.Terms.{Plan, SubStream, is_same, units, open_unit, History, SealedList, sealed_packets}
 use Rattle.law_sealing.proofs.Terms.{sent_packets, sub_stream_packets, is_sealed_under, sub_stream_of, CauseLaw}
-use Rattle.law_sealing.proofs.Terms.{same_stream, sub_stream_packets-snoc, units-end}
+use Rattle.law_sealing.proofs.Terms.{same_stream, same_sub, sub_stream_packets-snoc, units-end}
 use Rattle.law_sealing.proofs.Sums.{in_parts, next_taken, units_within}
 use Rattle.law_sealing.proofs.Places.{Placed, placed, place_among, unit_is}
 use Rattle.law_sealing.proofs.OfPlans.{streams_fit}
@@ -46,29 +46,26 @@ one_place keys m n differ m_less n_less same = elim (cases_lt m n) [
 pub direction_small : (side : Side) → sent_direction side < 2
 direction_small side = grind arith
 
--- two packets are under keys of one draw, direction and sub-stream
-record SameKey (d e : SealedPacket) : Type 0 where
-  draw : d.draw ≡ e.draw
-  direction : sent_direction d.port.side ≡ sent_direction e.port.side
-  sub : sub_bits d.sub ≡ sub_bits e.sub
+-- two draws with their sub-streams have one key of the pool
+pub record SameKey (i j : ℕ) (s t : SubStream) : Type 0 where
+  pub draw : i ≡ j
+  pub direction : s.direction ≡ t.direction
+  pub sub : s.sub ≡ t.sub
 
-key_stands : (plan : Plan) (d : SealedPacket) → d.draw < length plan.pool / 6
-    → 6 * d.draw + 3 * sent_direction d.port.side + sub_bits d.sub < length plan.pool
-key_stands plan d less = omega (arith, less, direction_small d.port.side, sub_small d.sub)
-
-same_key : (plan : Plan) → FitsPlan plan → (d e : SealedPacket) → d.draw < length plan.pool / 6
-    → e.draw < length plan.pool / 6 → key_used plan d ≡ key_used plan e → SameKey d e
+pub same_key : (plan : Plan) → FitsPlan plan → (i j : ℕ) (s t : SubStream) → i < length plan.pool / 6
+    → j < length plan.pool / 6 → s.direction < 2 → t.direction < 2 → key_of plan i s ≡ key_of plan j t → SameKey i j s t
 unfolding key_of
-same_key plan fits d e d_less e_less keys =
-    let place = one_place plan.pool _ _ fits.keys_differ (key_stands plan d d_less) (key_stands plan e e_less) keys in
-    let d_side = direction_small d.port.side in
-    let e_side = direction_small e.port.side in
-    let d_sub = sub_small d.sub in
-    let e_sub = sub_small e.sub in
+same_key plan fits i j s t i_less j_less s_less t_less keys =
+    let s_sub = sub_small s.sub in
+    let t_sub = sub_small t.sub in
+    let place = one_place plan.pool (6 * i + 3 * s.direction + sub_bits s.sub)
+    (6 * j + 3 * t.direction + sub_bits t.sub) fits.keys_differ (omega (arith, i_less, s_less, s_sub))
+    (omega (arith, j_less, t_less, t_sub)) keys in
+    let bits : sub_bits s.sub ≡ sub_bits t.sub = omega (arith, place, s_less, t_less, s_sub, t_sub) in
     record {
-      draw = omega (arith, place, d_side, e_side, d_sub, e_sub);
-      direction = omega (arith, place, d_side, e_side, d_sub, e_sub);
-      sub = omega (arith, place, d_side, e_side, d_sub, e_sub);
+      draw = omega (arith, place, s_less, t_less, s_sub, t_sub);
+      direction = omega (arith, place, s_less, t_less, s_sub, t_sub);
+      sub = same_sub s.sub t.sub (grind (arith, nat_tests));
     }
 
 -- ---- IVs
@@ -148,7 +145,8 @@ module _ (plan : Plan) (fits : FitsPlan plan) (h : History) (law : CauseLaw plan
   fresh : (i k : ℕ) (x y : SealedPacket × Packet) → i < k → slice_get xs i ≡ Some x → slice_get xs k ≡ Some y
       → key_used plan x.0 ≡ key_used plan y.0 → iv_used x.0 ≡ iv_used y.0 → AreOfOneUnit xs i k x.0 y.0
   fresh i k x y less at also keys ivs =
-      let key = same_key plan fits x.0 y.0 (in_pool i x at) (in_pool k y also) keys in
+      let key = same_key plan fits x.0.draw y.0.draw (sub_stream_of x.0) (sub_stream_of y.0) (in_pool i x at)
+      (in_pool k y also) (direction_small x.0.port.side) (direction_small y.0.port.side) keys in
       let unit = same_number x.0 y.0 (number_small i x at) (number_small k y also) ivs in
       let mine = subst (Owner (manager h).begun x.0.port.line x.0.stream x.0.k) key.draw
       (all_owned plan h law i x at) in
@@ -157,7 +155,7 @@ module _ (plan : Plan) (fits : FitsPlan plan) (h : History) (law : CauseLaw plan
       let link = ap (λ (b : Begun). b.line) begun in
       let stream = ap (λ (b : Begun). b.stream) begun in
       let same : is_same (sub_stream_of x.0) (sub_stream_of y.0) ≡ true = grind
-      (arith, nat_tests, link, stream, key.direction, key.sub) in
+      (arith, nat_tests, link, stream, key.direction, ap sub_bits key.sub) in
       record {
         sub_stream = same;
         draw = key.draw;

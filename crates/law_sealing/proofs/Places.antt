@@ -189,7 +189,7 @@ placed plan fits facts [] law i x is = absurd cc
 placed plan fits facts ((e, Sealed ds) ∷ h) law i x at =
     let is = sealing_is plan h e ds law.0 in
     let s = is.sending in
-    let all = all_of_sealing plan facts h law.1 (sending_port plan e) (sent_bytes plan h e) ds is in
+    let all = all_of_sealing plan facts h law.1 (sending_port plan h e) (sent_bytes plan h e) ds is in
     let bounds = bounded plan fits facts h law.1 s.port s.stream in
     all_placed plan fits s.port s.stream (live_at plan h s.port s.stream) (from_at plan h s.port s.stream) s.class
     (id s.port s.stream) (sent_bytes plan h e) is.tlp

@@ -58,7 +58,7 @@ pub use Rattle.spec_links.specs.KeyFacts.{DrawFacts, NoneFrom, BaseStays}
 pub use Rattle.spec_keys.specs.Places.{is_same_sub, received_direction}
 pub use Rattle.ide_types.specs.Sub.{sub_bits}
 pub use Rattle.event_verdicts.specs.declared.verdict.Verdict.TheVariants.{Sealed, Accepted, Held, Fail}
-pub use Rattle.spec_links.specs.Laws.{TotalsFit, NoForgery, NotForged, ClosedLaw, IsPrefixOf, NeverFalls, WasSealed}
+pub use Rattle.spec_links.specs.Laws.{TotalsFit, NoForgery, NotForged, IsPrefixOf, NeverFalls, WasSealed}
 pub use Rattle.spec_links.specs.Laws.{last_tag, IsOn, ArrivesInOrder, OrderIsNoForgery, WholeLaw, IsTaken}
 pub use Rattle.tlp_layout.specs.Class.{class_of, layout_of}
 pub use Rattle.event_verdicts.specs.declared.verdict.UnitName.{UnitName}

@@ -94,5 +94,5 @@ unworn plan facts ((e, Sealed ds) ∷ h) law =
     let s = is.sending in
     all_last plan s.port s.stream (live_at plan h s.port s.stream) (from_at plan h s.port s.stream) s.class
     (ahead_of_packet plan (sealed_packets plan h) (base h)) (sent_bytes plan h e) ds (sealed_packets plan h)
-    (all_of_sealing plan facts h law.1 (sending_port plan e) (sent_bytes plan h e) ds is) (unworn plan facts h law.1)
+    (all_of_sealing plan facts h law.1 (sending_port plan h e) (sent_bytes plan h e) ds is) (unworn plan facts h law.1)
 unworn plan facts ((e, w) ∷ h) law = unworn plan facts h law.1

@@ -7,6 +7,7 @@ use Rattle.std.proofs.lemmas.Bool.{true≢false, and_parts}
 use Rattle.ide_types.specs.Ends.{link_hop}
 use Rattle.ide_types.specs.Fits.{FitsPlan}
 use Rattle.ide_types.specs.Lines.{is_link_line}
+use Rattle.ide_types.specs.Ports.{host_port}
 use Rattle.ide_types.specs.declared.binding.Binding.{Binding}
 use Rattle.ide_types.specs.declared.direction.Direction.{Direction}
 use Rattle.ide_types.specs.declared.plan.HopPlan.{HopPlan}
@@ -20,10 +21,10 @@ use Rattle.spec_links.specs.Terms.{read_of, Site, WaitingRead, site_of_requester
 use Rattle.spec_links.specs.Cause.{CauseLaw}
 use Rattle.spec_links.specs.Plan.{streams_of, has_link, lane_out}
 use Rattle.spec_links.specs.Ports.{may_send}
-use Rattle.spec_links.specs.History.{sealed_packets, live_key, sending_port}
+use Rattle.spec_links.specs.History.{sealed_packets, live_key}
 use Rattle.spec_links.specs.Hops.{HopTlp, has_hop, leaving_end}
 use Rattle.spec_links.specs.Memory.{waiting_reads, hop_waiting}
-use Rattle.spec_links.specs.Due.{send_due, lanes_at, answer_due, answer_first, site_answer, completion_verdict}
+use Rattle.spec_links.specs.Due.{send_due, lanes_at, answer_due, first_answered, site_answer, completion_verdict}
 use Rattle.spec_links.specs.Due.{answer_judged, judged_by, outgoing_completion, is_before, draw_of}
 unfoldable use Rattle.spec_links.specs.Due.{due, t_sealed}
 use Rattle.law_hops.proofs.Sends.{forward_sends}
@@ -34,8 +35,9 @@ use Rattle.event_verdicts.specs.declared.verdict.Verdict.TheVariants as v
 use Rattle.script_events.specs.declared.event.Event.TheVariants.{Forward}
 use Rattle.script_events.specs.declared.event.AccessEvent.TheVariants as ae
 use Rattle.law_sending.specs.Choice.{GoesOnStream, GoesInClear, IsSentAsChosen, IsChosen, is_plain_verdict}
+use Rattle.law_sending.proofs.Responses.{response_hidden}
 use Rattle.law_sending.proofs.Taking.{not_left}
-use Rattle.law_sending.proofs.Packets.{first_is, sealed_of, map_all, IsOf}
+use Rattle.law_memory.proofs.Packets.{first_is, sealed_of, map_all, IsOf}
 use Rattle.law_sending.proofs.WaysOut.{ComesProtected, ComesPlain, sends, way_out}
 
 -- ---- sends
@@ -134,15 +136,16 @@ site_hidden plan h at draw out None = refl
 site_hidden plan h at draw out (Some x) = bound_hidden plan h at x.number draw out (granted_to h (Some x))
 
 answer_hidden : (plan : Plan) (h : History) (link : ℕ) → is_plain_verdict (answer_due plan h link) ≡ false
-answer_hidden plan h link = by (has_link plan link) (waiting_reads plan h link)
+answer_hidden plan h link = by (has_link plan link) (waiting_reads plan h (host_port link))
   where
-    by : (b : Bool) (rs : List WaitingRead)
-        → is_plain_verdict (if b then answer_first plan h (sending_port plan (Access (ae.Answer link))) rs
-        (outgoing_completion plan h link) else v.Nothing) ≡ false
+    by : (b : Bool) (rs : List WaitingRead) → is_plain_verdict (if b then first_answered
+        (λ (r : WaitingRead). site_answer plan h (host_port link) r.came.draw
+        (site_of_requester plan link r.read.requester) (outgoing_completion plan h link)) link rs else v.Nothing)
+        ≡ false
     by false rs = refl
     by true [] = refl
-    by true (r ∷ rs) = site_hidden plan h (sending_port plan (Access (ae.Answer link))) r.draw
-        (outgoing_completion plan h link) (site_of_requester plan link r.read.requester)
+    by true (r ∷ rs) = site_hidden plan h (host_port link) r.came.draw (outgoing_completion plan h link)
+        (site_of_requester plan link r.read.requester)
 
 -- ---- forwards
 
@@ -179,5 +182,6 @@ pub chosen : (plan : Plan) → FitsPlan plan → (h : History) (e : Event) (w : 
 unfolding due
 chosen plan fits h (Send end bytes more trusted) w cause = sent plan fits h end bytes more trusted w cause.0
 chosen plan fits h (Access (ae.Answer link)) w cause = ap is_plain_verdict cause.0 ∙ answer_hidden plan h link
+chosen plan fits h (Access (ae.Respond link)) w cause = response_hidden plan h link w cause.0
 chosen plan fits h (Forward link d) w cause = ap is_plain_verdict cause.0 ∙ forward_hidden plan fits h cause.1 link d
 chosen plan fits h e w cause = tt

@@ -1,10 +1,11 @@
 pub mod Taking
 pub mod WaysOut
-pub mod Packets
+pub mod Oldest
 pub mod Choice
 pub mod Waiting
 pub mod Trust
 pub mod Refusals
+pub mod Responses
 pub mod Sends
 pub mod Origins
 pub mod Covered

@@ -1,5 +1,5 @@
 -- What each sealed packet carries, and where it comes from.
-use Rattle.std.proofs.Common.{◌≡◌, ℕ, ◌+◌, ◌-◌, ◌==◌, ◌∷◌, ◌++◌, Bool, true, false, List, [], Some, None}
+use Rattle.std.proofs.Common.{◌≡◌, ℕ, ◌+◌, ◌-◌, ◌≤◌, ◌==◌, ◌∷◌, ◌++◌, Bool, true, false, List, [], Some, None}
 use Rattle.std.proofs.Common.{Ok, slice_get, length, refl, ap, sym, subst, ◌∙◌, arith, length-append}
 use Rattle.std.specs.Prelude.{if◌then◌else◌, is_some}
 use Rattle.std.specs.List.{AllByRecursion}
@@ -41,9 +41,35 @@ use Rattle.event_verdicts.specs.declared.access.AccessVerdict.TheVariants as av
 use Rattle.event_verdicts.specs.declared.verdict.Verdict.TheVariants as v
 use Rattle.script_events.specs.declared.event.Event.TheVariants.{Forward}
 use Rattle.script_events.specs.declared.event.AccessEvent.TheVariants as ae
+use Rattle.std.proofs.Common.{subst₂}
+use Rattle.std.proofs.lemmas.Bool.{and_parts, eqb-true}
+use Rattle.std.specs.Option.{option_map_or}
+use Rattle.std.proofs.Common.{Option}
+use Rattle.interface_state.specs.Bars.{bars_of}
+use Rattle.interface_state.specs.Bindings.{floor_on}
+use Rattle.guarded_memory.specs.declared.status.InterfaceStatus.{InterfaceStatus}
+use Rattle.guarded_memory.proofs.Claimed.{claimed}
+use Rattle.trusted_memory.specs.Completions.{completion_head, read_bytes}
+use Rattle.tlp_layout.specs.Head.{head_bytes}
+use Rattle.ide_types.specs.declared.sub.SubKind.{SubKind}
+use Rattle.spec_interfaces.specs.{byte_shown}
+use Rattle.spec_interfaces.specs.Devices.{interface_at}
+use Rattle.spec_interfaces.proofs.Locks.{layout_at}
+use Rattle.ide_types.specs.declared.interface.InterfacePlan.{InterfacePlan}
+use Rattle.spec_links.specs.Terms.{Claim, ReadArrival, Site, WaitingRead, claimed_byte, history_statuses, least_draw}
+use Rattle.spec_links.specs.Terms.{site_on}
+use Rattle.spec_links.specs.Guarded.{link_happenings}
+use Rattle.spec_links.specs.History.{KeyName, live_key}
+use Rattle.spec_links.specs.Plan.{lane_out}
+use Rattle.spec_links.specs.Due.{is_before}
+use Rattle.spec_links.specs.Sent.{claim_completion}
+use Rattle.law_reads.proofs.Oldest.{response_bytes_are}
+use Rattle.law_memory.proofs.Packets.{IsOf}
+use Rattle.law_memory.proofs.Responses.{Responded, claim_stands, responded, response_class, response_packets}
+use Rattle.law_memory.proofs.Responses.{response_sending, trusted_response}
 use Rattle.law_sending.specs.Choice.{GoesOnStream}
 use Rattle.law_sending.specs.Trust.{IsFirstWaiting}
-use Rattle.law_sending.specs.Origins.{CarriesTlp, CarriesNothing, ComesFrom, IsSealedAt}
+use Rattle.law_sending.specs.Origins.{CarriesTlp, CarriesNothing, ComesFrom, IsBoundFor, IsSealedAt}
 use Rattle.law_sending.specs.Origins.{HasSource, HaveSources}
 use Rattle.law_sending.proofs.Choice.{chosen}
 use Rattle.law_sending.proofs.Trust.{send_may}
@@ -157,7 +183,7 @@ carries_tlp plan ahead bytes d unfinished t sync reads = record {
 
 -- what of one packet of an event has to be known
 abbrev Comes : Plan → History → Event → SealedPacket → Type 0
-Comes plan h e d = IsSealedAt plan e d × (d.sync ≡ false → ComesFrom plan h e d (sent_bytes plan h e))
+Comes plan h e d = IsSealedAt plan h e d × (d.sync ≡ false → ComesFrom plan h e d (sent_bytes plan h e))
 
 sealed_now : (plan : Plan) (h : History) (e : Event) (ds : List SealedPacket)
     → sealed_packets plan ((e, v.Sealed ds) ∷ h)
@@ -187,7 +213,7 @@ sources plan h e ds is all =
         comes = comes.1 carries;
       };
     })
-    ds (all_stand plan ahead bytes ds xs (numbers plan h (sending_port plan e) bytes ds s)) all
+    ds (all_stand plan ahead bytes ds xs (numbers plan h (sending_port plan h e) bytes ds s)) all
 
 given_all : (plan : Plan) (h : History) (end : PortName) (bytes : List ℕ) (more trusted : Bool) (t : Tlp)
     (ds : List SealedPacket) → read_of bytes ≡ Ok t
@@ -286,6 +312,152 @@ completed_all plan h link whole (d ∷ ds) a all = (
   completed_all plan h link whole ds a all.1,
 )
 
+-- ---- responses
+
+-- the claim of the oldest read, by its interface and BAR
+record IsClaimedNow (plan : Plan) (h : History) (link : ℕ) (ds : List SealedPacket) (a : Responded plan h link ds)
+    : Type 0 where
+  interface : a.claim.interface ≡ a.target.interface
+  bar : a.claim.bar ≡ a.target.bar
+  range : slice_get (bars_of a.interface.plan (interface_at plan h a.interface).registers) a.target.bar
+      ≡ Some a.claim.range
+  known : site_on plan link a.claim.interface ≡ Some a.interface
+
+claimed_now : (plan : Plan) (h : History) (link : ℕ) (ds : List SealedPacket) (a : Responded plan h link ds)
+    → IsClaimedNow plan h link ds a
+claimed_now plan h link ds a =
+    let parts = and_parts (a.claim.interface == a.target.interface) (a.claim.bar == a.target.bar) a.judged.same in
+    let interface = eqb-true a.claim.interface a.target.interface parts.0 in
+    let bar = eqb-true a.claim.bar a.target.bar parts.1 in
+    let there = (claimed (history_statuses plan h link) a.read.read.span a.claim a.judged.claimed).bar in
+    let stands = sym (claim_stands plan h link ds a) in
+    record {
+      interface = interface;
+      bar = bar;
+      range = ap (λ (p : InterfacePlan). slice_get (bars_of p (interface_at plan h a.interface).registers)
+          a.target.bar) (sym (layout_at plan h a.interface)) ∙ ((λ i. slice_get (stands i).bars (sym bar i)) ∙ there);
+      known = ap (site_on plan link) interface ∙ a.placed;
+    }
+
+shown_bytes : (plan : Plan) (h : History) (link : ℕ) (ds : List SealedPacket) → CauseLaw plan h
+    → (a : Responded plan h link ds) → sent_bytes plan h (Access (ae.Respond link))
+    ≡ head_bytes (completion_head a.interface.plan.requester a.read.read)
+    ++ read_bytes (λ o. byte_shown (link_happenings plan h link) a.target.interface a.target.bar
+    (o - a.claim.range.base)) a.read.read.span
+unfolding completion_bytes
+shown_bytes plan h link ds cause a =
+    let now = claimed_now plan h link ds a in
+    let happened = link_happenings plan h link in
+    response_bytes_are plan h link a.read cause a.oldest
+    ∙ (ap (claim_completion plan link happened a.read.read) a.judged.claimed
+    ∙ (ap (λ (o : Option Site). completion_bytes (option_map_or (λ (x : Site). x.plan.requester) o 0)
+    (claimed_byte (byte_shown happened) a.claim) a.read.read) now.known
+    ∙ (λ i. completion_bytes a.interface.plan.requester
+    (λ o. byte_shown happened (now.interface i) (now.bar i) (o - a.claim.range.base)) a.read.read)))
+
+-- under no key from before the floor
+key_fresh : (o : Option KeyName) (key : KeyName) (floor : ℕ) → o ≡ Some key → is_before o floor ≡ false
+    → floor ≤ key.draw
+key_fresh None key floor live late = absurd cc
+key_fresh (Some k) key floor live late =
+    let same : k ≡ key = cc (live) in
+    subst (λ (z : KeyName). floor ≤ z.draw) same (grind (arith, nat_tests, late))
+
+floor_least : (c : Claim) (came : ReadArrival) (floor : ℕ) → came.trusted ≡ true
+    → floor_on came.stream c.status.bound ≡ Some floor → least_draw c came ≡ floor
+floor_least c came floor trusted bound = rw (trusted, bound) refl
+
+packet_fresh : (plan : Plan) (h : History) (link : ℕ) (ds : List SealedPacket) → CauseLaw plan h
+    → (a : Responded plan h link ds) (d : SealedPacket) → IsOf (response_sending a.read.came a.tlp) d
+    → IsLive plan h a.read.came.end a.read.came.stream d → d.sync ≡ false → a.read.came.trusted ≡ true
+    → IsBoundFor plan h a.interface a.read.came d
+packet_fresh plan h link ds cause a d of live carries trusted =
+    let for = trusted_response plan h link ds a trusted in
+    let came = a.read.came in
+    let class : d.sub ≡ Cpl = of.sub_is carries ∙ response_class plan h link ds cause a in
+    let lane : live_key h came.end (lane_out came.end came.stream Cpl) ≡ Some live.key =
+    ap (λ (u : SubKind). live_key h came.end (lane_out came.end came.stream u)) (sym class) ∙ live.live in
+    let bound : floor_on came.stream a.claim.status.bound ≡ Some for.floor =
+    ap (λ (x : InterfaceStatus). floor_on came.stream x.bound) (claim_stands plan h link ds a) ∙ for.bound in
+    let least = floor_least a.claim came for.floor trusted bound in
+    let fresh = key_fresh _ live.key (least_draw a.claim came) lane a.key in
+    record {
+      runs = for.runs;
+      floor = for.floor;
+      bound = for.bound;
+      read_floor = for.from_floor;
+      packet_floor = omega (arith, least, fresh, live.draw);
+    }
+
+-- one place has one read
+one_oldest : (o : Option WaitingRead) (r q : WaitingRead) → o ≡ Some r → o ≡ Some q → r ≡ q
+one_oldest o r q is also = let same : Some r ≡ Some q = sym is ∙ also in cc (same)
+
+completed_there : (plan : Plan) (h : History) (link : ℕ) (ds : List SealedPacket) → CauseLaw plan h
+    → (a : Responded plan h link ds) (d : SealedPacket) → IsOf (response_sending a.read.came a.tlp) d
+    → IsLive plan h a.read.came.end a.read.came.stream d → Comes plan h (Access (ae.Respond link)) d
+completed_there plan h link ds cause a d of live =
+    let now = claimed_now plan h link ds a in (
+      λ r oldest.
+          let same = one_oldest _ a.read r a.oldest oldest in (
+            of.port_is ∙ ap (λ (x : WaitingRead). x.came.end) same,
+            of.stream_is ∙ ap (λ (x : WaitingRead). x.came.stream) same,
+          ),
+      λ carries. record {
+        read = a.read;
+        oldest = a.oldest;
+        target = a.target;
+        of_target = a.target_is;
+        interface = a.interface;
+        known = a.placed;
+        range = a.claim.range;
+        stands = now.range;
+        completion = shown_bytes plan h link ds cause a;
+        at = of.port_is;
+        stream = of.stream_is;
+        t_is = carried d.sync d.t a.read.came.trusted carries of.t_is;
+        bound = packet_fresh plan h link ds cause a d of live carries;
+      },
+    )
+  where
+    carried : (sync t u : Bool) → sync ≡ false → t ≡ (if sync then false else u) → t ≡ u
+    carried sync t u carries is = grind arith
+
+-- what is live where it was sealed
+all_there : (plan : Plan) (h : History) (port : PortName) (stream : ℕ) (came : ReadArrival) (t : Tlp)
+    (ds : List SealedPacket) → AllByRecursion (IsOf (response_sending came t)) ds → AllLive plan h port stream ds
+    → AllLive plan h came.end came.stream ds
+all_there plan h port stream came t [] all live = tt
+all_there plan h port stream came t (d ∷ ds) all live =
+    let at : port ≡ came.end = sym live.0.port_is ∙ all.0.port_is in
+    let on : stream ≡ came.stream = sym live.0.stream_is ∙ all.0.stream_is in (
+      subst₂ (λ (p : PortName) (n : ℕ). IsLive plan h p n d) at on live.0,
+      all_there plan h port stream came t ds all.1
+          live.1,
+    )
+
+completed_reads : (plan : Plan) (h : History) (link : ℕ) (whole ds : List SealedPacket) → CauseLaw plan h
+    → (a : Responded plan h link whole) → AllByRecursion (IsOf (response_sending a.read.came a.tlp)) ds
+    → AllLive plan h a.read.came.end a.read.came.stream ds
+    → AllByRecursion (Comes plan h (Access (ae.Respond link))) ds
+completed_reads plan h link whole [] cause a all live = tt
+completed_reads plan h link whole (d ∷ ds) cause a all live = (
+  completed_there plan h link whole cause a d all.0 live.0,
+  completed_reads plan h link whole ds cause a all.1
+      live.1,
+)
+
+responded_all : (plan : Plan) (h : History) (link : ℕ) (ds : List SealedPacket)
+    → CauseLaw plan ((Access (ae.Respond link), v.Sealed ds) ∷ h)
+    → AllByRecursion (Comes plan h (Access (ae.Respond link))) ds
+responded_all plan h link ds cause =
+    let e = Access (ae.Respond link) in
+    let a = responded plan h link ds cause.0 in
+    let all = response_packets plan h link ds a in
+    let s = sealing_is plan h e ds cause.0 in
+    let live = all_live plan h (sending_port plan h e) (sent_bytes plan h e) ds s in
+    completed_reads plan h link ds ds cause.1 a all (all_there plan h _ _ a.read.came a.tlp ds all live)
+
 -- ---- the pair
 
 pub have_sources : (plan : Plan) → FitsPlan plan → (h : History) (e : Event) (w : Verdict)
@@ -298,5 +470,7 @@ have_sources plan fits h (Access (ae.Answer link)) (v.Sealed ds) cause =
     let e = Access (ae.Answer link) in
     let a = (read_law plan (draws plan) ((e, v.Sealed ds) ∷ h) cause).0 in
     sources plan h e ds cause.0 (completed_all plan h link ds ds a a.packets)
+have_sources plan fits h (Access (ae.Respond link)) (v.Sealed ds) cause =
+    sources plan h (Access (ae.Respond link)) ds cause.0 (responded_all plan h link ds cause)
 have_sources plan fits h e (v.Sealed ds) cause = absurd (true≢false (sym (sealed_by_sealing plan h e ds cause.0)))
 have_sources plan fits h e w cause = tt

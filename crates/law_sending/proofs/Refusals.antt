@@ -16,7 +16,7 @@ unfoldable use Rattle.spec_links.proofs.Senders.{listed_seals}
 use Rattle.law_sending.specs.Sends.{lacks_key, is_used_up, may_overflow, syncs_needed, subs_sealed, overtakes_unit}
 use Rattle.law_sending.specs.Sends.{MayBeSealed, is_sealed_verdict, sub_and_sync, as_sync, IsSealedInLane}
 use Rattle.law_sending.specs.Sends.{IsAnsweredAsSend}
-use Rattle.law_sending.proofs.Packets.{sealed_list}
+use Rattle.law_memory.proofs.Packets.{sealed_list}
 
 -- ---- one refusal for each of a list
 

@@ -1,5 +1,5 @@
--- Each send, forward and answer is answered as a send is.
-use Rattle.std.proofs.Common.{◌≡◌, ℕ, zero, suc, ◌+◌, ◌<◌, ◌≤◌, ◌∷◌, Bool, true, false, List, []}
+-- Each send, forward, answer and response is answered as a send is.
+use Rattle.std.proofs.Common.{◌≡◌, ℕ, suc, ◌+◌, ◌<◌, ◌≤◌, ◌∷◌, Bool, true, false, List, []}
 use Rattle.std.proofs.Common.{Option, Some, None, Result, Ok, Err, slice_get, length, drop, refl, ap, sym, subst}
 use Rattle.std.proofs.Common.{◌∙◌, inl, inr, ◌⊎◌, arith}
 use Rattle.std.specs.Prelude.{if◌then◌else◌, is_some, not, nat_lt}
@@ -20,7 +20,6 @@ use Rattle.tlp_layout.specs.declared.fault.TlpFault.{TlpFault}
 use Rattle.tlp_layout.specs.Class.{class_of}
 use Rattle.tlp_layout.proofs.Outgoing.{on_stream_reads}
 use Rattle.trusted_memory.specs.Writes.{byte_last_written}
-unfoldable use Rattle.trusted_memory.specs.Completions.{completion_bytes}
 use Rattle.tlp_layout.specs.Choice.{chosen_stream}
 unfoldable use Rattle.tlp_layout.specs.Choice.{choice_of}
 use Rattle.tlp_layout.specs.Outgoing.{Outgoing, NoTlp, OnNone, OnStream, stream_taken, outgoing_as_read}
@@ -28,31 +27,30 @@ use Rattle.tlp_layout.specs.Outgoing.{outgoing_if_chosen}
 unfoldable use Rattle.tlp_layout.specs.Outgoing.{outgoing_of}
 use Rattle.spec_stream.specs.Sending.{Sending, Lanes, verdict_of_send, refusals}
 use Rattle.spec_links.specs.Terms.{Plan, PortName, Event, Send, Access, Verdict, History, Tlp, header}
-use Rattle.spec_links.specs.Terms.{read_of, Site, WaitingRead, site_of_requester, granted_to}
+use Rattle.spec_links.specs.Terms.{read_of, Site, WaitingRead, site_of_requester, granted_to, host_completer}
 use Rattle.spec_links.specs.Cause.{CauseLaw}
 use Rattle.spec_links.specs.Plan.{streams_of, has_link, lane_out}
 unfoldable use Rattle.spec_links.specs.Ports.{sealing_end}
 use Rattle.spec_links.specs.History.{KeyName, sealed_packets, sent_bytes, live_key}
 use Rattle.spec_links.specs.Hops.{HopTlp, has_hop, entering_end, leaving_end, forwarded_count}
 use Rattle.spec_links.specs.HopLaws.{tlps_since_reset}
-use Rattle.spec_links.specs.Memory.{accepted_tlps, hop_waiting, waiting_reads, queued_reads, writes}
+use Rattle.spec_links.specs.Memory.{accepted_tlps, hop_waiting, writes}
 use Rattle.spec_links.specs.Sent.{reads_taken}
-use Rattle.spec_links.specs.Due.{send_due, bytes_due, lanes_at, answer_due, answer_first, site_answer}
-use Rattle.spec_links.specs.Due.{completion_verdict, answer_judged, judged_by, answer_with_key, outgoing_completion}
+use Rattle.spec_links.specs.Due.{send_due, bytes_due, lanes_at, answer_due, site_answer, sent_from}
+use Rattle.spec_links.specs.Due.{completion_verdict, answer_judged, judged_by, outgoing_completion}
 use Rattle.spec_links.specs.Due.{is_before, draw_of}
 unfoldable use Rattle.spec_links.specs.Due.{due}
 use Rattle.spec_interfaces.specs.Terms.{View, Running}
 use Rattle.spec_interfaces.specs.Views.{view_at, floor_at, bound_if}
 use Rattle.law_hops.proofs.Sends.{forward_sends}
 use Rattle.law_hops.proofs.Forwards.{Forwards, forwards}
-use Rattle.law_reads.proofs.Order.{reads_in_order}
 use Rattle.law_reads.proofs.Oldest.{bytes_are}
 use Rattle.law_locks.proofs.Answered.{reader_there}
 use Rattle.event_verdicts.specs.Causes.{binding_cause, stale_cause, is_stream}
 use Rattle.event_verdicts.specs.declared.verdict.BlockCause.{BlockCause}
 use Rattle.event_verdicts.specs.declared.verdict.BlockCause.TheVariants.{WrongStream, Stale}
 use Rattle.law_memory.proofs.Origins.{if_bound}
-use Rattle.law_memory.proofs.OfReads.{completion_class}
+use Rattle.law_memory.proofs.Completions.{completion_class}
 use Rattle.event_verdicts.proofs.Admits.{Admits, binding_admits}
 use Rattle.event_verdicts.specs.declared.access.AccessVerdict.TheVariants as av
 use Rattle.ide_types.specs.declared.verdict.InterfaceVerdict.TheVariants as iv
@@ -63,14 +61,16 @@ use Rattle.law_sending.specs.Choice.{TakesTlp, GoesOnStream, GoesInClear}
 use Rattle.law_sending.specs.Trust.{IsFirstWaiting}
 use Rattle.law_sending.specs.Sends.{IsAnsweredAsSend, is_malformed, is_fault, IsSentOn, IsForwardedOn, MayHave}
 use Rattle.law_sending.specs.Sends.{is_dropped, IsCompletionKey, IsAnsweredFor, IsAnsweredForOwner, IsAnsweredOn}
-use Rattle.law_sending.specs.Sends.{AnswersSend}
+use Rattle.law_sending.specs.Sends.{AnswersSend, IsOldestAt}
 use Rattle.law_sending.specs.Sends.{completion_now, CompletionGoesOn}
 use Rattle.law_sending.proofs.Taking.{not_left, one_takes, taken, TakesIf}
-use Rattle.law_sending.proofs.Packets.{first_is}
+use Rattle.law_memory.proofs.Packets.{first_is}
 use Rattle.law_sending.proofs.WaysOut.{ComesProtected, ComesPlain, sends, way_out}
 use Rattle.law_sending.proofs.Choice.{sending_of, hop_of}
 use Rattle.law_sending.proofs.Waiting.{count_is}
 use Rattle.law_sending.proofs.Refusals.{answers_send}
+use Rattle.law_sending.proofs.Oldest.{answers_oldest, drop_here, dropped_all, empty_exactly, is_empty}
+use Rattle.law_sending.proofs.Responses.{responded_on}
 
 -- ---- sends
 
@@ -142,23 +142,7 @@ module _ (plan : Plan) (fits : FitsPlan plan) (h : History) (end : PortName) (by
         sent_there t at stream goes (way_out plan fits h end bytes more trusted w due_is t reads);
   }
 
--- ---- lists
-
-drop_here : {A : Type 0} (xs : List A) (n : ℕ) (x : A) → slice_get xs n ≡ Some x → drop n xs ≡ x ∷ drop (suc n) xs
-drop_here [] n x is = absurd cc
-drop_here (y ∷ xs) zero x is = let same : y ≡ x = cc (is) in ap (λ z. z ∷ xs) same
-drop_here (y ∷ xs) (suc n) x is = drop_here xs n x is
-
-dropped_all : {A : Type 0} (xs : List A) (n : ℕ) → drop n xs ≡ [] → length xs ≤ n
-dropped_all [] n is = omega arith
-dropped_all (y ∷ xs) zero is = absurd cc
-dropped_all (y ∷ xs) (suc n) is = let le = dropped_all xs n is in omega (arith, le)
-
 -- ---- forwards
-
-abbrev is_empty : Verdict → Bool
-is_empty (v.Access (av.Empty link)) = true
-is_empty w = false
 
 sent_full : (x : Lanes) (s : Sending) (number : ℕ) → is_empty (verdict_of_send x s number) ≡ false
 sent_full x s number = first_is (λ (w : Verdict). is_empty w ≡ false) (refusals x s.class) _
@@ -260,7 +244,7 @@ send_keeps plan h at (OnStream t stream) more trusted = first_is (λ (w : Verdic
     (refl, (refl, (refl, (refl, (refl, (refl, (refl, (refl, tt)))))))) refl
 
 key_keeps : (plan : Plan) (h : History) (at : PortName) (floor : ℕ) (key : Option KeyName) (out : Outgoing)
-    → is_dropped (answer_with_key plan h at floor key out) ≡ false
+    → is_dropped (sent_from floor key (send_due plan h at out false true)) ≡ false
 key_keeps plan h at floor key out = by (is_before key floor)
   where
     by : (early : Bool) → is_dropped (if early then v.Interface (iv.RefusedRefreshFirst (draw_of key) floor)
@@ -268,26 +252,10 @@ key_keeps plan h at floor key out = by (is_before key floor)
     by true = refl
     by false = send_keeps plan h at out false true
 
-first_is_it : (plan : Plan) (h : History) (link : ℕ) (r : WaitingRead) (rs : List WaitingRead) (w : Verdict)
-    → w ≡ answer_due plan h link → has_link plan link ≡ true → waiting_reads plan h link ≡ r ∷ rs
-    → w ≡ site_answer plan h (host_port link) r.draw (site_of_requester plan link r.read.requester)
-    (outgoing_completion plan h link)
-first_is_it plan h link r rs w is known waits = is
-    ∙ (ap (λ (b : Bool). if b then answer_first plan h (host_port link) (waiting_reads plan h link)
-    (outgoing_completion plan h link) else v.Nothing) known
-    ∙ ap (λ (xs : List WaitingRead). answer_first plan h (host_port link) xs (outgoing_completion plan h link)) waits)
-
-none_is_it : (plan : Plan) (h : History) (link : ℕ) (w : Verdict) → w ≡ answer_due plan h link
-    → has_link plan link ≡ true → waiting_reads plan h link ≡ [] → w ≡ v.Access (av.Empty link)
-none_is_it plan h link w is known waits = is
-    ∙ (ap (λ (b : Bool). if b then answer_first plan h (host_port link) (waiting_reads plan h link)
-    (outgoing_completion plan h link) else v.Nothing) known
-    ∙ ap (λ (xs : List WaitingRead). answer_first plan h (host_port link) xs (outgoing_completion plan h link)) waits)
-
 -- ---- the oldest that waits
 
 module _ (plan : Plan) (h : History) (link : ℕ) (r : WaitingRead) (x : Site) (w : Verdict)
-    (is : w ≡ completion_verdict plan h (host_port link) x.number r.draw (granted_to h (Some x))
+    (is : w ≡ completion_verdict plan h (host_port link) x.number r.came.draw (granted_to h (Some x))
     (outgoing_completion plan h link))
     (bytes : sent_bytes plan h (Access (ae.Answer link)) ≡ completion_now plan h r) where
   abbrev out : Outgoing
@@ -347,11 +315,11 @@ module _ (plan : Plan) (h : History) (link : ℕ) (r : WaitingRead) (x : Site) (
   granted : view_at h x ≡ Running → granted_to h (Some x) ≡ Some bound
   granted runs = ap (λ (view : View). bound_if view x.plan.stream (floor_at h x)) runs
 
-  admits : is_stream x.plan.stream (stream_taken out) ≡ true → floor_at h x ≤ r.draw
-      → binding_cause bound (stream_taken out) r.draw ≡ None
+  admits : is_stream x.plan.stream (stream_taken out) ≡ true → floor_at h x ≤ r.came.draw
+      → binding_cause bound (stream_taken out) r.came.draw ≡ None
   admits on floor =
-      ap (λ (b : Bool). if not b then Some WrongStream else stale_cause (floor_at h x) r.draw) on
-      ∙ ap (λ (b : Bool). if b then Some Stale else None) (less_not (floor_at h x) r.draw floor)
+      ap (λ (b : Bool). if not b then Some WrongStream else stale_cause (floor_at h x) r.came.draw) on
+      ∙ ap (λ (b : Bool). if b then Some Stale else None) (less_not (floor_at h x) r.came.draw floor)
     where
       less_not : (floor draw : ℕ) → floor ≤ draw → nat_lt draw floor ≡ false
       less_not floor draw le = grind (arith, nat_tests)
@@ -361,17 +329,18 @@ module _ (plan : Plan) (h : History) (link : ℕ) (r : WaitingRead) (x : Site) (
       ∙ eq-eqb x.plan.stream x.plan.stream refl
 
   -- it may have the completion, and so it is sent
-  may_send_it : MayHave plan h link r x → w ≡ answer_with_key plan h at (floor_at h x) key out
+  may_send_it : MayHave plan h link r x
+      → w ≡ sent_from (floor_at h x) key (send_due plan h at out false true)
   may_send_it may = is
-      ∙ (ap (λ (o : Option Binding). completion_verdict plan h at x.number r.draw o out) (granted may.runs)
+      ∙ (ap (λ (o : Option Binding). completion_verdict plan h at x.number r.came.draw o out) (granted may.runs)
       ∙ ap (λ (o : Option BlockCause). answer_judged plan h at out (judged_by x.number bound o))
       (admits (on_stream may) may.floor))
 
   kept : MayHave plan h link r x → is_dropped w ≡ false
   kept may = ap is_dropped (may_send_it may) ∙ key_keeps plan h at (floor_at h x) key out
 
-  may_by : view_at h x ≡ Running → Admits bound (stream_taken out) r.draw → MayHave plan h link r x
-  may_by runs adm = record { runs = runs; goes = goes_as adm.stream; floor = not_less r.draw _ adm.fresh }
+  may_by : view_at h x ≡ Running → Admits bound (stream_taken out) r.came.draw → MayHave plan h link r x
+  may_by runs adm = record { runs = runs; goes = goes_as adm.stream; floor = not_less r.came.draw _ adm.fresh }
     where
       not_less : (draw floor : ℕ) → nat_lt draw floor ≡ false → floor ≤ draw
       not_less draw floor off = grind (arith, nat_tests)
@@ -380,26 +349,26 @@ module _ (plan : Plan) (h : History) (link : ℕ) (r : WaitingRead) (x : Site) (
   refused never = by_view (granted_to h (Some x)) refl
     where
       by_cause : (b : Binding) → granted_to h (Some x) ≡ Some b → (o : Option BlockCause)
-          → binding_cause b (stream_taken out) r.draw ≡ o
+          → binding_cause b (stream_taken out) r.came.draw ≡ o
           → is_dropped (answer_judged plan h at out (judged_by x.number b o)) ≡ true
       by_cause b granted (Some c) cause = refl
       by_cause b granted None cause =
           let means = if_bound (view_at h x) x.plan.stream (floor_at h x) b granted in
-          let admitted = binding_admits b (stream_taken out) r.draw cause in
+          let admitted = binding_admits b (stream_taken out) r.came.draw cause in
           absurd (never (may_by means.0
-          (subst (λ (c : Binding). Admits c (stream_taken out) r.draw) means.1 admitted)))
+          (subst (λ (c : Binding). Admits c (stream_taken out) r.came.draw) means.1 admitted)))
 
       by_view : (o : Option Binding) → granted_to h (Some x) ≡ o → is_dropped w ≡ true
       by_view None granted = ap is_dropped (is
-          ∙ ap (λ (o : Option Binding). completion_verdict plan h at x.number r.draw o out) granted)
+          ∙ ap (λ (o : Option Binding). completion_verdict plan h at x.number r.came.draw o out) granted)
       by_view (Some b) granted = ap is_dropped (is
-          ∙ ap (λ (o : Option Binding). completion_verdict plan h at x.number r.draw o out) granted)
-          ∙ by_cause b granted (binding_cause b (stream_taken out) r.draw) refl
+          ∙ ap (λ (o : Option Binding). completion_verdict plan h at x.number r.came.draw o out) granted)
+          ∙ by_cause b granted (binding_cause b (stream_taken out) r.came.draw) refl
 
   too_early : MayHave plan h link r x → (k : KeyName) → IsCompletionKey h link x k → k.draw < floor_at h x
       → w ≡ v.Interface (iv.RefusedRefreshFirst k.draw (floor_at h x))
   too_early may k live less = may_send_it may
-      ∙ (ap (λ (o : Option KeyName). answer_with_key plan h at (floor_at h x) o out) live
+      ∙ (ap (λ (o : Option KeyName). sent_from (floor_at h x) o (send_due plan h at out false true)) live
       ∙ ap (λ (b : Bool). if b then v.Interface (iv.RefusedRefreshFirst k.draw (floor_at h x))
       else send_due plan h at out false true) (less_is k.draw (floor_at h x) less))
     where
@@ -422,7 +391,7 @@ module _ (plan : Plan) (h : History) (link : ℕ) (r : WaitingRead) (x : Site) (
   sent_then may fresh =
       let t = may.goes.tlp in
       subst (λ (u : SubKind). IsAnsweredAsSend (lanes_at plan h at x.plan.stream) u false w)
-      (completion_class (byte_last_written (writes plan h)) r.read t may.goes.reads)
+      (completion_class host_completer (byte_last_written (writes plan h)) r.read t may.goes.reads)
       (answered_there plan h at t x.plan.stream false true w
       (may_send_it may
       ∙ (ap (λ (b : Bool). if b then v.Interface (iv.RefusedRefreshFirst (draw_of key) (floor_at h x))
@@ -436,53 +405,37 @@ module _ (plan : Plan) (h : History) (link : ℕ) (r : WaitingRead) (x : Site) (
     sent = sent_then;
   }
 
-answered_oldest : (plan : Plan) (h : History) → CauseLaw plan h → (link : ℕ) (w : Verdict)
-    → w ≡ answer_due plan h link → has_link plan link ≡ true → (r : WaitingRead)
-    → slice_get (queued_reads plan h link) (reads_taken h link) ≡ Some r → IsAnsweredForOwner plan h link r w
-answered_oldest plan h cause link w is known r place =
-    by (site_of_requester plan link r.read.requester) refl (reader_there plan h cause link (reads_taken h link) r place)
-  where
-    by : (o : Option Site) → site_of_requester plan link r.read.requester ≡ o → is_some o ≡ true
-        → IsAnsweredForOwner plan h link r w
-    by None owns there = absurd cc
-    by (Some x) owns there = record {
-      interface = x;
-      owns = owns;
-      answered = answered_for plan h link r x w
-          (first_is_it plan h link r (drop (suc (reads_taken h link)) (queued_reads plan h link)) w is known
-          (drop_here (queued_reads plan h link) (reads_taken h link) r place)
-          ∙ ap (λ (o : Option Site). site_answer plan h (host_port link) r.draw o (outgoing_completion plan h link))
-          owns)
-          (bytes_are plan h link r cause place);
-    }
+module _ (plan : Plan) (h : History) (cause : CauseLaw plan h) (link : ℕ) (w : Verdict)
+    (is : w ≡ answer_due plan h link) (known : has_link plan link ≡ true) where
+  abbrev answer : WaitingRead → Verdict
+  answer r = site_answer plan h (host_port link) r.came.draw (site_of_requester plan link r.read.requester)
+      (outgoing_completion plan h link)
 
-answered_on : (plan : Plan) (h : History) → CauseLaw plan h → (link : ℕ) (w : Verdict) → w ≡ answer_due plan h link
-    → has_link plan link ≡ true → IsAnsweredOn plan h link w
-answered_on plan h cause link w is known = record {
-  empty = (all_taken, none_left);
-  oldest = answered_oldest plan h cause link w is known;
-}
-  where
-    taken_first : reads_taken h link ≤ length (queued_reads plan h link)
-    taken_first = (reads_in_order plan h cause).0 link
+  answered_oldest : (r : WaitingRead) → IsOldestAt plan h (host_port link) r → IsAnsweredForOwner plan h link r w
+  answered_oldest r place =
+      by (site_of_requester plan link r.read.requester) refl
+      (reader_there plan h cause link (reads_taken h (host_port link)) r place)
+    where
+      by : (o : Option Site) → site_of_requester plan link r.read.requester ≡ o → is_some o ≡ true
+          → IsAnsweredForOwner plan h link r w
+      by None owns there = absurd cc
+      by (Some x) owns there = record {
+        interface = x;
+        owns = owns;
+        answered = answered_for plan h link r x w
+            (answers_oldest plan h (host_port link) answer w is known r place
+            ∙ ap (λ (o : Option Site). site_answer plan h (host_port link) r.came.draw o (outgoing_completion plan h
+            link)) owns)
+            (bytes_are plan h link r cause place);
+      }
 
-    all_taken : w ≡ v.Access (av.Empty link) → reads_taken h link ≡ length (queued_reads plan h link)
-    all_taken empty = by (waiting_reads plan h link) refl
-      where
-        by : (rs : List WaitingRead) → waiting_reads plan h link ≡ rs
-            → reads_taken h link ≡ length (queued_reads plan h link)
-        by [] waits =
-            let least = dropped_all (queued_reads plan h link) (reads_taken h link) waits in
-            let most = taken_first in
-            omega (arith, least, most)
-        by (r ∷ rs) waits = absurd (true≢false (sym (ap is_empty empty)
-            ∙ (ap is_empty (first_is_it plan h link r rs w is known waits)
-            ∙ site_full plan h (host_port link) r.draw (outgoing_completion plan h link)
-            (site_of_requester plan link r.read.requester))))
-
-    none_left : reads_taken h link ≡ length (queued_reads plan h link) → w ≡ v.Access (av.Empty link)
-    none_left same = none_is_it plan h link w is known
-        (drop_all (reads_taken h link) (queued_reads plan h link) (omega (arith, same)))
+  answered_on : IsAnsweredOn plan h link w
+  answered_on = record {
+    empty = empty_exactly plan h (host_port link) answer w is known cause
+        (λ r place. site_full plan h (host_port link) r.came.draw (outgoing_completion plan h link)
+        (site_of_requester plan link r.read.requester));
+    oldest = answered_oldest;
+  }
 
 -- ---- the pair
 
@@ -493,4 +446,5 @@ answers_sends plan fits h (Send end bytes more trusted) w cause = λ can.
     sent_on plan fits h end bytes more trusted w (sends plan h end bytes more trusted w can cause.0)
 answers_sends plan fits h (Forward link d) w cause = forwarded_on plan fits h cause.1 link d w cause.0
 answers_sends plan fits h (Access (ae.Answer link)) w cause = answered_on plan h cause.1 link w cause.0
+answers_sends plan fits h (Access (ae.Respond link)) w cause = responded_on plan fits h cause.1 link w cause.0
 answers_sends plan fits h e w cause = tt

@@ -50,7 +50,8 @@ use Rattle.event_verdicts.specs.declared.verdict.Verdict.TheVariants as v
 use Rattle.law_sending.specs.Trust.{is_at_device, is_at_device_hop, is_at_peer, OwnerRuns, IsFirstWaiting}
 use Rattle.law_sending.specs.Trust.{HasItsT, HaveTheirT}
 use Rattle.law_sending.proofs.Choice.{hop_of}
-use Rattle.law_sending.proofs.Packets.{sealed_of, all_of, IsOf, map_all}
+use Rattle.law_sending.proofs.Responses.{responses_have}
+use Rattle.law_memory.proofs.Packets.{sealed_of, all_of, IsOf, map_all}
 use Rattle.spec_stream.specs.Sending.{Sending}
 use Rattle.law_sending.proofs.Waiting.{first_waits}
 use Rattle.law_hops.proofs.Forwards.{send_apart}
@@ -229,24 +230,25 @@ sent_t plan fits h end bytes more trusted d apart fit =
       host = λ carries at.
           carried d.sync d.t u carries fit.t_is
           ∙ host_side plan h d.port.side d.port.line (owner_read plan (owners_link plan d.port) r) d.stream trusted at;
-      device = λ carries at.
+      device = λ sent carries at.
           let parts = and_parts (not (is_host d.port.side)) (is_link_line d.port.line) at in
           exactly_at plan h d.t (sets_t plan h d.port.line d.stream (owner_read plan d.port.line r)) _
           (carried d.sync d.t u carries fit.t_is
           ∙ device_side plan h d.port.side d.port.line r d.stream trusted parts.0 (link_low d.port.line parts.1))
           (runs_exactly plan h d.port.line d.stream bytes (owner_read plan d.port.line r) refl);
-      peer = λ carries at.
+      peer = λ sent carries at.
           let link = (port_beside_end plan.peers d.port).line in
           exactly_at plan h d.t (peer_t plan h (owner_read plan link r) d.stream) _
           (carried d.sync d.t u carries fit.t_is ∙ peer_side plan fits h d.port r d.stream trusted at)
           (bound_exactly plan h link d.stream bytes (owner_read plan link r) refl);
-      hop = λ carries at.
+      hop = λ sent carries at.
           let parts = and_parts (not (is_host d.port.side)) (is_far_hop_line d.port.line) at in
           let lines = and_parts (nat_le 16 d.port.line) (nat_lt d.port.line 24) parts.1 in
           carried d.sync d.t u carries fit.t_is
           ∙ (device_side plan h d.port.side d.port.line r d.stream trusted parts.0 lines.1
           ∙ ap (sets_t plan h d.port.line d.stream) (no_owner plan fits d.port.line r (high d.port.line lines.0)));
       switch = λ carries at. absurd (true≢false (sym at ∙ apart));
+      response = λ link is. absurd cc;
     }
   where
     high : (line : ℕ) → nat_le 16 line ≡ true → 8 ≤ line
@@ -280,7 +282,7 @@ sent_have plan fits h end bytes more trusted ds is all =
     ∙ seals_apart plan fits end bytes (send_may plan h end bytes more trusted ds is) in
     all_sent plan fits h end bytes more trusted ds
     (all_apart plan h s.sending.port s.sending.stream ds apart
-    (all_live plan h (sending_port plan e) (sent_bytes plan h e) ds s)) all
+    (all_live plan h (sending_port plan h e) (sent_bytes plan h e) ds s)) all
 
 -- ---- answers
 
@@ -290,10 +292,11 @@ answered_t : (plan : Plan) → FitsPlan plan → (h : History) (link : ℕ) (x :
 answered_t plan fits h link x d known sync c = record {
   sync = sync;
   host = λ carries at. c.t_is carries;
-  device = λ carries at. absurd (true≢false (sym at ∙ ap is_at_device c.port_is));
-  peer = λ carries at. absurd (true≢false (sym at ∙ (ap is_at_peer c.port_is ∙ low)));
-  hop = λ carries at. absurd (true≢false (sym at ∙ ap is_at_device_hop c.port_is));
+  device = λ sent carries at. absurd (true≢false (sym at ∙ ap is_at_device c.port_is));
+  peer = λ sent carries at. absurd (true≢false (sym at ∙ (ap is_at_peer c.port_is ∙ low)));
+  hop = λ sent carries at. absurd (true≢false (sym at ∙ ap is_at_device_hop c.port_is));
   switch = λ carries at. absurd (true≢false (sym at ∙ (ap (at_switch plan) c.port_is ∙ own)));
+  response = λ other is. absurd cc;
 }
   where
     low : nat_le 24 link ≡ false
@@ -331,7 +334,7 @@ unfolding due
 answers_have plan fits h link ds cause =
     let e = Access (ae.Answer link) in
     let answered = (read_law plan (draws plan) ((e, v.Sealed ds) ∷ h) cause).0 in
-    let first = first_means plan h link (v.Sealed ds) refl cause.0 in
+    let first = first_means plan h (host_port link) _ (v.Sealed ds) refl cause.0 in
     all_answered plan fits h link answered.of.interface ds first.known (syncs_unset plan h e ds cause.0)
     answered.packets
 
@@ -364,9 +367,10 @@ forwarded_t plan h link way x s d less waits port_is t of =
     record {
       sync = unset_of s d of;
       host = λ carries here. absurd (true≢false (sym here ∙ (ap is_at_host at ∙ no_host link way)));
-      device = λ carries here. absurd (true≢false (sym here ∙ (ap is_at_device at ∙ not_device link way)));
-      peer = λ carries here. absurd (true≢false (sym here ∙ (ap is_at_peer at ∙ not_peer link way less)));
-      hop = λ carries here. absurd (true≢false (sym here ∙ (ap is_at_device_hop at ∙ not_device_hop link way less)));
+      device = λ sent carries here. absurd (true≢false (sym here ∙ (ap is_at_device at ∙ not_device link way)));
+      peer = λ sent carries here. absurd (true≢false (sym here ∙ (ap is_at_peer at ∙ not_peer link way less)));
+      hop = λ sent carries here. absurd
+          (true≢false (sym here ∙ (ap is_at_device_hop at ∙ not_device_hop link way less)));
       switch = λ carries here. record {
         link = link;
         way = way;
@@ -375,6 +379,7 @@ forwarded_t plan h link way x s d less waits port_is t of =
         waits = waits;
         t_is = carried d.sync d.t s.trusted carries of.t_is ∙ t;
       };
+      response = λ other is. absurd cc;
     }
 
 forwards_have : (plan : Plan) → FitsPlan plan → (h : History) (link : ℕ) (way : Direction) (ds : List SealedPacket)
@@ -415,6 +420,7 @@ have_t plan fits h (Send end bytes more trusted) (v.Sealed ds) cause =
     sent_have plan fits h end bytes more trusted ds cause.0
     (interface_cause plan ((Send end bytes more trusted, v.Sealed ds) ∷ h) cause).0
 have_t plan fits h (Access (ae.Answer link)) (v.Sealed ds) cause = answers_have plan fits h link ds cause
+have_t plan fits h (Access (ae.Respond link)) (v.Sealed ds) cause = responses_have plan fits h link ds cause
 have_t plan fits h (Forward link way) (v.Sealed ds) cause = forwards_have plan fits h link way ds cause
 have_t plan fits h e (v.Sealed ds) cause = absurd (true≢false (sym (sealed_by_sealing plan h e ds cause.0)))
 have_t plan fits h e w cause = tt

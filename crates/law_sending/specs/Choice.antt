@@ -138,11 +138,12 @@ pub record IsSentAsChosen (plan : Plan) (end : PortName) (head : HeadView) (w : 
   pub sealed : (ds : List SealedPacket) → w ≡ v.Sealed ds
       → AllByRecursion (λ (d : SealedPacket). GoesOnStream plan end head d.port d.stream) ds
 
--- at each send of a TLP; an answer and a forward never go out in clear
+-- at each send of a TLP; an answer, a response and a forward never go out in clear
 abbrev pub IsChosen : Plan → History → Event → Verdict → Type 0
 IsChosen plan h (event.Send end bytes more trusted) w =
     may_send plan end ≡ true → (t : Tlp) → read_of bytes ≡ Ok t → IsSentAsChosen plan end (header t) w
 IsChosen plan h (Access (ae.Answer link)) w = is_plain_verdict w ≡ false
+IsChosen plan h (Access (ae.Respond link)) w = is_plain_verdict w ≡ false
 IsChosen plan h (event.Forward link d) w = is_plain_verdict w ≡ false
 IsChosen plan h e w = Unit {0}
 

@@ -4,7 +4,7 @@ use Rattle.std.specs.Prelude.{List, [], length, map, find, filter, Some, None, R
 use Rattle.std.specs.Prelude.{if◌then◌else◌}
 use Rattle.std.specs.List.{AllByRecursion}
 use Rattle.ide_types.specs.Ends.{link_hop}
-use Rattle.ide_types.specs.Ports.{host_port}
+use Rattle.ide_types.specs.Ports.{host_port, device_port}
 use Rattle.ide_types.specs.declared.direction.Direction.{Direction}
 use Rattle.ide_types.specs.declared.plan.HopPlan.{HopPlan}
 use Rattle.ide_types.specs.declared.sub.SubKind.{SubKind}
@@ -13,7 +13,7 @@ use Rattle.tlp_layout.specs.Class.{class_of}
 use Rattle.spec_stream.specs.Sending.{Lanes, begins_unit, is_posted}
 use Rattle.spec_links.specs.Terms.{Plan, PortName, Event, Access, SealedPacket, Verdict, History, Tlp, TlpFault, header}
 use Rattle.spec_links.specs.Terms.{read_of, WaitingRead, Host, Site, site_of_requester, byte_last_written}
-use Rattle.spec_links.specs.Terms.{completion_bytes}
+use Rattle.spec_links.specs.Terms.{completion_bytes, host_completer}
 use Rattle.spec_links.specs.Plan.{has_link, lane_out, streams_of}
 use Rattle.spec_links.specs.History.{KeyName, live_key}
 use Rattle.spec_interfaces.specs.Terms.{Running}
@@ -136,7 +136,7 @@ pub record IsForwardedOn (plan : Plan) (h : History) (link : ℕ) (d : Direction
 
 -- the completion of a read, from trusted memory as it is
 abbrev pub completion_now : Plan → History → WaitingRead → List ℕ
-completion_now plan h r = completion_bytes (byte_last_written (writes plan h)) r.read
+completion_now plan h r = completion_bytes host_completer (byte_last_written (writes plan h)) r.read
 
 -- at the host's port of the link the stream takes it
 pub record CompletionGoesOn (plan : Plan) (h : History) (link : ℕ) (r : WaitingRead) (stream : ℕ) : Type 0 where
@@ -149,7 +149,7 @@ pub record CompletionGoesOn (plan : Plan) (h : History) (link : ℕ) (r : Waitin
 pub record MayHave (plan : Plan) (h : History) (link : ℕ) (r : WaitingRead) (x : Site) : Type 0 where
   pub runs : view_at h x ≡ Running
   pub goes : CompletionGoesOn plan h link r x.plan.stream
-  pub floor : floor_at h x ≤ r.draw
+  pub floor : floor_at h x ≤ r.came.draw
 
 abbrev pub is_dropped : Verdict → Bool
 is_dropped (v.Access (av.Dropped interface cause)) = true
@@ -175,12 +175,30 @@ pub record IsAnsweredForOwner (plan : Plan) (h : History) (link : ℕ) (r : Wait
   pub owns : site_of_requester plan link r.read.requester ≡ Some interface
   pub answered : IsAnsweredFor plan h link r interface w
 
--- No read waits exactly if as many were taken as were queued, since the link's last reset; else the oldest that waits
--- is answered.
+-- no read waits at a port exactly if as many were taken there as were queued, since its link's last reset
+abbrev pub NoneWaits : Plan → History → PortName → Type 0
+NoneWaits plan h port = reads_taken h port ≡ length (queued_reads plan h port)
+
+abbrev pub IsOldestAt : Plan → History → PortName → WaitingRead → Type 0
+IsOldestAt plan h port r = slice_get (queued_reads plan h port) (reads_taken h port) ≡ Some r
+
+-- If one waits, the oldest is answered.
 pub record IsAnsweredOn (plan : Plan) (h : History) (link : ℕ) (w : Verdict) : Type 0 where
-  pub empty : (w ≡ v.Access (av.Empty link)) ↔ (reads_taken h link ≡ length (queued_reads plan h link))
-  pub oldest : (r : WaitingRead) → slice_get (queued_reads plan h link) (reads_taken h link) ≡ Some r
-      → IsAnsweredForOwner plan h link r w
+  pub empty : (w ≡ v.Access (av.Empty link)) ↔ NoneWaits plan h (host_port link)
+  pub oldest : (r : WaitingRead) → IsOldestAt plan h (host_port link) r → IsAnsweredForOwner plan h link r w
+
+-- ---- responses
+
+abbrev pub is_refresh_first : Verdict → Bool
+is_refresh_first (v.Interface (iv.RefusedRefreshFirst draw floor)) = true
+is_refresh_first w = false
+
+-- If one waits at the device, the completion of the oldest that is neither dropped nor refused until a refresh is sent
+-- at the end and on the stream on which that came.
+pub record IsRespondedOn (plan : Plan) (h : History) (link : ℕ) (w : Verdict) : Type 0 where
+  pub empty : (w ≡ v.Access (av.Empty link)) ↔ NoneWaits plan h (device_port link)
+  pub oldest : (r : WaitingRead) → IsOldestAt plan h (device_port link) r → is_dropped w ≡ false
+      → is_refresh_first w ≡ false → IsAnsweredAsSend (lanes_at plan h r.came.end r.came.stream) Cpl false w
 
 -- ---- the law
 
@@ -188,8 +206,9 @@ abbrev pub AnswersSend : Plan → History → Event → Verdict → Type 0
 AnswersSend plan h (event.Send end bytes more trusted) w = may_send plan end ≡ true → IsSentOn plan h end bytes more w
 AnswersSend plan h (event.Forward link d) w = has_hop plan link ≡ true → IsForwardedOn plan h link d w
 AnswersSend plan h (Access (ae.Answer link)) w = has_link plan link ≡ true → IsAnsweredOn plan h link w
+AnswersSend plan h (Access (ae.Respond link)) w = has_link plan link ≡ true → IsRespondedOn plan h link w
 AnswersSend plan h e w = Unit {0}
 
--- at each send, forward and answer
+-- at each send, forward, answer and response
 abbrev pub SendLaw : Plan → History → Type 0
 SendLaw plan h = AtPairs (AnswersSend plan) h

@@ -1,13 +1,16 @@
 -- Which sealed packets have T.
 use Rattle.std.specs.Prelude.{◌≡◌, ◌↔◌, ℕ, ◌&&◌, Bool, true, false, not, nat_le, List, Some, length, slice_get}
 use Rattle.spec_links.specs.Terms.{AllByRecursion, Plan, PortName, Event, SealedPacket, Verdict, History, read_of}
+use Rattle.spec_links.specs.Terms.{WaitingRead}
 use Rattle.spec_links.specs.History.{sent_bytes}
 use Rattle.spec_links.specs.Hops.{HopTlp, entering_end, leaving_end}
 use Rattle.spec_links.specs.HopLaws.{tlps_since_reset}
-use Rattle.spec_links.specs.Memory.{accepted_tlps}
+use Rattle.spec_links.specs.Memory.{accepted_tlps, queued_reads}
+use Rattle.spec_links.specs.Sent.{reads_taken}
 use Rattle.spec_links.specs.Ports.{at_switch}
 use Rattle.spec_keys.specs.Places.{is_host}
 use Rattle.ide_types.specs.Ends.{port_beside_end}
+use Rattle.ide_types.specs.Ports.{device_port}
 use Rattle.ide_types.specs.Lines.{is_link_line, is_far_hop_line}
 use Rattle.ide_types.specs.declared.direction.Direction.{Direction}
 use Rattle.spec_interfaces.specs.Sites.{Site}
@@ -19,6 +22,7 @@ use Rattle.spec_interfaces.specs.Laws.{OwnerIsBound}
 use Rattle.law_locks.specs.Fronts.{AtPairs}
 use Rattle.law_verdicts.specs.Verdicts.{asks_trust, is_at_host}
 use Rattle.script_events.specs.declared.event.Event.TheVariants as event
+use Rattle.script_events.specs.declared.event.AccessEvent.TheVariants as ae
 use Rattle.event_verdicts.specs.declared.verdict.Verdict.TheVariants as v
 
 -- ---- ends
@@ -49,6 +53,17 @@ abbrev pub IsFirstWaiting : Plan → History → ℕ → Direction → HopTlp �
 IsFirstWaiting plan h link d x = slice_get (accepted_tlps plan h link (entering_end link d))
     (length (tlps_since_reset plan h link (leaving_end link d))) ≡ Some x
 
+-- the event answers the oldest read that waits at a device
+abbrev pub is_response : Event → Bool
+is_response (event.Access (ae.Respond link)) = true
+is_response e = false
+
+-- T is that of the oldest read that was queued at the device of the link and waits
+pub record HasReadsT (plan : Plan) (h : History) (link : ℕ) (d : SealedPacket) : Type 0 where
+  pub read : WaitingRead
+  pub oldest : slice_get (queued_reads plan h (device_port link)) (reads_taken h (device_port link)) ≡ Some read
+  pub t_is : d.t ≡ read.came.trusted
+
 -- T is that of the TLP that is forwarded
 pub record HasForwardedT (plan : Plan) (h : History) (e : Event) (d : SealedPacket) : Type 0 where
   pub link : ℕ
@@ -59,17 +74,19 @@ pub record HasForwardedT (plan : Plan) (h : History) (e : Event) (d : SealedPack
   pub t_is : d.t ≡ first.t
 
 -- The T of a packet that carries a TLP, by the end that sealed it: at a host's it is as the event asks, at a device's
--- as its interfaces are, and at a switch as it came. A sync packet has none.
+-- as its interfaces are, but of a response as its read had it, and at a switch as it came. A sync packet has none.
 pub record HasItsT (plan : Plan) (h : History) (e : Event) (d : SealedPacket) : Type 0 where
   pub sync : d.sync ≡ true → d.t ≡ false
   pub host : d.sync ≡ false → is_at_host d.port ≡ true → d.t ≡ asks_trust e
-  pub device : d.sync ≡ false → is_at_device d.port ≡ true
+  pub device : is_response e ≡ false → d.sync ≡ false → is_at_device d.port ≡ true
       → (d.t ≡ true) ↔ OwnerRuns plan h d.port.line d.stream (sent_bytes plan h e)
-  pub peer : d.sync ≡ false → is_at_peer d.port ≡ true
+  pub peer : is_response e ≡ false → d.sync ≡ false → is_at_peer d.port ≡ true
       → (d.t ≡ true)
       ↔ OwnerIsBound plan h (port_beside_end plan.peers d.port).line d.stream (sent_bytes plan h e)
-  pub hop : d.sync ≡ false → is_at_device_hop d.port ≡ true → d.t ≡ false
+  -- nor does a response have T there: no read that came over a hop with T is queued
+  pub hop : is_response e ≡ false → d.sync ≡ false → is_at_device_hop d.port ≡ true → d.t ≡ false
   pub switch : d.sync ≡ false → at_switch plan d.port ≡ true → HasForwardedT plan h e d
+  pub response : (link : ℕ) → e ≡ event.Access (ae.Respond link) → d.sync ≡ false → HasReadsT plan h link d
 
 abbrev pub HaveTheirT : Plan → History → Event → Verdict → Type 0
 HaveTheirT plan h e (v.Sealed ds) = AllByRecursion (HasItsT plan h e) ds

@@ -17,7 +17,10 @@ use Rattle.std.specs.List.{AllByRecursion}
 use Rattle.ide_types.specs.declared.port.Side.{Side}
 use Rattle.ide_types.specs.declared.port.Side.TheVariants.{Host, Device}
 use Rattle.spec_links.specs.Cause.{CauseLaw}
-use Rattle.spec_links.specs.Terms.{Accepted}
+use Rattle.spec_links.specs.Terms.{Accepted, ReadTarget, WaitingRead, site_on}
+use Rattle.spec_links.specs.Memory.{queued_reads}
+use Rattle.spec_links.specs.Sent.{reads_taken}
+unfoldable use Rattle.spec_links.specs.Due.{due}
 use Rattle.spec_interfaces.specs.Terms.{Plan, Event, Verdict, SealedPacket, History}
 use Rattle.spec_interfaces.specs.Terms.{Error, binds}
 use Rattle.spec_interfaces.specs.Sites.{Site, site_at, site_of_requester, sites}
@@ -30,20 +33,18 @@ use Rattle.interface_state.specs.Machine.{is_locked, is_unlocked, bound_link_str
 use Rattle.ide_types.specs.declared.binding.Binding.{Binding}
 use Rattle.tlp_layout.specs.Reading.{read_of}
 use Rattle.law_memory.proofs.Causes.{interface_cause}
+use Rattle.law_memory.proofs.Packets.{IsOf, map_all}
+use Rattle.law_memory.proofs.Responses.{Responded, responded, response_packets, response_sending, trusted_response}
 use Rattle.law_states.specs.States.{state_at, is_lock_sent, is_start_sent, is_link_reset, is_forbidden}
 use Rattle.law_states.specs.States.{is_config_locked, unlocks}
 use Rattle.law_states.specs.Errors.{SealsNoT, StoresNoT, IsInError}
 use Rattle.law_states.proofs.Held.{moves_state}
 use Rattle.law_states.proofs.Shut.{none_stored, none_trusted}
 use Rattle.script_events.specs.declared.event.Event.TheVariants as event
+use Rattle.script_events.specs.declared.event.AccessEvent.TheVariants as ae
 use Rattle.event_verdicts.specs.declared.verdict.Verdict.TheVariants as v
 
 -- ---- T
-
-all_lead : (P Q : SealedPacket → Type 0) (ds : List SealedPacket) → ((d : SealedPacket) → P d → Q d)
-    → AllByRecursion P ds → AllByRecursion Q ds
-all_lead P Q [] lead all = tt
-all_lead P Q (d ∷ ds) lead all = (lead d all.0, all_lead P Q ds lead all.1)
 
 runs_not : (plan : Plan) (h : History) (x : Site) → state_at plan h x ≡ Error → runs_at plan h x ≡ false
 runs_not plan h x error = ap is_run error
@@ -148,13 +149,49 @@ no_sync_t : (s t b : Bool) → t ≡ (if s then false else b) → b ≡ false �
 no_sync_t true t b is none = is
 no_sync_t false t b is none = is ∙ none
 
-seals_no_t : (plan : Plan) (h : History) (e : Event) (w : Verdict) (x : Site) → PairFits plan h e w
-    → state_at plan h x ≡ Error → SealsNoT plan e w x
-seals_no_t plan h (event.Send port bytes more trusted) (v.Sealed ds) x fit error =
-    all_lead (SealFits plan h bytes trusted) _ ds
-    (λ d of at owned. no_sync_t d.sync d.t _ of.t_is
-    (no_t plan h x d.port d.stream (read_of bytes) trusted error at owned)) fit
-seals_no_t plan h e w x fit error = tt
+-- of a completion: that of a trusted read is sealed while its interface is in RUN
+response_no_t : (plan : Plan) (h : History) (link : ℕ) (ds : List SealedPacket) (x : Site)
+    → v.Sealed ds ≡ due plan h (event.Access (ae.Respond link)) → state_at plan h x ≡ Error
+    → SealsNoT plan h (event.Access (ae.Respond link)) (v.Sealed ds) x
+response_no_t plan h link ds x due_is error read target oldest aims placed =
+    by is.read.came.trusted refl
+  where
+    is : Responded plan h link ds
+    is = responded plan h link ds due_is
+
+    one : {A : Type 0} (o : Option A) (a b : A) → o ≡ Some a → o ≡ Some b → a ≡ b
+    one o a b first second = cc (first, second)
+
+    reads : is.read ≡ read
+    reads = one (slice_get (queued_reads plan h (device_port link)) (reads_taken h (device_port link))) is.read read
+        is.oldest oldest
+
+    aim : is.target ≡ target
+    aim = one is.read.target is.target target is.target_is (ap (λ (r : WaitingRead). r.target) reads ∙ aims)
+
+    same : is.interface ≡ x
+    same = one (site_on plan link target.interface) is.interface x
+        (ap (λ (t : ReadTarget). site_on plan link t.interface) (sym aim) ∙ is.placed) placed
+
+    by : (t : Bool) → is.read.came.trusted ≡ t → AllByRecursion (λ (d : SealedPacket). d.t ≡ false) ds
+    by true trusted =
+        let runs = (trusted_response plan h link ds is trusted).runs in
+        absurd (true≢false (sym runs
+        ∙ (ap (λ (y : Site). runs_at plan h y) same ∙ runs_not plan h x error)))
+    by false plain = map_all (λ (d : SealedPacket) (of : IsOf (response_sending is.read.came is.tlp) d).
+        no_sync_t d.sync d.t is.read.came.trusted of.t_is plain) ds (response_packets plan h link ds is)
+
+seals_no_t : (plan : Plan) (h : History) (e : Event) (w : Verdict) (x : Site) → PairFits plan h e w → w ≡ due plan h e
+    → state_at plan h x ≡ Error → SealsNoT plan h e w x
+seals_no_t plan h (event.Send port bytes more trusted) (v.Sealed ds) x fit is error =
+    let lacks : (d : SealedPacket) → SealFits plan h bytes trusted d → port_of plan d.port ≡ device_port x.link
+    → owner_read plan x.link (read_of bytes) ≡ Some x → d.t ≡ false =
+    λ d of at owned. no_sync_t d.sync d.t _ of.t_is
+    (no_t plan h x d.port d.stream (read_of bytes) trusted error at owned)
+    in map_all lacks ds fit
+seals_no_t plan h (event.Access (ae.Respond link)) (v.Sealed ds) x fit is error =
+    response_no_t plan h link ds x is error
+seals_no_t plan h e w x fit is error = tt
 
 -- ---- bindings
 
@@ -201,7 +238,7 @@ stores_no_t plan h e w x at cause error = tt
 pub in_error : (plan : Plan) (h : History) (e : Event) (w : Verdict) (x : Site) → site_at plan x.number ≡ Some x
     → CauseLaw plan ((e, w) ∷ h) → state_at plan h x ≡ Error → IsInError plan h e w x
 in_error plan h e w x at cause error = record {
-  seals_no_t = seals_no_t plan h e w x (interface_cause plan ((e, w) ∷ h) cause).0 error;
+  seals_no_t = seals_no_t plan h e w x (interface_cause plan ((e, w) ∷ h) cause).0 cause.0 error;
   stores_none = λ bar number write shut. none_stored plan h e w x bar number write cause.0 at error shut;
   stores_no_t = stores_no_t plan h e w x at cause error;
   unbound = λ stream. unbound plan h x stream error;

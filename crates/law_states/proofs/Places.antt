@@ -15,7 +15,7 @@ use Rattle.std.specs.Prelude.{slice_get}
 use Rattle.spec_interfaces.specs.Devices.{used_at, one_if, is_lock_accepted}
 unfoldable use Rattle.spec_interfaces.specs.Devices.{devices}
 use Rattle.interface_state.specs.Machine.{is_unlocked}
-use Rattle.law_locks.proofs.OneLock.{cause_at}
+use Rattle.law_memory.proofs.Found.{cause_at}
 use Rattle.law_states.specs.States.{state_at, is_lockable, locks}
 use Rattle.law_states.specs.Nonces.{LockAt, TakesPlace, TakesLater}
 unfoldable use Rattle.law_states.specs.Nonces.{locks_on}

@@ -1,19 +1,16 @@
 -- An interface in ERROR stores no write in a BAR that is not open.
-use Rattle.std.proofs.Common.{subst, ◌≡◌, ℕ, ◌==◌, ◌&&◌, Bool, true, false, List, Option, Some}
-use Rattle.std.proofs.Common.{None, Result, Ok, Err, if◌then◌else◌, refl, sym, ap, ◌∙◌, inl, inr}
+use Rattle.std.proofs.Common.{◌≡◌, ℕ, ◌==◌, ◌&&◌, Bool, true, false, List, Option, Some}
+use Rattle.std.proofs.Common.{None, if◌then◌else◌, refl, sym, ap, ◌∙◌, inl, inr}
 use Rattle.std.specs.Prelude.{slice_get}
 use Rattle.std.specs.Option.{option_map, option_map_or}
 use Rattle.std.proofs.lemmas.Bool.{and_parts, cases_Bool, true≢false, eqb-true}
 use Rattle.spec_links.specs.Ports.{port_of}
-use Rattle.spec_links.specs.Admission.{effects_under_policy}
 use Rattle.spec_links.specs.Terms.{PortName, Plan, Event, Effect, UnitName, Verdict, Accepted, Packet, History}
-use Rattle.spec_links.specs.Terms.{is_sync_packet, read_head_of, TlpFault, Write, write_span}
+use Rattle.spec_links.specs.Terms.{Write, write_span}
 use Rattle.spec_links.specs.Plan.{is_same_port}
 unfoldable use Rattle.spec_links.specs.Due.{due}
-use Rattle.spec_links.specs.Memory.{unit_ended, plain_of, policy_at, device_effect}
-use Rattle.spec_links.specs.Memory.{effects_of}
+use Rattle.spec_links.specs.Memory.{unit_ended}
 use Rattle.spec_links.proofs.Tests.{same_port}
-use Rattle.tlp_layout.specs.declared.head.HeadView.{HeadView}
 use Rattle.spec_interfaces.specs.Sites.{Site, site_at}
 use Rattle.spec_interfaces.specs.Devices.{interface_at}
 use Rattle.spec_interfaces.specs.Floors.{place_of, history_statuses, device_status}
@@ -32,10 +29,9 @@ use Rattle.guarded_memory.specs.Statuses.{is_open_range, has_open_range, state_o
 use Rattle.guarded_memory.specs.Claims.{claim_of}
 use Rattle.guarded_memory.specs.Causes.{access_cause, mmio_cause, cause_effect, claim_effect, mmio_effect}
 use Rattle.guarded_memory.proofs.Claimed.{claimed}
-use Rattle.law_mmio.specs.Stored.{write_read, if_claims, claimed_write, unit_stored_writes, stores}
-use Rattle.law_mmio.proofs.Guards.{device_effect_of, effect_at, not_sync, shut_at, stored_at}
-use Rattle.law_mmio.proofs.OnLinks.{no_switch}
-use Rattle.law_mmio.proofs.SameWrites.{some_is, effects_there}
+use Rattle.law_mmio.specs.Stored.{if_claims, claimed_write, stores}
+use Rattle.law_mmio.proofs.Guards.{shut_at, write_at}
+use Rattle.law_mmio.proofs.SameWrites.{some_is}
 use Rattle.event_verdicts.specs.declared.verdict.BlockCause.{BlockCause}
 use Rattle.event_verdicts.specs.declared.verdict.Effect.TheVariants as effect
 use Rattle.law_states.specs.States.{state_at}
@@ -107,13 +103,6 @@ span_not xs place bar stream draw t payload to shut (Some s) stored is =
     claim_not xs place bar stream draw t s (record { span = s; payload = payload }) to shut
     (claim_of xs s) refl stored is
 
-head_not : (xs : List InterfaceStatus) (unit : UnitName) (p : Packet) (place bar : ℕ) (payload : List ℕ) (to : Write)
-    → IsShut xs place bar p.prefix.t → (r : Result HeadView TlpFault) → device_effect xs unit p r ≡ effect.Stored
-    → claimed_write xs place bar (write_read payload r) ≡ Some to → ⊥
-head_not xs unit p place bar payload to shut (Err f) stored is = absurd (none_is_not to is)
-head_not xs unit p place bar payload to shut (Ok head) stored is =
-    span_not xs place bar unit.stream unit.draw p.prefix.t payload to shut (write_span head) stored is
-
 -- ---- how it stands
 
 is_shut : (plan : Plan) (h : History) (x : Site) (bar : ℕ) (t : Bool) → site_at plan x.number ≡ Some x
@@ -137,29 +126,18 @@ IsPlainToShut plan h e port unit x bar number = (p : Packet) → slice_get (unit
     → p.prefix.t ≡ false → has_open_range x.plan.bars bar ≡ false
 
 stores_not : (plan : Plan) (h : History) (e : Event) (port : PortName) (unit : UnitName) (effects : List Effect)
-    (x : Site) (bar number : ℕ) (write : Write) → site_at plan x.number ≡ Some x
+    (x : Site) (bar number : ℕ) (write : Write) → Accepted port unit effects ≡ due plan h e
+    → site_at plan x.number ≡ Some x
     → state_at plan h x ≡ tdi.Error → IsPlainToShut plan h e port unit x bar number
     → port_of plan port ≡ device_port x.link
-    → effects ≡ effects_of plan h port unit (unit_ended plan h e port unit)
     → slice_get (stores plan h e (Accepted port unit effects) x bar) number ≡ Some (Some write)
     → is_same_port (port_of plan port) (device_port x.link) ≡ true → ⊥
-stores_not plan h e port unit effects x bar number write known error shut at es stands same =
-    let ps = unit_ended plan h e port unit in
-    let xs = history_statuses plan h x.link in
-    let here : slice_get (unit_stored_writes xs (place_of plan x) bar (plain_of plan port unit ps) effects ps) number
-    ≡ Some (Some write) =
-    rw same at stands in
-    let are = subst (λ (q : PortName). effects ≡ effects_under_policy plan (policy_at plan h) q unit ps) at es in
-    let stored = stored_at xs (place_of plan x) bar (plain_of plan port unit ps) effects ps number write here in
-    let is_effect : Some (device_effect_of xs unit stored.packet) ≡ Some effect.Stored =
-    sym (effect_at plan (policy_at plan h) ((policy_at plan h).waiting x.link) x.link unit ps number
-    stored.packet (no_switch plan x known) stored.is_packet)
-    ∙ ap (λ (fs : List Effect). slice_get fs number) (sym are) ∙ stored.effect_is in
-    let cause = not_sync (is_sync_packet stored.packet) (device_effect xs unit stored.packet
-    (read_head_of stored.packet.head)) (some_is (device_effect_of xs unit stored.packet) effect.Stored is_effect) in
-    head_not xs unit stored.packet (place_of plan x) bar stored.payload write
+stores_not plan h e port unit effects x bar number write is known error shut at stands same =
+    let stored = write_at plan h e port unit effects x bar number write is known at stands same in
+    span_not (history_statuses plan h x.link) (place_of plan x) bar unit.stream unit.draw stored.packet.prefix.t
+    stored.payload write
     (is_shut plan h x bar stored.packet.prefix.t known error (shut stored.packet stored.is_packet))
-    (read_head_of stored.packet.head) cause stored.claimed
+    (write_span stored.head) stored.stored stored.claimed
 
 by_pair : (plan : Plan) (h : History) (e : Event) (port : PortName) (unit : UnitName) (effects : List Effect) (x : Site)
     (bar number : ℕ) (write : Write) → Accepted port unit effects ≡ due plan h e → site_at plan x.number ≡ Some x
@@ -168,9 +146,8 @@ by_pair : (plan : Plan) (h : History) (e : Event) (port : PortName) (unit : Unit
 by_pair plan h e port unit effects x bar number write is known error shut stands =
     elim (cases_Bool (is_same_port (port_of plan port) (device_port x.link))) [
       | inl same ↦
-          stores_not plan h e port unit effects x bar number write known error shut
-          (same_port (port_of plan port) (device_port x.link) same) (effects_there plan h e port unit effects is)
-          stands same
+          stores_not plan h e port unit effects x bar number write is known error shut
+          (same_port (port_of plan port) (device_port x.link) same) stands same
       | inr other ↦ absurd (none_is_not (Some write) (rw other at stands))
     ]
 

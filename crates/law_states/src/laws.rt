@@ -40,9 +40,9 @@ pub fn view_law()
     ensures { ViewLawHolds }
 {}
 
-/// In ERROR an interface is bound to no stream, no send of it is sealed with T, no write with T is stored in a range
-/// of it, and none at all in one without attribute bit 2. It leaves ERROR by a STOP_INTERFACE or a reset of its link
-/// alone.
+/// In ERROR an interface is bound to no stream, no send of it and no completion of a read of its memory is sealed with
+/// T, no write with T is stored in a range of it, and none at all in one without attribute bit 2. It leaves ERROR by a
+/// STOP_INTERFACE or a reset of its link alone.
 pub fn error_law()
     ensures { ErrorLawHolds }
 {}

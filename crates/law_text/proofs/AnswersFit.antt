@@ -2,8 +2,9 @@
 use Rattle.std.proofs.Common.{◌≡◌, ℕ, ◌<◌, ◌^◌, Bool, true, false, List, [], ◌∷◌, length, Option, Some, None, refl}
 use Rattle.std.proofs.Common.{arith, if◌then◌else◌, ap, sym}
 use Rattle.std.proofs.lemmas.Option.{same_Some}
-use Rattle.std.specs.Prelude.{◌==◌, ◌&&◌, unwrap_or}
+use Rattle.std.specs.Prelude.{◌==◌, ◌&&◌, slice_get, unwrap_or}
 use Rattle.ide_types.specs.declared.binding.Binding.{Binding}
+use Rattle.ide_types.specs.Ports.{host_port}
 use Rattle.ide_types.specs.declared.port.PortName.{PortName}
 use Rattle.ide_types.specs.declared.sub.SubKind.TheVariants.{Cpl}
 use Rattle.ide_types.specs.declared.plan.Plan.{Plan}
@@ -25,21 +26,23 @@ use Rattle.event_verdicts.proofs.Admits.{binding_admits}
 use Rattle.event_verdicts.specs.Apart.{Fits}
 use Rattle.trusted_memory.specs.declared.queue.WaitingRead.{WaitingRead}
 use Rattle.spec_links.specs.Plan.{has_link, lane_out, streams_of}
-use Rattle.spec_links.specs.History.{KeyName, live_key, sent_bytes, sending_port}
-use Rattle.spec_links.specs.Memory.{waiting_reads}
+use Rattle.spec_links.specs.History.{KeyName, live_key, sent_bytes}
+use Rattle.spec_links.specs.Memory.{waiting_reads, queued_reads}
+use Rattle.spec_links.specs.Sent.{reads_taken}
+use Rattle.spec_links.proofs.HopFirst.{drop_first}
 use Rattle.spec_links.specs.Cause.{CauseLaw}
-use Rattle.spec_links.specs.Due.{send_due, is_before, draw_of, answer_first, answer_judged, answer_with_key, judged_by}
-use Rattle.spec_links.specs.Due.{site_answer, completion_verdict, outgoing_completion, answer_due, no_key}
+use Rattle.spec_links.specs.Due.{send_due, is_before, draw_of, answer_judged, judged_by, sent_from, first_answered}
+use Rattle.spec_links.specs.Due.{read_due, site_answer, completion_verdict, outgoing_completion, answer_due, no_key}
 use Rattle.law_text.proofs.SendsFit.{on_stream_fits, live_few, link_fits}
 use Rattle.law_text.proofs.SitesFit.{SiteFits, found_site_fits}
 use Rattle.law_text.proofs.InterfacesFit.{floor_fits}
 use Rattle.law_text.proofs.MemoryFits.{memory_fits}
 
-draw_is : (o : Option KeyName) → draw_of o ≡ (unwrap_or o no_key).draw
+pub draw_is : (o : Option KeyName) → draw_of o ≡ (unwrap_or o no_key).draw
 draw_is None = refl
 draw_is (Some key) = refl
 
-if_fits : (plan : Plan) (b : Bool) (x y : Verdict) → Fits plan x → (b ≡ false → Fits plan y)
+pub if_fits : (plan : Plan) (b : Bool) (x y : Verdict) → Fits plan x → (b ≡ false → Fits plan y)
     → Fits plan (if b then x else y)
 if_fits plan true x y one two = one
 if_fits plan false x y one two = two refl
@@ -61,7 +64,8 @@ bound_floor o stream floor b is = grind arith
 -- a read is dropped by a cause, or answered
 judged_fits : (plan : Plan) (h : History) (port : PortName) (x : Site) → SiteFits x → (b : Binding) (out : Outgoing)
     (c : Option BlockCause)
-    → (c ≡ None → Fits plan (answer_with_key plan h port b.floor (live_key h port (lane_out port b.stream Cpl)) out))
+    → (c ≡ None → Fits plan (sent_from b.floor (live_key h port (lane_out port b.stream Cpl))
+    (send_due plan h port out false true)))
     → Fits plan (answer_judged plan h port out (judged_by x.number b c))
 judged_fits plan h port x site b out None fits = fits refl
 judged_fits plan h port x site b out (Some c) fits = site.number
@@ -90,24 +94,22 @@ of_fits plan fits h cause few port bytes draw None site out comes = tt
 of_fits plan fits h cause few port bytes draw (Some x) site out comes =
     by_fits plan fits h cause few port bytes x (site x refl) draw (granted_to h (Some x)) refl out comes
 
-first_fits : (plan : Plan) → FitsPlan plan → (h : History) → CauseLaw plan h → length h < 2 ^ 28
-    → (port : PortName) → port.line < 2 ^ 64 → (bytes : List ℕ) (rs : List WaitingRead) (out : Outgoing)
-    → outgoing_of (streams_of plan port.line) port.side bytes ≡ out → Fits plan (answer_first plan h port rs out)
-first_fits plan fits h cause few port small bytes [] out comes = small
-first_fits plan fits h cause few port small bytes (r ∷ rs) out comes =
-    of_fits plan fits h cause few port bytes r.draw (site_of_requester plan port.line r.read.requester)
-    (found_site_fits plan fits (λ x. (x.link == port.line) && (x.plan.requester == r.read.requester))) out comes
+-- the answer to the oldest read that waits at a port, or that none does
+pub read_fits : (plan : Plan) → FitsPlan plan → (h : History) (port : PortName) (answer : WaitingRead → Verdict)
+    → ((r : WaitingRead) → slice_get (queued_reads plan h port) (reads_taken h port) ≡ Some r → Fits plan (answer r))
+    → Fits plan (read_due plan h port answer)
+read_fits plan fits h port answer each = by (has_link plan port.line) refl (waiting_reads plan h port) refl
+  where
+    by : (b : Bool) → has_link plan port.line ≡ b → (rs : List WaitingRead) → waiting_reads plan h port ≡ rs
+        → Fits plan (if b then first_answered answer port.line rs else v.Nothing)
+    by false here rs waits = tt
+    by true here [] waits = link_fits plan fits port.line here
+    by true here (r ∷ rs) waits = each r (drop_first (reads_taken h port) (queued_reads plan h port) r rs waits)
 
 pub answer_due_fits : (plan : Plan) → FitsPlan plan → (h : History) → CauseLaw plan h → length h < 2 ^ 28 → (link : ℕ)
     → Fits plan (answer_due plan h link)
-answer_due_fits plan fits h cause few link = by_link (has_link plan link) refl
-  where
-    by_link : (b : Bool) → has_link plan link ≡ b → Fits plan
-        (if b then answer_first plan h (sending_port plan (Access (ae.Answer link))) (waiting_reads plan h link)
-        (outgoing_completion plan h link) else v.Nothing)
-    by_link true here =
-        let port = sending_port plan (Access (ae.Answer link)) in
-        first_fits plan fits h cause few port (link_fits plan fits link here)
-        (sent_bytes plan h (Access (ae.Answer link)))
-        (waiting_reads plan h link) (outgoing_completion plan h link) refl
-    by_link false here = tt
+answer_due_fits plan fits h cause few link = read_fits plan fits h (host_port link) _
+    (λ r oldest. of_fits plan fits h cause few (host_port link) (sent_bytes plan h (Access (ae.Answer link)))
+    r.came.draw (site_of_requester plan link r.read.requester)
+    (found_site_fits plan fits (λ x. (x.link == link) && (x.plan.requester == r.read.requester)))
+    (outgoing_completion plan h link) refl)

@@ -42,7 +42,7 @@ use Rattle.ide_prefix.specs.Packet.{Packet, FitsPacket, packet_bytes}
 use Rattle.ide_prefix.specs.Reading.{CutValue, PlainTlp, IdePacket, cut_of}
 use Rattle.ide_prefix.proofs.Cuts.{bounded}
 use Rattle.ide_prefix.proofs.Grammar.{bytes_of, spelled_whole}
-use Rattle.spec_keys.specs.Keys.{Keyed, Off, Loaded, On, key_in, on_in}
+use Rattle.spec_keys.specs.Keys.{key_in}
 use Rattle.spec_keys.specs.History.{History, base}
 use Rattle.spec_links.specs.Plan.{SubStream, has_port, has_stream, stream_plan, partner}
 use Rattle.spec_links.specs.History.{SealedList, ArrivedBytes, arrival_of_event, altered_arrival, arrival_at_partner}
@@ -60,7 +60,7 @@ use Rattle.law_key_facts.proofs.Unplanned.{known as on_known}
 use Rattle.law_sealing.proofs.Below.{cut_fits}
 use Rattle.law_sealing.proofs.OfPlans.{streams_fit}
 use Rattle.law_sealing.proofs.Places.{placed}
-use Rattle.law_text.proofs.Draws.{on_below}
+use Rattle.law_text.proofs.Draws.{on_below, on_is}
 use Rattle.law_text.proofs.FaultPlaces.{cut_place}
 use Rattle.law_text.proofs.PortsFit.{with_stream, there_is, reached_is}
 use Rattle.spec_links.specs.Ports.{port_of, goes_through}
@@ -92,7 +92,7 @@ all_known plan ((e, v.Sealed ds) ∷ h) law i x is =
     each_more (IsKnown plan) plan (ahead_of_packet plan (sealed_packets plan h) (base h)) (sent_bytes plan h e) ds
     (sealed_packets plan h)
     (live_all (IsKnown plan) plan h port stream ds (live_known plan h law.1 port stream)
-    (all_live plan h (sending_port plan e) (sent_bytes plan h e) ds sealing)) (all_known plan h law.1) i x is
+    (all_live plan h (sending_port plan h e) (sent_bytes plan h e) ds sealing)) (all_known plan h law.1) i x is
 all_known plan ((e, w) ∷ h) law i x is = all_known plan h law.1 i x is
 
 record Known (plan : Plan) (h : History) (n : ℕ) (x : SealedPacket × Packet) : Type 0 where
@@ -226,11 +226,6 @@ got_few ((e, v.Accepted port unit effects) ∷ h) s j = by_test (is_received_und
     by_test true few = omega (arith, few)
     by_test false few = omega (arith, few)
 got_few (_ ∷ h) s j = omega (arith, got_few h s j)
-
-on_is : (a : Keyed) (j : ℕ) → on_in a ≡ Some j → a ≡ On j
-on_is Off j is = absurd cc
-on_is (Loaded i) j is = absurd cc
-on_is (On i) j is = cc
 
 -- a packet's verdict before the tag, or its unit
 abbrev FitsStep : Plan → PortName → Result Ending Verdict → Type 0

@@ -9,7 +9,7 @@ use Rattle.event_verdicts.specs.declared.verdict.Operation.{Operation}
 use Rattle.event_verdicts.specs.declared.verdict.Operation.TheVariants as op
 use Rattle.event_verdicts.specs.declared.verdict.Verdict.{Verdict}
 use Rattle.event_verdicts.specs.declared.verdict.Verdict.TheVariants as v
-use Rattle.spec_keys.specs.Keys.{On, key_in}
+use Rattle.spec_keys.specs.Keys.{Keyed, Off, Loaded, On, key_in, on_in}
 use Rattle.spec_keys.specs.Operations.{StreamStage, Idle, Establishing, Up, Refreshing, Stopping, Work, Reach}
 use Rattle.spec_keys.specs.Operations.{StreamOperations, Begun, work_of, reach_of, manager_after_operation}
 use Rattle.spec_keys.specs.Operations.{manager_after, makes_draw, begun_after_work}
@@ -53,6 +53,11 @@ few_draws [] = omega arith
 few_draws ((e, verdict) ∷ h) = one_event (manager h) e verdict (length h) (few_draws h)
 
 -- ---- draws in use
+
+pub on_is : (a : Keyed) (j : ℕ) → on_in a ≡ Some j → a ≡ On j
+on_is Off j is = absurd cc
+on_is (Loaded i) j is = absurd cc
+on_is (On i) j is = cc
 
 pub on_below : (h : History) (port : PortName) (s : SubStream) (k : Bool) (j : ℕ) → key_in (port_keys h port s) k ≡ On j
     → j < length h

@@ -31,6 +31,7 @@ use Rattle.law_text.proofs.ForwardsFit.{forward_due_fits}
 use Rattle.law_text.proofs.InterfacesFit.{interface_fits}
 use Rattle.law_text.proofs.MemoryFits.{memory_fits}
 use Rattle.law_text.proofs.AnswersFit.{answer_due_fits}
+use Rattle.law_text.proofs.ResponsesFit.{respond_due_fits}
 use Rattle.law_text.proofs.MmioFits.{mmio_fits}
 use Rattle.law_text.proofs.ArrivalsFit.{arrival_due_fits, dump_due_fits}
 
@@ -49,6 +50,7 @@ due_fits plan fits h cause few (Status line stream) allowed = status_due_fits pl
 due_fits plan fits h cause few (Interface e) allowed = interface_fits plan fits h cause few e (memory_due plan h e)
     (memory_fits plan h cause e)
 due_fits plan fits h cause few (Access (ae.Answer link)) allowed = answer_due_fits plan fits h cause few link
+due_fits plan fits h cause few (Access (ae.Respond link)) allowed = respond_due_fits plan fits h cause few link
 due_fits plan fits h cause few (Access (ae.Mmio i bar offset len)) allowed = mmio_fits plan h cause i bar offset len
 due_fits plan fits h cause few (Forward link d) allowed = forward_due_fits plan fits h cause few link d
 due_fits plan fits h cause few Absent allowed = tt

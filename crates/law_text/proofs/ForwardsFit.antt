@@ -14,8 +14,6 @@ use Rattle.spec_keys.specs.History.{History}
 use Rattle.spec_stream.specs.Sending.{Sending}
 use Rattle.script_events.specs.declared.event.Event.TheVariants.{Forward}
 use Rattle.event_verdicts.specs.Apart.{Fits}
-use Rattle.event_verdicts.specs.declared.access.AccessVerdict.TheVariants as av
-use Rattle.event_verdicts.specs.declared.verdict.Verdict.{Verdict}
 use Rattle.event_verdicts.specs.declared.verdict.Verdict.TheVariants as v
 use Rattle.spec_links.specs.Cause.{CauseLaw}
 unfoldable use Rattle.spec_links.specs.Due.{due}

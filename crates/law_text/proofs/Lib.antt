@@ -10,5 +10,6 @@ mod InterfacesFit
 mod MemoryFits
 mod AnswersFit
 mod MmioFits
+pub mod ResponsesFit
 pub mod Fitting
 pub mod Reading

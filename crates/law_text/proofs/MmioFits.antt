@@ -1,5 +1,22 @@
 -- What stands in a device's guarded memory are bytes: the payloads of the writes that are stored there are.
-use Rattle.std.proofs.Common.{◌≡◌, ℕ, ◌==◌, ◌&&◌, Bool, true, false, List, [], ◌∷◌, length, take, drop, Option, Some}
+use Rattle.std.proofs.Common.{
+  ◌≡◌,
+  ℕ,
+  ◌<◌,
+  ◌==◌,
+  ◌&&◌,
+  Bool,
+  true,
+  false,
+  List,
+  [],
+  ◌∷◌,
+  length,
+  take,
+  drop,
+  Option,
+  Some,
+}
 use Rattle.std.proofs.Common.{None, Result, Ok, Err, if◌then◌else◌}
 use Rattle.std.specs.List.{AllByRecursion, cons_option}
 use Rattle.std.proofs.lemmas.List.Elements.{All-take, All-drop}
@@ -171,6 +188,11 @@ since_bytes (h ∷ older) i b all = by (since_bytes older i b all.1) (clears h i
     by later true = tt
     by later false = more_bytes (stored_write h i b) (writes_since older i b) (stored_bytes h i b all.0) later
 
+pub shown_small : (plan : Plan) (h : History) → CauseLaw plan h → (link i b a : ℕ)
+    → byte_shown (link_happenings plan h link) i b a < 256
+shown_small plan h cause link i b a = byte_small (writes_since (link_happenings plan h link) i b)
+    (since_bytes (link_happenings plan h link) i b (happened_bytes plan h cause link)) a
+
 shown_bytes : (plan : Plan) (b : Bool) (bytes : List ℕ) → IsBytes bytes → Fits plan (mmio_if b bytes)
 shown_bytes plan true bytes are = are
 shown_bytes plan false bytes are = tt
@@ -180,11 +202,9 @@ site_bytes : (plan : Plan) (h : History) → CauseLaw plan h → (o : Option Sit
 site_bytes plan h cause None bar offset len = tt
 site_bytes plan h cause (Some x) bar offset len =
     let place = place_of plan x in
-    let ws = writes_since (link_happenings plan h x.link) place bar in
     shown_bytes plan _ (bytes_from (byte_shown (link_happenings plan h x.link) place bar) offset len)
-    (from_bytes (byte_shown (link_happenings plan h x.link) place bar)
-    (byte_small ws (since_bytes (link_happenings plan h x.link) place bar (happened_bytes plan h cause x.link))) offset
-    len)
+    (from_bytes (byte_shown (link_happenings plan h x.link) place bar) (shown_small plan h cause x.link place bar)
+    offset len)
 
 pub mmio_fits : (plan : Plan) (h : History) → CauseLaw plan h → (i bar offset len : ℕ)
     → Fits plan (mmio_due plan h i bar offset len)

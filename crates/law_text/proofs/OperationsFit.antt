@@ -37,7 +37,6 @@ use Rattle.spec_links.specs.Due.{due}
 use Rattle.law_sealing.proofs.Bounds.{id_byte}
 use Rattle.law_sealing.proofs.OfPlans.{streams_fit}
 use Rattle.law_text.proofs.Draws.{few_draws, few_work}
-use Rattle.ide_types.specs.declared.line.LineKind.{LineKind}
 
 -- ---- links and streams of a plan
 

@@ -2,7 +2,7 @@
 -- their links are bytes.
 use Rattle.std.proofs.Common.{◌≡◌, ℕ, zero, suc, ◌+◌, ◌<◌, ◌≤◌, ◌==◌, ◌^◌, Bool, true, false, List, [], ◌∷◌, ◌++◌}
 use Rattle.std.proofs.Common.{length, map, Some, slice_get, if◌then◌else◌, subst, arith}
-use Rattle.std.specs.Prelude.{find, sum_by}
+use Rattle.std.specs.Prelude.{filter, find, sum_by}
 use Rattle.std.specs.List.{AllByRecursion, slice_index_or}
 use Rattle.std.proofs.lemmas.List.Elements.{recursion_from_All}
 use Rattle.std.proofs.lemmas.List.Sums.{sum_by-cons}
@@ -16,12 +16,14 @@ use Rattle.ide_types.specs.Fits.{AreBytes, IsKey, FitsInterface, FitsLink, FitsP
 use Rattle.ide_types.proofs.Limits.{few_interfaces}
 use Rattle.interface_state.specs.Held.{FitsTdi}
 use Rattle.spec_interfaces.specs.Sites.{Site, sites_of_plans, sites_of_links, site_at, nonce_behind}
+use Rattle.spec_interfaces.specs.Floors.{site_on}
 unfoldable use Rattle.spec_interfaces.specs.Sites.{sites}
 
 -- ---- numbers, and what is laid out
 
 pub record SiteFits (x : Site) : Type 0 where
   pub number : x.number < 2 ^ 64
+  pub requester : x.plan.requester < 2 ^ 16
   pub tdi : FitsTdi x.plan
   pub info : AreBytes x.plan.info
 
@@ -32,6 +34,7 @@ one_fits : (streams : List StreamPlan) (number link : ℕ) (p : InterfacePlan) �
     → SiteFits (record { number = number; link = link; plan = p })
 one_fits streams number link p few fits = record {
   number = omega (arith, few);
+  requester = omega (arith, fits.requester);
   tdi = record { bars = fits.bars; each_bar = fits.each_bar; info = fits.info };
   info = fits.info_bytes;
 }
@@ -74,6 +77,21 @@ site_fits plan fits i x is = found_fits (λ y. y.number == i) (sites plan) x (si
 pub found_site_fits : (plan : Plan) → FitsPlan plan → (test : Site → Bool) (x : Site) → find test (sites plan) ≡ Some x
     → SiteFits x
 found_site_fits plan fits test x is = found_fits test (sites plan) x (sites_fit plan fits) is
+
+kept_fits : (test : Site → Bool) (xs : List Site) (n : ℕ) (x : Site) → AllFit xs
+    → slice_get (filter test xs) n ≡ Some x → SiteFits x
+kept_fits test [] n x all is = absurd cc
+kept_fits test (y ∷ xs) n x all is = by (λ m later. kept_fits test xs m x all.1 later) (test y) n is
+  where
+    by : ((m : ℕ) → slice_get (filter test xs) m ≡ Some x → SiteFits x) → (b : Bool) (n : ℕ)
+        → slice_get (if b then y ∷ filter test xs else filter test xs) n ≡ Some x → SiteFits x
+    by later true zero is = let same : y ≡ x = cc (is) in subst SiteFits same all.0
+    by later true (suc n) is = later n is
+    by later false n is = later n is
+
+pub site_on_fits : (plan : Plan) → FitsPlan plan → (link place : ℕ) (x : Site) → site_on plan link place ≡ Some x
+    → SiteFits x
+site_on_fits plan fits link place x is = kept_fits (λ y. y.link == link) (sites plan) place x (sites_fit plan fits) is
 
 -- ---- nonces
 

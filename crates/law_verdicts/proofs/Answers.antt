@@ -2,7 +2,8 @@
 use Rattle.std.proofs.Common.{◌≡◌, ℕ, ◌+◌, Bool, true, false, List, [], ◌∷◌, ◌++◌, length, Ok, Some, refl, ap, sym, ◌∙◌}
 use Rattle.std.specs.Prelude.{unwrap_or}
 use Rattle.spec_links.proofs.Terms.{Plan, History, Event, Verdict, Sealed, SealedPacket, SealedList, Packet, PortName}
-use Rattle.spec_links.proofs.Terms.{sent_bytes, sending_port, with_sealed, ahead_of_packet, open_unit}
+use Rattle.ide_types.specs.Ports.{host_port}
+use Rattle.spec_links.proofs.Terms.{sent_bytes, with_sealed, ahead_of_packet, open_unit}
 use Rattle.spec_links.proofs.Terms.{sub_stream_packets, sub_stream_of, base, lanes_at, Sending, Lanes, described_seal}
 use Rattle.spec_links.proofs.Terms.{ends_unit, sets_trusted, CauseLaw, Npr, Cpl, sealed_with_syncs, Access}
 use Rattle.spec_links.proofs.Terms.{outgoing_completion, site_of_requester, granted_to}
@@ -158,12 +159,13 @@ answer_ends : (plan : Plan) (h : History) (link : ℕ) (ds : List SealedPacket)
     → Sealed ds ≡ due plan h (Access (ae.Answer link)) → EndsSo ds
 unfolding due
 answer_ends plan h link ds is =
-    let port = sending_port plan (Access (ae.Answer link)) in
-    let first = first_means plan h link (Sealed ds) refl is in
+    let port = host_port link in
+    let first = first_means plan h port _ (Sealed ds) refl is in
     let owned = owned_means plan h link (Sealed ds) first.read (site_of_requester plan link first.read.read.requester)
     refl refl
     first.is in
-    let under = under_means plan h link ds owned.site first.read.draw (granted_to h (Some owned.site)) refl owned.is in
+    let under = under_means plan h link ds owned.site first.read.came.draw (granted_to h (Some owned.site)) refl
+    owned.is in
     send_ends plan h port (outgoing_completion plan h link) true ds under.sent
 
 pub answers_whole : (plan : Plan) (h : History) (e : Event) (w : Verdict) → CauseLaw plan ((e, w) ∷ h)

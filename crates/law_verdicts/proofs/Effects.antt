@@ -1,7 +1,8 @@
 -- Exactly the reads that ask are queued while fewer than 64 wait, and exactly the writes that are taken are stored.
 use Rattle.std.proofs.Common.{◌≡◌, ℕ, ◌+◌, ◌≤◌, ◌==◌, ◌&&◌, ◌⊎◌, inl, inr, Bool, true, false, List, [], ◌∷◌, map}
-use Rattle.std.proofs.Common.{Option, Some, None, Result, Ok, Err, refl, ap, ◌∙◌, arith}
-use Rattle.std.specs.Prelude.{not, if◌then◌else◌, nat_le, nat_lt, ◌||◌}
+use Rattle.std.proofs.Common.{zero, suc, Option, Some, None, Result, Ok, Err, refl, ap, sym, ◌∙◌, arith}
+use Rattle.std.specs.List.{list_any}
+use Rattle.std.specs.Prelude.{slice_get, not, if◌then◌else◌, nat_le, nat_lt, ◌||◌}
 use Rattle.std.proofs.lemmas.Bool.Decides.{nat_tests}
 use Rattle.spec_links.proofs.Terms.{Plan, History, Event, Verdict, Accepted, UnitName, Effect, Packet, PortName}
 use Rattle.spec_links.specs.Terms.{is_sync_packet}
@@ -17,17 +18,19 @@ use Rattle.tlp_layout.specs.declared.fault.TlpFault.{TlpFault}
 use Rattle.tlp_layout.specs.Reading.{read_head_of}
 use Rattle.trusted_memory.specs.declared.grant.Grant.{Grant}
 use Rattle.trusted_memory.specs.declared.span.Span.{Span}
-use Rattle.trusted_memory.specs.Spans.{write_span, crosses, span_byte_count}
+use Rattle.trusted_memory.specs.Spans.{write_span, span_of, crosses, span_byte_count}
 use Rattle.trusted_memory.specs.Regions.{in_one_region}
 use Rattle.trusted_memory.specs.Causes.{grant_cause, block_cause, block_effect, write_effect}
 use Rattle.trusted_memory.specs.Admitted.{is_on_bound, is_placed}
 use Rattle.trusted_memory.specs.declared.read.MemReadView.{MemReadView}
-use Rattle.trusted_memory.specs.Requests.{memory_read}
+use Rattle.trusted_memory.specs.Requests.{memory_read, read_with}
 use Rattle.trusted_memory.specs.Waiting.{full_cause, read_cause, read_effect, effect_by_read, request_effect}
 use Rattle.guarded_memory.specs.declared.status.InterfaceStatus.{InterfaceStatus}
 use Rattle.guarded_memory.specs.declared.status.InterfaceState.{InterfaceState}
 use Rattle.guarded_memory.specs.declared.claims.Claim.{Claim}
 use Rattle.guarded_memory.specs.Claims.{claim_of}
+use Rattle.guarded_memory.specs.DeviceReads.{claimed_read_effect, device_read_cause, effect_by_device_read}
+use Rattle.guarded_memory.proofs.Claimed.{claimed}
 use Rattle.guarded_memory.specs.Causes.{mmio_cause, cause_effect, claim_effect, mmio_effect, is_stored, floor_cause}
 use Rattle.guarded_memory.specs.Causes.{trusted_cause, untrusted_cause, access_cause}
 use Rattle.guarded_memory.specs.Laws.{is_admitted, is_from_floor}
@@ -39,7 +42,7 @@ use Rattle.spec_links.specs.Memory.{Policy, policy_at, unit_grant, host_effect, 
 use Rattle.spec_links.specs.Memory.{waiting_then, unit_ended}
 use Rattle.law_verdicts.specs.Effects.{is_queued, is_full, asks_granted_read, packet_asks_read, asks_read, which_wait}
 use Rattle.law_verdicts.specs.Effects.{which_find_no_room, takes_as, takes_claimed, takes_claim, takes_span}
-use Rattle.law_verdicts.specs.Effects.{takes_write, is_waiting_effect, waits_at, HasExactEffects}
+use Rattle.law_verdicts.specs.Effects.{takes_write, is_waiting_effect, waits_at, answers_reads, HasExactEffects}
 use Rattle.event_verdicts.specs.declared.verdict.BlockCause.{BlockCause}
 use Rattle.event_verdicts.specs.declared.verdict.BlockCause.TheVariants as blocks
 use Rattle.ide_types.specs.declared.interface.BarPlan.{BarPlan}
@@ -183,10 +186,35 @@ span_says : (xs : List InterfaceStatus) (t : Bool) (stream draw : ℕ) (o : Opti
 span_says xs t stream draw None = refl
 span_says xs t stream draw (Some s) = claim_says (claim_of xs s) s t stream draw
 
-device_says : (xs : List InterfaceStatus) (unit : UnitName) (p : Packet) (r : Result HeadView TlpFault)
-    → is_stored (device_effect xs unit p r) ≡ takes_as xs unit p.prefix.t r
-device_says xs unit p (Err f) = refl
-device_says xs unit p (Ok head) = span_says xs p.prefix.t unit.stream unit.draw (write_span head)
+-- a read is stored nowhere
+stored_not : (o : Option BlockCause) → is_stored (read_effect o) ≡ false
+stored_not None = refl
+stored_not (Some c) = refl
+
+claimed_not : (o : Option Claim) (s : Span) (t : Bool) (stream draw n : ℕ)
+    → is_stored (claimed_read_effect o s t stream draw n) ≡ false
+claimed_not None s t stream draw n = refl
+claimed_not (Some c) s t stream draw n = by c.status.reads
+  where
+    by : (b : Bool) → is_stored (if b then read_effect (device_read_cause c s t stream draw n) else effect.Delivered)
+        ≡ false
+    by true = stored_not (device_read_cause c s t stream draw n)
+    by false = refl
+
+-- a write has a payload, a read none
+request_stores : (xs : List InterfaceStatus) (t : Bool) (stream draw n : ℕ) (has : Bool) (read : Option MemReadView)
+    (s : Option Span) → is_stored (effect_by_device_read xs t stream draw n (if has then None else read)
+    (mmio_effect xs t stream draw (if has then s else None)))
+    ≡ takes_span xs t stream draw (if has then s else None)
+request_stores xs t stream draw n true read s = span_says xs t stream draw s
+request_stores xs t stream draw n false None s = refl
+request_stores xs t stream draw n false (Some r) s = claimed_not (claim_of xs r.span) r.span t stream draw n
+
+device_says : (xs : List InterfaceStatus) (n : ℕ) (unit : UnitName) (p : Packet) (r : Result HeadView TlpFault)
+    → is_stored (device_effect xs n unit p r) ≡ takes_as xs unit p.prefix.t r
+device_says xs n unit p (Err f) = refl
+device_says xs n unit p (Ok head) = request_stores xs p.prefix.t unit.stream unit.draw n head.has_payload
+    (read_with head.lead head.fields (span_of head)) (span_of head)
 
 -- ---- each at the other port
 
@@ -226,10 +254,40 @@ span_neither xs t stream draw (Some s) = by (claim_of xs s)
     by None = (refl, refl)
     by (Some c) = claim_neither c s t stream draw
 
-device_neither : (xs : List InterfaceStatus) (unit : UnitName) (p : Packet) (r : Result HeadView TlpFault)
-    → IsNeither (device_effect xs unit p r)
-device_neither xs unit p (Err f) = (refl, refl)
-device_neither xs unit p (Ok head) = span_neither xs p.prefix.t unit.stream unit.draw (write_span head)
+-- of interfaces that answer no reads
+reads_off : (xs : List InterfaceStatus) (i : ℕ) (x : InterfaceStatus)
+    → list_any (λ (y : InterfaceStatus). y.reads) xs ≡ false → slice_get xs i ≡ Some x → x.reads ≡ false
+reads_off [] i x off is = absurd cc
+reads_off (y ∷ xs) zero x off is =
+    let same : y ≡ x = cc (is) in
+    ap (λ (z : InterfaceStatus). z.reads) (sym same)
+    ∙ first_off y.reads (list_any (λ (z : InterfaceStatus). z.reads) xs) off
+  where
+    first_off : (a b : Bool) → (a || b) ≡ false → a ≡ false
+    first_off a b off = grind arith
+reads_off (y ∷ xs) (suc i) x off is =
+    reads_off xs i x (later_off y.reads (list_any (λ (z : InterfaceStatus). z.reads) xs) off) is
+  where
+    later_off : (a b : Bool) → (a || b) ≡ false → b ≡ false
+    later_off a b off = grind arith
+
+request_neither : (xs : List InterfaceStatus) (t : Bool) (stream draw n : ℕ) (o : Option MemReadView)
+    (w : Option Span) → list_any (λ (x : InterfaceStatus). x.reads) xs ≡ false
+    → IsNeither (effect_by_device_read xs t stream draw n o (mmio_effect xs t stream draw w))
+request_neither xs t stream draw n None w off = span_neither xs t stream draw w
+request_neither xs t stream draw n (Some r) w off = by (claim_of xs r.span) refl
+  where
+    by : (o : Option Claim) → claim_of xs r.span ≡ o → IsNeither (claimed_read_effect o r.span t stream draw n)
+    by None is = (refl, refl)
+    by (Some c) is =
+        let none = reads_off xs c.interface c.status off (claimed xs r.span c is).interface in
+        rw none (refl, refl)
+
+device_neither : (xs : List InterfaceStatus) (n : ℕ) (unit : UnitName) (p : Packet) (r : Result HeadView TlpFault)
+    → list_any (λ (x : InterfaceStatus). x.reads) xs ≡ false → IsNeither (device_effect xs n unit p r)
+device_neither xs n unit p (Err f) off = (refl, refl)
+device_neither xs n unit p (Ok head) off =
+    request_neither xs p.prefix.t unit.stream unit.draw n (memory_read head) (write_span head) off
 
 -- of no effect that a host's port gives
 record IsNoneAtHost (test : Effect → Bool) : Type 0 where
@@ -289,30 +347,59 @@ span_waits xs t stream draw (Some s) = by (claim_of xs s)
     by None = refl
     by (Some c) = cause_waits (mmio_cause c.status c.range s t stream draw)
 
-device_waits : (xs : List InterfaceStatus) (unit : UnitName) (p : Packet) (r : Result HeadView TlpFault)
-    → is_waiting_effect (device_effect xs unit p r) ≡ false
-device_waits xs unit p (Err f) = refl
-device_waits xs unit p (Ok head) = span_waits xs p.prefix.t unit.stream unit.draw (write_span head)
+claimed_waits : (o : Option Claim) (s : Span) (t : Bool) (stream draw n : ℕ)
+    → is_waiting_effect (claimed_read_effect o s t stream draw n) ≡ false
+claimed_waits None s t stream draw n = refl
+claimed_waits (Some c) s t stream draw n = by c.status.reads
+  where
+    by : (b : Bool)
+        → is_waiting_effect (if b then read_effect (device_read_cause c s t stream draw n) else effect.Delivered)
+        ≡ false
+    by true = read_not is_waiting_effect (record {
+      delivered = refl;
+      applied = refl;
+      queued = refl;
+      blocked = λ c.
+          refl;
+    }) (device_read_cause c s t stream draw n)
+    by false = refl
+
+device_waits : (xs : List InterfaceStatus) (n : ℕ) (unit : UnitName) (p : Packet) (r : Result HeadView TlpFault)
+    → is_waiting_effect (device_effect xs n unit p r) ≡ false
+device_waits xs n unit p (Err f) = refl
+device_waits xs n unit p (Ok head) = by (memory_read head)
+  where
+    by : (o : Option MemReadView) → is_waiting_effect (effect_by_device_read xs p.prefix.t unit.stream unit.draw n o
+        (mmio_effect xs p.prefix.t unit.stream unit.draw (write_span head))) ≡ false
+    by None = span_waits xs p.prefix.t unit.stream unit.draw (write_span head)
+    by (Some r) = claimed_waits (claim_of xs r.span) r.span p.prefix.t unit.stream unit.draw n
 
 -- ---- one packet
-
-effect_says : (plan : Plan) (policy : Policy) (n : ℕ) (port : PortName) (unit : UnitName) (p : Packet)
-    → Says (effect_by plan policy n port unit p) (asks_read plan policy.grants port unit p) n
-effect_says plan policy n port unit p = by (is_sync_packet p) (at_switch plan port) (sent_direction port.side == 0)
-  where
-    by : (s c b : Bool) → Says (if s then effect.Sync else if c then switch_effect
-        else if b then host_effect plan policy.grants n port unit p (read_head_of p.head)
-        else device_effect (policy.statuses port.line) unit p (read_head_of p.head))
-        (not s && ((not c && b) && packet_asks_read plan policy.grants port unit p.prefix.t (read_head_of p.head))) n
-    by true c b = record { queued = refl; full = refl }
-    by false true b = record { queued = refl; full = refl }
-    by false false false = neither _ n (device_neither (policy.statuses port.line) unit p (read_head_of p.head))
-    by false false true = head_says plan policy n port unit p (read_head_of p.head)
 
 -- a port is a host's or a device's
 other_side : (side : Side) → (sent_direction side == 1) ≡ not (sent_direction side == 0)
 other_side Host = refl
 other_side Device = refl
+
+effect_says : (plan : Plan) (policy : Policy) (n : ℕ) (port : PortName) (unit : UnitName) (p : Packet)
+    → answers_reads plan policy.statuses port ≡ false
+    → Says (effect_by plan policy n port unit p) (asks_read plan policy.grants port unit p) n
+effect_says plan policy n port unit p off =
+    by (is_sync_packet p) (at_switch plan port) (sent_direction port.side == 0)
+    (ap (λ (b : Bool). (not (at_switch plan port) && b) && list_any (λ (x : InterfaceStatus). x.reads)
+    (policy.statuses port.line)) (sym (other_side port.side)) ∙ off)
+  where
+    by : (s c b : Bool)
+        → ((not c && not b) && list_any (λ (x : InterfaceStatus). x.reads) (policy.statuses port.line)) ≡ false
+        → Says (if s then effect.Sync else if c then switch_effect
+        else if b then host_effect plan policy.grants n port unit p (read_head_of p.head)
+        else device_effect (policy.statuses port.line) n unit p (read_head_of p.head))
+        (not s && ((not c && b) && packet_asks_read plan policy.grants port unit p.prefix.t (read_head_of p.head))) n
+    by true c b off = record { queued = refl; full = refl }
+    by false true b off = record { queued = refl; full = refl }
+    by false false false off =
+        neither _ n (device_neither (policy.statuses port.line) n unit p (read_head_of p.head) off)
+    by false false true off = head_says plan policy n port unit p (read_head_of p.head)
 
 store_says : (plan : Plan) (policy : Policy) (n : ℕ) (port : PortName) (unit : UnitName) (p : Packet)
     → is_stored (effect_by plan policy n port unit p) ≡ takes_write plan policy.statuses port unit p
@@ -321,11 +408,11 @@ store_says plan policy n port unit p = rw (other_side port.side)
   where
     by : (s c b : Bool) → is_stored (if s then effect.Sync else if c then switch_effect
         else if b then host_effect plan policy.grants n port unit p (read_head_of p.head)
-        else device_effect (policy.statuses port.line) unit p (read_head_of p.head))
+        else device_effect (policy.statuses port.line) n unit p (read_head_of p.head))
         ≡ (not s && ((not c && not b) && takes_as (policy.statuses port.line) unit p.prefix.t (read_head_of p.head)))
     by true c b = refl
     by false true b = refl
-    by false false false = device_says (policy.statuses port.line) unit p (read_head_of p.head)
+    by false false false = device_says (policy.statuses port.line) n unit p (read_head_of p.head)
     by false false true = host_not plan policy n port unit p (read_head_of p.head)
 
 wait_says : (plan : Plan) (policy : Policy) (n : ℕ) (port : PortName) (unit : UnitName) (p : Packet)
@@ -334,11 +421,11 @@ wait_says plan policy n port unit p = by (is_sync_packet p) (at_switch plan port
   where
     by : (s c b : Bool) → is_waiting_effect (if s then effect.Sync else if c then switch_effect
         else if b then host_effect plan policy.grants n port unit p (read_head_of p.head)
-        else device_effect (policy.statuses port.line) unit p (read_head_of p.head)) ≡ (not s && c)
+        else device_effect (policy.statuses port.line) n unit p (read_head_of p.head)) ≡ (not s && c)
     by true c b = refl
     by false true b = refl
     by false false true = host_waits plan policy n port unit p (read_head_of p.head)
-    by false false false = device_waits (policy.statuses port.line) unit p (read_head_of p.head)
+    by false false false = device_waits (policy.statuses port.line) n unit p (read_head_of p.head)
 
 -- ---- all packets of a unit
 
@@ -383,12 +470,12 @@ all_queued_step plan policy n m port unit ps e false counts says later =
     λ i. first i ∷ rest i
 
 all_queued : (plan : Plan) (policy : Policy) (port : PortName) (unit : UnitName) (ps : List Packet)
-    → all_queued_so plan policy port unit ps
-all_queued plan policy port unit [] n m counts = refl
-all_queued plan policy port unit (p ∷ ps) n m counts =
+    → answers_reads plan policy.statuses port ≡ false → all_queued_so plan policy port unit ps
+all_queued plan policy port unit [] off n m counts = refl
+all_queued plan policy port unit (p ∷ ps) off n m counts =
     all_queued_step plan policy n m port unit ps (effect_by plan policy n port unit p)
-    (asks_read plan policy.grants port unit p) counts (effect_says plan policy n port unit p)
-    (all_queued plan policy port unit ps)
+    (asks_read plan policy.grants port unit p) counts (effect_says plan policy n port unit p off)
+    (all_queued plan policy port unit ps off)
 
 abbrev all_full_so : Plan → Policy → PortName → UnitName → List Packet → Type 0
 all_full_so plan policy port unit ps = (n m : ℕ) → Counts n m → map is_full (effects_each plan policy n port unit ps)
@@ -408,12 +495,12 @@ all_full_step plan policy n m port unit ps e false counts says later =
     λ i. first i ∷ rest i
 
 all_full : (plan : Plan) (policy : Policy) (port : PortName) (unit : UnitName) (ps : List Packet)
-    → all_full_so plan policy port unit ps
-all_full plan policy port unit [] n m counts = refl
-all_full plan policy port unit (p ∷ ps) n m counts =
+    → answers_reads plan policy.statuses port ≡ false → all_full_so plan policy port unit ps
+all_full plan policy port unit [] off n m counts = refl
+all_full plan policy port unit (p ∷ ps) off n m counts =
     all_full_step plan policy n m port unit ps (effect_by plan policy n port unit p)
-    (asks_read plan policy.grants port unit p) counts (effect_says plan policy n port unit p)
-    (all_full plan policy port unit ps)
+    (asks_read plan policy.grants port unit p) counts (effect_says plan policy n port unit p off)
+    (all_full plan policy port unit ps off)
 
 all_stored : (plan : Plan) (policy : Policy) (n : ℕ) (port : PortName) (unit : UnitName) (ps : List Packet)
     → map is_stored (effects_each plan policy n port unit ps) ≡ map (takes_write plan policy.statuses port unit) ps
@@ -439,12 +526,12 @@ accepted_effects plan h e port unit effects is =
     let are = effects_there plan h e port unit effects is in
     let policy = policy_at plan h in
     let at = port_of plan port in
-    let n = policy.waiting at.line in
+    let n = policy.waiting at in
     let ps = unit_ended plan h e port unit in
     record {
-      reads = record {
-        queued = ap (λ (es : List Effect). map is_queued es) are ∙ all_queued plan policy at unit ps n n (inl refl);
-        full = ap (λ (es : List Effect). map is_full es) are ∙ all_full plan policy at unit ps n n (inl refl);
+      reads = λ off. record {
+        queued = ap (λ (es : List Effect). map is_queued es) are ∙ all_queued plan policy at unit ps off n n (inl refl);
+        full = ap (λ (es : List Effect). map is_full es) are ∙ all_full plan policy at unit ps off n n (inl refl);
       };
       stores = ap (λ (es : List Effect). map is_stored es) are ∙ all_stored plan policy n at unit ps;
       waits = ap (λ (es : List Effect). map is_waiting_effect es) are ∙ all_waiting plan policy n at unit ps;

@@ -33,7 +33,7 @@ sealed_whole : (plan : Plan) (h : History) (e : Event) (ds : List SealedPacket) 
 sealed_whole plan h e ds is =
     let sealing = sealing_is plan h e ds is in
     all_whole plan h sealing.sending.port sealing.sending.stream ds sealing.free.0
-    (all_live plan h (sending_port plan e) (sent_bytes plan h e) ds sealing)
+    (all_live plan h (sending_port plan h e) (sent_bytes plan h e) ds sealing)
 
 -- ---- what arrives
 

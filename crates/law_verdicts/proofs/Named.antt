@@ -8,13 +8,16 @@ use Rattle.spec_links.proofs.Terms.{stream_plan, History, Host, KeyPlan, Plan, E
 use Rattle.spec_links.proofs.Terms.{history_status, has_link, List, [], ◌∷◌, Some, None, Result, Ok, Err, length, not}
 use Rattle.spec_links.proofs.Terms.{unwrap_or, InterfaceEvent, AllByRecursion, PortName, Packet, SealedPacket, CauseLaw}
 use Rattle.spec_links.proofs.Terms.{ArrivedBytes, before_tag_of_cut, Access, WaitingRead, waiting_reads}
-use Rattle.spec_links.proofs.Terms.{send_due, answer_first, site_answer, completion_verdict, outgoing_completion}
+use Rattle.spec_links.proofs.Terms.{send_due, site_answer, completion_verdict, outgoing_completion}
 use Rattle.spec_links.proofs.Terms.{is_before, judged_by, answer_judged, binding_cause, first_that_holds, refusals}
 use Rattle.spec_links.proofs.Terms.{lanes_at, live_key, lane_out, Cpl, dump_due, Site, granted_to, site_of_requester}
-use Rattle.spec_links.proofs.Terms.{sending_port, sealed_packets, packet_by_number}
+use Rattle.spec_links.proofs.Terms.{sealed_packets, packet_by_number}
 unfoldable use Rattle.spec_links.proofs.Terms.{due, key_due, before_tag, arrival_of_event}
 use Rattle.spec_links.specs.Terms.{CutValue, IdePacket, PlainTlp, PacketFault, cut_of, in_one_region}
-use Rattle.spec_links.specs.Due.{through_due, ending_due, forward_first, forward_out}
+use Rattle.spec_links.specs.Due.{through_due, ending_due, forward_first, forward_out, first_answered, response_sent}
+use Rattle.spec_links.specs.Due.{response_judged, site_response, target_response}
+use Rattle.spec_links.specs.Terms.{Claim, ReadArrival, ReadTarget, Tlp, TlpFault, least_draw, site_on}
+use Rattle.ide_types.specs.Ports.{host_port, device_port}
 use Rattle.spec_links.specs.Hops.{HopTlp, has_hop, leaving_end}
 use Rattle.spec_links.specs.Memory.{hop_waiting, queued_reads, shown_if}
 use Rattle.spec_links.specs.Guarded.{mmio_if, mmio_shown, link_happenings}
@@ -47,6 +50,8 @@ unfoldable use Rattle.spec_interfaces.specs.Due.{interface_verdict_due}
 use Rattle.law_delivery.proofs.Wholes.{due_arrives}
 use Rattle.law_locks.proofs.{drop_first}
 use Rattle.law_locks.proofs.Answered.{reader_there}
+use Rattle.law_hops.proofs.Queued.{queued_at}
+use Rattle.law_hops.proofs.Claimed.{was_claimed}
 use Rattle.law_verdicts.specs.Verdicts.{is_none_at_all, has_named, is_named_at, range_named, names_exist, IsNoneExactly}
 use Rattle.script_events.specs.declared.event.Event.TheVariants as event
 use Rattle.script_events.specs.declared.event.InterfaceEvent.TheVariants as ie
@@ -263,11 +268,54 @@ is_known plan link (r ∷ rs) = is_some (site_of_requester plan link r.read.requ
 
 answer_first_if : (plan : Plan) (h : History) (link : ℕ) (rs : List WaitingRead)
     → IsAnswerIf (is_known plan link rs)
-    (answer_first plan h (sending_port plan (Access (ae.Answer link))) rs (outgoing_completion plan h link))
+    (first_answered (λ (r : WaitingRead). site_answer plan h (host_port link) r.came.draw
+    (site_of_requester plan link r.read.requester) (outgoing_completion plan h link)) link rs)
 answer_first_if plan h link [] = refl
 answer_first_if plan h link (r ∷ rs) =
-    answer_of_if plan h (sending_port plan (Access (ae.Answer link))) r.draw
-    (site_of_requester plan link r.read.requester) (outgoing_completion plan h link)
+    answer_of_if plan h (host_port link) r.came.draw (site_of_requester plan link r.read.requester)
+    (outgoing_completion plan h link)
+
+-- ---- responses
+
+sent_some : (plan : Plan) (h : History) (came : ReadArrival) (r : Result Tlp TlpFault)
+    → IsAnswer (response_sent plan h came r)
+sent_some plan h came (Err f) = refl
+sent_some plan h came (Ok t) =
+    first_some (refusals (lanes_at plan h came.end came.stream) (class_of (header t))) _
+    (refl, (refl, (refl, (refl, (refl, (refl, (refl, (refl, tt)))))))) refl
+
+response_some : (plan : Plan) (h : History) (came : ReadArrival) (interface : ℕ) (r : Result Tlp TlpFault)
+    (o : Result Claim BlockCause) → IsAnswer (response_judged plan h came interface r o)
+response_some plan h came interface r (Err c) = refl
+response_some plan h came interface r (Ok c) =
+    if_either (is_before (live_key h came.end (lane_out came.end came.stream Cpl)) (least_draw c came)) _ _ refl
+    (sent_some plan h came r)
+
+site_response_if : (plan : Plan) (h : History) (link : ℕ) (r : WaitingRead) (target : ReadTarget) (o : Option Site)
+    → IsAnswerIf (is_some o) (site_response plan h link r target o)
+site_response_if plan h link r target None = refl
+site_response_if plan h link r target (Some x) = response_some plan h r.came x.number _ _
+
+abbrev has_target : Plan → ℕ → Option ReadTarget → Bool
+has_target plan link None = false
+has_target plan link (Some target) = is_some (site_on plan link target.interface)
+
+target_response_if : (plan : Plan) (h : History) (link : ℕ) (r : WaitingRead) (o : Option ReadTarget)
+    → IsAnswerIf (has_target plan link o) (target_response plan h link r o)
+target_response_if plan h link r None = refl
+target_response_if plan h link r (Some target) =
+    site_response_if plan h link r target (site_on plan link target.interface)
+
+-- none waits, or the oldest is of an interface of the link
+abbrev is_targeted : Plan → ℕ → List WaitingRead → Bool
+is_targeted plan link [] = true
+is_targeted plan link (r ∷ rs) = has_target plan link r.target
+
+response_first_if : (plan : Plan) (h : History) (link : ℕ) (rs : List WaitingRead)
+    → IsAnswerIf (is_targeted plan link rs)
+    (first_answered (λ (r : WaitingRead). target_response plan h link r r.target) link rs)
+response_first_if plan h link [] = refl
+response_first_if plan h link (r ∷ rs) = target_response_if plan h link r r.target
 
 -- ---- events that bring no bytes
 
@@ -275,10 +323,12 @@ dump_exact : (n : ℕ) (o : Option (SealedPacket × Packet)) → IsAnswerIf (is_
 dump_exact n None = refl
 dump_exact n (Some x) = refl
 
--- what the event names exists; and of an answer, if a read waits, so does the interface of the oldest
+-- what the event names exists; and of an answer and a response, if a read waits, so does the interface of the oldest
 abbrev is_answered : Plan → History → Event → Bool
 is_answered plan h (event.Access (ae.Answer link)) = has_link plan link
-    && is_known plan link (waiting_reads plan h link)
+    && is_known plan link (waiting_reads plan h (host_port link))
+is_answered plan h (event.Access (ae.Respond link)) = has_link plan link
+    && is_targeted plan link (waiting_reads plan h (device_port link))
 is_answered plan h e = names_exist plan h e
 
 no_port : (b : Bool) (a : ArrivedBytes) → (if b then Some a else None) ≡ None → IsAnswerIf b v.Nothing
@@ -317,8 +367,11 @@ answered plan h (event.Interface (ie.Write i register value)) none = site_exact 
 answered plan h (event.Interface (ie.Flr i)) none = site_exact plan h (ie.Flr i) i refl
 answered plan h (event.Interface (ie.Firmware i)) none = site_exact plan h (ie.Firmware i) i refl
 answered plan h (event.Access (ae.Answer link)) none =
-    both_if (has_link plan link) (is_known plan link (waiting_reads plan h link)) _
-    (answer_first_if plan h link (waiting_reads plan h link))
+    both_if (has_link plan link) (is_known plan link (waiting_reads plan h (host_port link))) _
+    (answer_first_if plan h link (waiting_reads plan h (host_port link)))
+answered plan h (event.Access (ae.Respond link)) none =
+    both_if (has_link plan link) (is_targeted plan link (waiting_reads plan h (device_port link))) _
+    (response_first_if plan h link (waiting_reads plan h (device_port link)))
 answered plan h (event.Access (ae.Mmio i bar offset len)) none = range_exact plan h (site_at plan i) bar offset len
 answered plan h (event.Forward link d) none =
     answer_if (has_hop plan link) _ (forward_some plan h link d (hop_waiting plan h link d))
@@ -391,17 +444,38 @@ names_bytes plan h e a is = absurd cc
 
 -- the requester of the oldest read is an interface of the link
 reads_known : (plan : Plan) (h : History) (link : ℕ) → CauseLaw plan h
-    → is_known plan link (waiting_reads plan h link) ≡ true
-reads_known plan h link cause = by (waiting_reads plan h link) refl
+    → is_known plan link (waiting_reads plan h (host_port link)) ≡ true
+reads_known plan h link cause = by (waiting_reads plan h (host_port link)) refl
   where
-    by : (rs : List WaitingRead) → waiting_reads plan h link ≡ rs → is_known plan link rs ≡ true
+    port : PortName
+    port = host_port link
+
+    by : (rs : List WaitingRead) → waiting_reads plan h (host_port link) ≡ rs → is_known plan link rs ≡ true
     by [] is = refl
-    by (r ∷ rs) is = reader_there plan h cause link (reads_taken h link) r
-        (drop_first (reads_taken h link) (queued_reads plan h link) r rs is)
+    by (r ∷ rs) is = reader_there plan h cause link (reads_taken h port) r
+        (drop_first (reads_taken h port) (queued_reads plan h port) r rs is)
+
+-- the oldest read of a device is of an interface of the link
+reads_targeted : (plan : Plan) (h : History) (link : ℕ) → CauseLaw plan h
+    → is_targeted plan link (waiting_reads plan h (device_port link)) ≡ true
+reads_targeted plan h link cause = by (waiting_reads plan h (device_port link)) refl
+  where
+    port : PortName
+    port = device_port link
+
+    by : (rs : List WaitingRead) → waiting_reads plan h (device_port link) ≡ rs → is_targeted plan link rs ≡ true
+    by [] is = refl
+    by (r ∷ rs) is =
+        let q = queued_at plan h cause port (reads_taken h port) r
+        (drop_first (reads_taken h port) (queued_reads plan h port) r rs is) in
+        let was = was_claimed plan h link r q in
+        ap (has_target plan link) was.target ∙ ap is_some was.there
 
 all_answered : (plan : Plan) (h : History) (e : Event) → CauseLaw plan h → is_answered plan h e ≡ names_exist plan h e
 all_answered plan h (event.Access (ae.Answer link)) cause =
     let known = reads_known plan h link cause in grind (arith, known)
+all_answered plan h (event.Access (ae.Respond link)) cause =
+    let known = reads_targeted plan h link cause in grind (arith, known)
 all_answered plan h e cause = refl
 
 due_exact : (plan : Plan) (h : History) (e : Event) → CauseLaw plan h

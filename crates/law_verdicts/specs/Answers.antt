@@ -1,7 +1,8 @@
 -- An answer is the completion of its read.
 use Rattle.std.specs.Prelude.{◌≡◌, ℕ, ◌++◌, ◌∷◌, true, false, List, [], Some, slice_get}
 use Rattle.spec_links.specs.Terms.{Plan, Event, Access, Verdict, Sealed, SealedPacket, Packet, History, WaitingRead}
-use Rattle.spec_links.specs.Terms.{byte_last_written, completion_bytes, masked_bytes, iv_of}
+use Rattle.ide_types.specs.Ports.{host_port}
+use Rattle.spec_links.specs.Terms.{host_completer, byte_last_written, completion_bytes, masked_bytes, iv_of}
 use Rattle.spec_links.specs.Plan.{key_of}
 use Rattle.spec_links.specs.History.{SealedList, sealed_packets, sub_stream_of}
 use Rattle.spec_links.specs.Memory.{queued_reads, writes}
@@ -14,7 +15,7 @@ use Rattle.script_events.specs.declared.event.AccessEvent.TheVariants as ae
 -- packet's key and unit.
 pub record SealsCompletion (plan : Plan) (h : History) (link : ℕ) (ds : List SealedPacket) : Type 0 where
   pub read : WaitingRead
-  pub oldest : slice_get (queued_reads plan h link) (reads_taken h link) ≡ Some read
+  pub oldest : slice_get (queued_reads plan h (host_port link)) (reads_taken h (host_port link)) ≡ Some read
   pub ahead : List SealedPacket
   pub last : SealedPacket
   pub ends : ds ≡ ahead ++ last ∷ []
@@ -24,7 +25,8 @@ pub record SealsCompletion (plan : Plan) (h : History) (link : ℕ) (ds : List S
   pub packet : Packet
   pub stands : sealed_packets plan ((Access (ae.Answer link), Sealed ds) ∷ h) ≡ before ++ (last, packet) ∷ []
   pub payload : List ℕ
-  pub completion : packet.head ++ payload ≡ completion_bytes (byte_last_written (writes plan h)) read.read
+  pub completion : packet.head ++ payload ≡ completion_bytes host_completer (byte_last_written (writes plan h))
+      read.read
   pub offset : ℕ
   pub body_is : packet.body
       ≡ masked_bytes (key_of plan last.draw (sub_stream_of last)) (iv_of last.sub last.unit) offset payload

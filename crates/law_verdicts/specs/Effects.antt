@@ -2,6 +2,7 @@
 -- switch.
 use Rattle.std.specs.Prelude.{◌≡◌, ℕ, ◌+◌, ◌&&◌, ◌||◌, ◌∷◌, nat_le, nat_lt, Bool, true, false, not, List, []}
 use Rattle.std.specs.Prelude.{length, map, Option, Some, None, Result, Ok, Err}
+use Rattle.std.specs.List.{list_any}
 use Rattle.spec_links.specs.Terms.{PortName, Plan, Event, Effect, UnitName, Verdict, Accepted, Packet, History}
 use Rattle.spec_links.specs.Terms.{is_sync_packet, read_head_of, TlpFault, MemReadView, memory_read, Grant, grant_at}
 use Rattle.spec_links.specs.Terms.{write_span, history_statuses, is_on_bound}
@@ -65,12 +66,17 @@ abbrev pub asks_by_packet : Plan → History → Event → PortName → UnitName
 asks_by_packet plan h e port unit = map (asks_read plan (grant_at plan h) (port_of plan port) unit)
     (unit_ended plan h e port unit)
 
+-- it is a device's port, and one of the device's interfaces answers reads
+abbrev pub answers_reads : Plan → (ℕ → List InterfaceStatus) → PortName → Bool
+answers_reads plan statuses port =
+    is_device_port plan port && list_any (λ (x : InterfaceStatus). x.reads) (statuses port.line)
+
 pub record QueuesAsked (plan : Plan) (h : History) (e : Event) (port : PortName) (unit : UnitName)
     (effects : List Effect) : Type 0 where
   pub queued : map is_queued effects
-      ≡ which_wait (length (waiting_reads plan h (port_of plan port).line)) (asks_by_packet plan h e port unit)
+      ≡ which_wait (length (waiting_reads plan h (port_of plan port))) (asks_by_packet plan h e port unit)
   pub full : map is_full effects
-      ≡ which_find_no_room (length (waiting_reads plan h (port_of plan port).line)) (asks_by_packet plan h e port unit)
+      ≡ which_find_no_room (length (waiting_reads plan h (port_of plan port))) (asks_by_packet plan h e port unit)
 
 -- ---- stores
 
@@ -120,7 +126,9 @@ WaitsToBeForwarded plan h e port unit effects =
 
 pub record ExactEffects (plan : Plan) (h : History) (e : Event) (port : PortName) (unit : UnitName)
     (effects : List Effect) : Type 0 where
-  pub reads : QueuesAsked plan h e port unit effects
+  -- but for reads at a device's port that its interfaces answer
+  pub reads : answers_reads plan (history_statuses plan h) (port_of plan port) ≡ false
+      → QueuesAsked plan h e port unit effects
   pub stores : StoresTaken plan h e port unit effects
   pub waits : WaitsToBeForwarded plan h e port unit effects
   -- of any double words the claim is by the first interface there that has memory space on and a BAR with all of them,

@@ -78,6 +78,7 @@ names_exist plan h (event.Status line stream) = is_some (stream_plan plan line s
 names_exist plan h (event.Reset link ends) = has_link plan link
 names_exist plan h (event.Interface e) = is_interface_named plan e
 names_exist plan h (event.Access (ae.Answer link)) = has_link plan link
+names_exist plan h (event.Access (ae.Respond link)) = has_link plan link
 names_exist plan h (event.Access (ae.Mmio i bar offset len)) =
     option_map_or (range_named bar offset len) (site_at plan i) false
 names_exist plan h (event.Forward link d) = has_hop plan link

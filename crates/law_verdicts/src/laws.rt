@@ -14,11 +14,11 @@ pub fn named_law()
 {}
 
 /// Of an accepted unit exactly those packets are queued that are memory reads with T which the manager grants, and
-/// whose bytes lie in one region and cross no 4 KiB boundary, while fewer than 64 reads of the link wait; while 64
-/// wait, exactly those are blocked as `full`. Exactly those packets are stored whose write an interface's range
-/// claims, and crosses no 4 KiB boundary, and which come either with T in RUN, on a stream that the interface is bound
-/// to, under a draw from its floor there on; or without T to a range with attribute bit 2, or in CONFIG_UNLOCKED.
-/// Exactly the TLPs that come to a switch wait there.
+/// whose bytes lie in one region and cross no 4 KiB boundary, while fewer than 64 reads wait at the host's port; while
+/// 64 wait, exactly those are blocked as `full`. That is not said of a device's port where an interface answers reads.
+/// Exactly those packets are stored whose write an interface's range claims, and crosses no 4 KiB boundary, and which
+/// come either with T in RUN, on a stream that the interface is bound to, under a draw from its floor there on; or
+/// without T to a range with attribute bit 2, or in CONFIG_UNLOCKED. Exactly the TLPs that come to a switch wait there.
 pub fn effect_law()
     ensures { EffectLawHolds }
 {}

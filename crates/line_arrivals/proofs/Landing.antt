@@ -6,6 +6,7 @@ use Rattle.join_arrivals.proofs.{none-some, same_Some, append-nil, length-set, m
 use Rattle.join_arrivals.proofs.{PortEnd, LinkEnds, EndsView, BesidePorts, LinkPacket, LinkState, Packet, port_on}
 use Rattle.join_arrivals.proofs.{with_port_on, settled_link, AreLinks, rows_of, state_of, UnitName, take_step, port_in}
 use Rattle.join_arrivals.proofs.{pair_port, port_at_place, line_place, PairEnds, ◌≤◌, unit_agrees, writes_agree}
+use Rattle.join_arrivals.proofs.{reads_same}
 use Rattle.join_arrivals.proofs.{switch_admits_none, own_tlps, waits_open, turn_at, rests_all, StandsAt, Apart, OnWay}
 use Rattle.join_arrivals.proofs.{IsApart, IsOnWay, stands_at, reached_there, hop_aggregation, LineIs, OfLink, NearHop}
 use Rattle.join_arrivals.proofs.{FarHop, Between, line_of, switched_few, few_queued, queued_behind, switched_opens}
@@ -51,6 +52,8 @@ use Rattle.ide_port.specs.Arrivals.{TakeStep}
 use Rattle.ide_port.specs.declared.answer.Arrival.{Arrival as Came}
 use Rattle.ide_port.specs.declared.answer.Arrival.TheVariants as came
 use Rattle.link_stores.specs.declared.link.LinkAccesses.{LinkAccesses}
+use Rattle.link_stores.specs.{reads_on}
+use Rattle.spec_links.specs.Sent.{targets_at}
 use Rattle.ide_port.proofs.Units.{taken-units}
 use Rattle.join_arrivals.proofs.Arrivals.{take_keeps, end_of, Opens, opens_each, effects_at, arrives_as}
 use Rattle.join_arrivals.proofs.Accesses.{arrival_turns}
@@ -72,17 +75,17 @@ either_way true xs = refl
 either_way false xs = refl
 
 pub unread_turn : (plan : Plan) (o : Option PortName) (ps : List Packet) (statuses : ℕ → List InterfaceStatus)
-    (e : Event) (xs : List LinkAccesses) → IsQuiet plan e → AccessesTurn (waiting_reads_after plan ps e (left_unread o))
-    same_floors (λ link. happens_by_packets plan statuses ps e (left_unread o) link)
+    (e : Event) (xs : List LinkAccesses) → IsQuiet plan e → AccessesTurn
+    (waiting_reads_after plan statuses ps e (left_unread o)) same_floors (λ link. happens_by_packets plan statuses ps e (left_unread o) link)
     (carried_next (unit_tlps plan ps (left_unread o)) e (left_unread o)) xs xs
 unread_turn plan None ps statuses e xs quiet = rests_all _ _ _ _ xs (λ k. record {
-  reads_rest = λ ws. refl;
+  reads_rest = λ side ws. refl;
   floors_rest = λ ns. refl;
   nothing = λ older. ap (λ (hs : List (Option Happened)). newest_happened hs older) (quiet v.Nothing k);
   carried_rest = λ d ts. either_way (is_link_line k) ts;
 })
 unread_turn plan (Some port) ps statuses e xs quiet = rests_all _ _ _ _ xs (λ k. record {
-  reads_rest = λ ws. refl;
+  reads_rest = λ side ws. refl;
   floors_rest = λ ns. refl;
   nothing = λ older. ap (λ (hs : List (Option Happened)). newest_happened hs older) (quiet (v.Through port) k);
   carried_rest = λ d ts. either_way (is_link_line k) ts;
@@ -172,8 +175,8 @@ opens_at : (plan : Plan) (m : InterfacesView) (old : EndsView) (xs : List LinkAc
 opens_at plan m old xs regions end port b l a l_is a_is at apart same effects unit key iv n ps =
     let policy : Policy = policy_in m old xs in
     (λ i. effects_from (same i) policy.grants (statuses_of_ends (sym l_is i) (sym a_is i))
-    (length (option_map_or (λ (x : LinkAccesses). x.reads) (sym a_is i) [])) port unit (opened_from_byte key iv n ps))
-    ∙ (opens_each plan policy port unit apart (policy.waiting port.line) key iv n ps
+    (length (option_map_or (reads_on port.side) (sym a_is i) [])) port unit (opened_from_byte key iv n ps))
+    ∙ (opens_each plan policy port unit apart (policy.waiting port) key iv n ps
     ∙ ((λ i. effects_under_policy plan policy (sym at i) unit ps) ∙ (λ i. sym effects i end unit ps)))
 
 apart_at : (plan : Plan) (fits : FitsPlan plan) (end : PortName) → way_of end ≡ None → StandsAt plan fits end
@@ -324,19 +327,19 @@ module _ (plan : Plan) (end : PortName) (link : ℕ) (d : Direction) (end_is : e
       (sym (ap (λ (os : List (Option Write)). newest_first os older)
       (switch_admits_none plan grants unit end (unit_in plan st a) switch) ∙ none_lead (unit_in plan st a) older)) left
 
-  no_more_reads : (e : Event) (answer : Came) (k : ℕ) (ws : List WaitingRead)
-      → waiting_reads_after plan ended e (says answer) k ws ≡ ws
-  no_more_reads e (came.Malformed fault) k ws = refl
-  no_more_reads e came.Plain k ws = refl
-  no_more_reads e (came.Unknown stream) k ws = refl
-  no_more_reads e (came.Insecure stream) k ws = refl
-  no_more_reads e (came.NotKeyed stream sub) k ws = refl
-  no_more_reads e (came.Fail stream sub cause) k ws = refl
-  no_more_reads e (came.Held unit) k ws = refl
-  no_more_reads e (came.Accepted unit count) k ws =
-      ap (λ (rs : List WaitingRead). if (port_of plan end).line == k then ws ++ rs else ws)
-      (switched_reads unit.draw delivered ended)
-      ∙ by ((port_of plan end).line == k)
+  no_more_reads : (statuses : ℕ → List InterfaceStatus) (e : Event) (answer : Came) (p : PortName)
+      (ws : List WaitingRead) → waiting_reads_after plan statuses ended e (says answer) p ws ≡ ws
+  no_more_reads statuses e (came.Malformed fault) p ws = refl
+  no_more_reads statuses e came.Plain p ws = refl
+  no_more_reads statuses e (came.Unknown stream) p ws = refl
+  no_more_reads statuses e (came.Insecure stream) p ws = refl
+  no_more_reads statuses e (came.NotKeyed stream sub) p ws = refl
+  no_more_reads statuses e (came.Fail stream sub cause) p ws = refl
+  no_more_reads statuses e (came.Held unit) p ws = refl
+  no_more_reads statuses e (came.Accepted unit count) p ws =
+      ap (λ (rs : List WaitingRead). if is_same_port (port_of plan end) p then ws ++ rs else ws)
+      (switched_reads (targets_at p.side (statuses p.line)) end unit delivered ended)
+      ∙ by (is_same_port (port_of plan end) p)
     where
       by : (b : Bool) → (if b then ws ++ [] else ws) ≡ ws
       by true = append-nil ws
@@ -444,7 +447,7 @@ lands_waiting plan m end0 bytes verdict old c xs new ys w stays way here less co
             steps = λ b regions effects.
                 let policy : Policy = policy_in m old xs in
                 let opens : Opens b end (λ unit ps. switched_each ps) = λ unit key iv n ps.
-                switched_opens plan policy end unit at.switch (policy.waiting end.line) key iv n ps
+                switched_opens plan policy end unit at.switch (policy.waiting end) key iv n ps
                 ∙ ((λ i. effects_under_policy plan policy (sym at.port_is i) unit ps)
                 ∙ (λ i. sym effects i end unit ps)) in
                 let as_machine = arrives_as b plan end end at.port_is (λ unit ps. switched_each ps) opens old k packets
@@ -460,17 +463,18 @@ lands_waiting plan m end0 bytes verdict old c xs new ys w stays way here less co
                 let statuses : ℕ → List InterfaceStatus = (policy_in m old xs).statuses in
                 let low : is_link_line w.0 ≡ true =
                 (let least = at.less in let most = links.fits.links_most in grind (arith, nat_tests)) in
-                subst (λ (zs : List LinkAccesses). AccessesTurn (waiting_reads_after plan ended ev verdict) same_floors
+                subst (λ (zs : List LinkAccesses). AccessesTurn (waiting_reads_after plan statuses ended ev verdict) same_floors
                 (λ link. happens_by_packets plan statuses ended ev verdict link)
                 (carried_next (unit_tlps plan ended verdict) ev verdict) xs zs) (sym y.accesses_are)
-                (subst (λ (u : Verdict). AccessesTurn (waiting_reads_after plan ended ev u) same_floors
+                (subst (λ (u : Verdict). AccessesTurn (waiting_reads_after plan statuses ended ev u) same_floors
                 (λ link. happens_by_packets plan statuses ended ev u link) (carried_next (unit_tlps plan ended u) ev u)
                 xs
                 (slice_set xs w.0 (record a.0 { carried = y.queues }))) (sym x.verdict_is)
                 (turn_at _ _ _ _ xs w.0 a.0 (record a.0 { carried = y.queues }) a.1 (record {
-                  reads_are = sym (no_more_reads plan end w.0 w.1 at.end_is switch ended t.port.delivered ev t.answer
-                      w.0
-                      a.0.reads);
+                  reads_are = λ side.
+                      reads_same side a.0 (record a.0 { carried = y.queues }) refl refl
+                      ∙ sym (no_more_reads plan end w.0 w.1 at.end_is switch ended t.port.delivered statuses ev t.answer
+                      (record { side = side; line = w.0 }) (reads_on side a.0));
                   floors_are = refl;
                   sizes_are = refl;
                   leads = λ older left. subst (λ (hs : List Happened). AreLeftBy (mmio_byte a.0.guarded) hs)
@@ -487,8 +491,8 @@ lands_waiting plan m end0 bytes verdict old c xs new ys w stays way here less co
                       low)));
                 })
                 (λ i other. record {
-                  reads_rest = λ ws. no_more_reads plan end w.0 w.1 at.end_is switch ended t.port.delivered ev t.answer
-                      i ws;
+                  reads_rest = λ side ws. no_more_reads plan end w.0 w.1 at.end_is switch ended t.port.delivered statuses
+                      ev t.answer (record { side = side; line = i }) ws;
                   floors_rest = λ ns. refl;
                   nothing = λ older. none_happens plan end w.0 w.1 at.end_is switch ended t.port.delivered statuses ev
                       quiet t.answer i older;

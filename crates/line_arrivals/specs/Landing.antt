@@ -64,8 +64,9 @@ pub record LandsIfStanding (plan : Plan) (m : InterfacesView) (end : PortName) (
       (arrival_on plan end bytes) verdict) d
   pub turn : (e : Event) → IsQuiet plan e
       → let ps = unit_in plan (state_of plan old k packets) (arrival_on plan end bytes) in
-      AccessesTurn (waiting_reads_after plan ps e verdict) same_floors
-      (λ link. happens_by_packets plan (policy_in m old xs).statuses ps e verdict link)
+      let statuses = (policy_in m old xs).statuses in
+      AccessesTurn (waiting_reads_after plan statuses ps e verdict) same_floors
+      (λ link. happens_by_packets plan statuses ps e verdict link)
       (carried_next (unit_tlps plan ps verdict) e verdict) xs ys
 
 -- bytes that arrive at the port of an end

@@ -15,13 +15,15 @@ pub use Rattle.all_ends.specs.{IsWalked, KeeperView, Operates, ends_found, arriv
 pub use Rattle.all_ends.specs.{packet_effect, packet_write, unit_writes, writes_by, LinkEnds, HostKeeper}
 pub use Rattle.all_ends.specs.AllEnds.{ArrivesAtEnd, AsksAtLink, CallsAtLink, IsThere, OperatesAt, OperatesByPlace}
 pub use Rattle.all_ends.specs.AllEnds.{OperatesOnLink, OperatesOnPair, ResetsAt, SendsAtEnd, both_of, drawn_on_line}
-pub use Rattle.all_ends.specs.AllEnds.{drawn_at_place, statuses_of, told_by_line, told_by_place, IsTakenAtHost}
+pub use Rattle.all_ends.specs.AllEnds.{drawn_at_place, statuses_of, told_by_line, told_by_place, has_stream_at}
+pub use Rattle.all_ends.specs.AllEnds.{PortStep, SealsAtEnd, SendsByPlace, link_statuses, sealing_draw_on, step_by_place}
+pub use Rattle.all_ends.specs.AllEnds.{step_on_stream}
 pub use Rattle.all_ends.specs.Ends.{EndsView, all_cleared, bound_on, bound_trust, changed_at, cleared_ends, cleared_on}
 pub use Rattle.all_ends.specs.Ends.{cleared_place, far_hop_trust, line_place, link_trust, live_at_port, live_of}
 pub use Rattle.all_ends.specs.Ends.{peer_live, new_all_ends, pair_port, port_at_place, port_on, reset_all}
 pub use Rattle.all_ends.specs.Ends.{settled_first_links, settled_ends, settled_link, settled_peer, trusting_on}
 pub use Rattle.all_ends.specs.Ends.{unlocked_ends, unlocked_link, with_port_on}
-pub use Rattle.all_ends.specs.Places.{code_behind, place_on_links, stream_named}
+pub use Rattle.all_ends.specs.Places.{code_behind, number_on_links, place_on_links, small_number, stream_named}
 pub use Rattle.all_ends.specs.States.{AreLinks, IsBounded, IsLink, in_sixteen, name_of, names_from_line, names_of}
 pub use Rattle.all_ends.specs.States.{ops_by_line, line_ops, pair_ports, ports_in, rows_of, state_of, views_after}
 pub use Rattle.all_ends.specs.declared.places.LinePlace.{LinePlace}

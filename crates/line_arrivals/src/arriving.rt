@@ -1,4 +1,4 @@
-//! Where arriving bytes land.
+//! Where arriving bytes land (this profile).
 
 ghost use Rattle.std.specs.Prelude.{◌≡◌, ◌<◌, ◌≤◌, ◌^◌, IfOk, IsSome, OnErr, Some, length};
 ghost use Rattle.spec_links.specs.Ports.{port_of as port_of_end};
@@ -15,7 +15,7 @@ use link_stores::Accesses;
 use std::alloc::Global;
 use trusted_memory::Trusted;
 
-/// Bytes that arrive at the port of an end, and what their verdict depends on beside the ends (this profile).
+/// Bytes that arrive at the port of an end, and what their verdict depends on beside the ends.
 #[derive(Clone, Copy)]
 pub struct Arriving<'a> {
     /// The topology.
@@ -66,7 +66,7 @@ fn wait_at(
 /// Bytes arrive at the port of an end: they meet the end of the line there that has their stream, or the port itself if
 /// none has it; at a switch what is of another stream than the hop's goes through unread. The memory for what they may
 /// write, and for a TLP that waits at a switch, is taken first, so for want of memory nothing changes (PCI Express Base
-/// 6.0 section 6.33, in this profile).
+/// 6.0 section 6.33).
 pub fn land(
     alloc: Global,
     arriving: &Arriving,

@@ -1,4 +1,4 @@
-//! Which ends arriving bytes meet.
+//! Which ends arriving bytes meet (this profile).
 
 ghost use Rattle.std.specs.Prelude.{◌≡◌, ◌≤◌, length, slice_get};
 ghost use Rattle.ide_types.specs.Plans.{hop_has_id as hop_has_its};
@@ -91,7 +91,7 @@ fn end_at_port(plan: &Plan, port: PortName, id: u8) -> PortName
 
 /// The end that bytes meet which arrive at the port of this one: that of the line that has their stream, first of the
 /// link, then of its hop, then of a stream between devices; the port if there is none. At a switch nothing is looked up
-/// (PCI Express Base 6.0 section 6.33, in this profile).
+/// (PCI Express Base 6.0 section 6.33).
 #[tactic(auto, unfolding(spec_links::specs::Ports::end_reached))]
 pub fn reached(plan: &ValidPlan, end: PortName, bytes: &[u8]) -> PortName
     ensures { result ≡ reached_by plan.now end bytes.now }
@@ -128,7 +128,7 @@ fn lacks_stream(plan: &Plan, end: PortName, bytes: &[u8]) -> bool
 }
 
 /// Whether bytes that arrive at this end go through a switch unread: they are of another stream than the hop's (PCI
-/// Express Base 6.0 section 6.33, in this profile).
+/// Express Base 6.0 section 6.33).
 #[tactic(auto, using(crate::proofs::Rows::through), unfolding(spec_links::specs::Ports::goes_through))]
 pub fn goes_through(plan: &ValidPlan, end: PortName, bytes: &[u8]) -> bool
     ensures { result ≡ is_through plan.now end bytes.now }

@@ -1,4 +1,4 @@
-//! Ends of lines, and the ports at which they are.
+//! Ends of lines, and the ports at which they are (this profile).
 
 ghost use Rattle.std.specs.Prelude.{◌≡◌, ◌<◌, ◌≤◌};
 ghost use Rattle.spec_links.specs.Plan.{has_link, has_port as has_end, partner as partner_of};
@@ -27,7 +27,7 @@ fn has_link(plan: &Plan, line: u8) -> bool
     (line as usize) < plan.links.as_slice().len()
 }
 
-/// The port of an end: of a host or a device it is the end of their link, of a switch the end itself (this profile).
+/// The port of an end: of a host or a device it is the end of their link, of a switch the end itself.
 #[tactic(auto, unfolding(spec_links::specs::Ports::port_of))]
 pub fn port_of(plan: &ValidPlan, end: PortName) -> PortName
     ensures { result ≡ port_of_end plan.now end }
@@ -41,7 +41,7 @@ pub fn port_of(plan: &ValidPlan, end: PortName) -> PortName
 }
 
 /// Whether an end is at a switch: the far end of a hop's segment towards the host, the near end of the one towards the
-/// device (this profile).
+/// device.
 pub fn at_switch(plan: &ValidPlan, end: PortName) -> bool
     ensures { result ≡ is_at_switch plan.now end }
 {
@@ -66,7 +66,7 @@ fn has_line(plan: &Plan, line: u8) -> bool
     }
 }
 
-/// Whether the topology has the line of this end (this profile).
+/// Whether the topology has the line of this end.
 #[tactic(auto, using(crate::proofs::Rows::line_is))]
 pub fn has_port(plan: &ValidPlan, end: PortName) -> bool
     ensures { result ≡ has_end plan.now end }
@@ -74,7 +74,7 @@ pub fn has_port(plan: &ValidPlan, end: PortName) -> bool
     has_line(plan.plan(), end.line)
 }
 
-/// Whether TLPs are sent at the end: it exists, and is not at a switch, which sends none of its own (this profile).
+/// Whether TLPs are sent at the end: it exists, and is not at a switch, which sends none of its own.
 pub fn may_send(plan: &ValidPlan, end: PortName) -> bool
     ensures { result ≡ sends_at plan.now end }
 {

@@ -1,4 +1,4 @@
-//! A device.
+//! A device (this profile).
 
 ghost use Rattle.std.specs.Prelude.{◌≡◌, ◌+◌, ◌<◌, ◌≤◌, ◌^◌, ◌++◌, ℕ, true, IfOk, IfSome, All, length};
 ghost use Rattle.std.specs.Prelude.{slice_get, vec_len, vec_capacity};
@@ -37,7 +37,7 @@ fn protocol_of(request: &[u8]) -> Option<Protocol>
 }
 
 /// The device of a link: its port with the link's streams, whose keys its responder moves, and its interfaces (PCI
-/// Express Base 6.0 section 6.33 and chapter 11, in this profile).
+/// Express Base 6.0 section 6.33 and chapter 11).
 #[derive(Drop)]
 pub struct Device {
     /// The port, whose keys are moved by `answer` alone. After an arrival there the caller calls `settle`.
@@ -141,7 +141,7 @@ impl Device {
     }
 
     /// Answers a request of any bytes. By its first byte it is of key management (00h) or of interfaces (01h); of any
-    /// other, and of no bytes, nothing comes and nothing changes (this profile). `draw` is the number under which a
+    /// other, and of no bytes, nothing comes and nothing changes. `draw` is the number under which a
     /// KEY_PROG's key is kept; `peers` says what stands at its ends of streams between it and others. After the last
     /// request of an event that is of keys the caller calls `settle`. `reply` has 1,200 bytes of room, so it takes no
     /// memory.

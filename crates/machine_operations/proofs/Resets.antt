@@ -2,7 +2,7 @@
 -- question has a key, and a stream without keys stands as the empty one: all its counts are 0, and it has not failed.
 -- The rest is of lists: the rows of both ports and of the manager are filled anew, and those of other links stay; in
 -- the first state all rows are such, by induction on the links.
-use Rattle.machine_operations.proofs.Terms.{◌≡◌, ◌≢◌, ℕ, zero, suc, ◌+◌, ◌*◌, ◌==◌, Bool, true, false, Some, None, List}
+use Rattle.machine_operations.proofs.Terms.{◌≡◌, ℕ, zero, suc, ◌+◌, ◌*◌, ◌==◌, Bool, true, false, Some, None, List}
 use Rattle.machine_operations.proofs.Terms.{[], ◌∷◌, length, map, refl, ap, sym, ◌∙◌, subst, arith, if◌then◌else◌, ◌&&◌}
 use Rattle.machine_operations.proofs.Terms.{◌||◌, is_some, slice_set, base, clears, Cpl, Device, draws_made, due}
 use Rattle.machine_operations.proofs.Terms.{each_sub, no_stream, has_failed, failed_next, failed_there, fails_at, find}

@@ -7,7 +7,7 @@ pub use Rattle.machine_ports.specs.Machine.{find_op, first_state, found_by_id, i
 pub use Rattle.machine_ports.specs.Machine.{whole_arrival, place_at_end, port_at, ports_of, receiving_draw_at}
 pub use Rattle.machine_ports.specs.Machine.{refuses_at, slots_refuse, machine_status, status_if_planned, step_of}
 pub use Rattle.machine_ports.specs.Machine.{touches_at, verdict_of_taken}
-pub use Rattle.machine_ports.specs.Replies.{BoundCompletion, completion_first, site_completion, link_completion}
+pub use Rattle.machine_ports.specs.Replies.{ReadCompletion, completion_first, site_completion, port_completion}
 pub use Rattle.machine_ports.specs.Stands.{StreamsAndPacketsStand, PortsStandFor, beside_at, receiving_key, rx_slot}
 pub use Rattle.machine_ports.specs.Stands.{rx_slots, state_due_if_planned, tx_slots}
 pub use Rattle.machine_ports.specs.Stream.{Accepted, Failed, Held, Insecure, NotKeyed, StreamState, PacketOutcome}

@@ -1,6 +1,6 @@
 -- A forward gets the verdict that is due, and the state after it stands for the history with it: the first TLP that
 -- waits is sent as any TLP is.
-use Rattle.machine_ports.proofs.Terms.{◌≡◌, ℕ, Bool, true, false, List, [], ◌∷◌, Err, refl, ◌∙◌, subst, Ok}
+use Rattle.machine_ports.proofs.Terms.{◌≡◌, ℕ, Bool, true, false, List, [], ◌∷◌, Err, refl, subst}
 use Rattle.machine_ports.proofs.Terms.{if◌then◌else◌, History, KeyFacts, LinkState, Plan, StreamsAndPacketsStand}
 unfoldable use Rattle.machine_ports.proofs.Terms.{due}
 use Rattle.ide_types.specs.declared.direction.Direction.{Direction}

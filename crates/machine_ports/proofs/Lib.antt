@@ -3,13 +3,13 @@ pub mod Puts
 pub mod Frames
 pub mod Changes
 pub mod Answers
-pub mod Beyond
 pub mod Takes
 pub mod Numbers
 pub mod Arrivals
 pub mod Lanes
 pub mod Seals
 pub mod Sends
+pub mod WaitingKnown
 pub mod Replies
 pub mod Forwards
 pub mod Steps

@@ -3,7 +3,8 @@
 -- nothing, and packets that are sealed fit the senders, which then stand for the list with them. Without one the kept
 -- counts are 0, whatever the history counts, but the TLP is refused before any count is looked at.
 use Rattle.machine_ports.specs.Stands.{beside_at, is_of_packets}
-use Rattle.machine_ports.specs.Machine.{Stepped, stepped_bytes}
+use Rattle.machine_ports.specs.Machine.{Stepped, stepped_bytes, stepped_seal}
+use Rattle.spec_links.specs.Due.{seal_due}
 use Rattle.spec_links.specs.History.{sent_bytes}
 unfoldable use Rattle.spec_links.specs.Sent.{bytes_by}
 use Rattle.script_events.specs.declared.event.Event.{Event}
@@ -320,6 +321,14 @@ module _ (plan : Plan) (facts : KeyFacts plan) (st : LinkState) (h : History)
   by_found s t reads known is None found = let other = not_kept plan st h s.port s.stream stands found in absurd cc
   by_found s t reads known is (Some y) found = sends_as s t reads is y found
 
+  -- a TLP on a stream that the end has
+  pub by_stream : (port : PortName) (t : Tlp) (stream : ℕ) (tee : Bool) → read_of (sent_bytes plan h e) ≡ Ok t
+      → has_stream plan port stream ≡ true → seal_due plan h port t stream more tee ≡ due plan h e
+      → Steps plan h e (stepped_seal plan st port t stream more tee)
+  by_stream port t stream tee reads known is =
+      by_found (record { port = port; stream = stream; class = class_of (header t); more = more; trusted = tee }) t
+      reads known is (find plan st port stream) refl
+
   pub by_outgoing : (port : PortName) (o : Outgoing)
       → outgoing_of (streams_of plan port.line) port.side (sent_bytes plan h e) ≡ o
       → send_due plan h port o more trusted ≡ due plan h e
@@ -327,15 +336,9 @@ module _ (plan : Plan) (facts : KeyFacts plan) (st : LinkState) (h : History)
   by_outgoing port (NoTlp f) comes is = tells port (v.Malformed (port_of plan port) (tlp_word f) (place_in f)) refl is
   by_outgoing port OnNone comes is = tells port (v.Plain (port_of plan port)) refl is
   by_outgoing port (OnStream t stream) comes is =
-      by_found (record {
-        port = port;
-        stream = stream;
-        class = class_of (header t);
-        more = more;
-        trusted = t_sealed plan h port (header t) stream trusted;
-      }) t
+      by_stream port t stream (t_sealed plan h port (header t) stream trusted)
       (on_stream_reads (streams_of plan port.line) port.side (sent_bytes plan h e) t stream comes).0
-      (stream_known plan port (sent_bytes plan h e) t stream comes) is (find plan st port stream) refl
+      (stream_known plan port (sent_bytes plan h e) t stream comes) is
 
 pub if_steps : (plan : Plan) (h : History) (e : Event) (b : Bool) (x y : Stepped) → (b ≡ true → Steps plan h e x)
     → (b ≡ false → Steps plan h e y) → Steps plan h e (if b then x else y)

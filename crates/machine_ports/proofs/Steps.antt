@@ -14,7 +14,7 @@ use Rattle.machine_ports.proofs.Changes.{Steps, none_of_packets, quiet}
 use Rattle.machine_ports.proofs.Numbers.{of_numbered}
 use Rattle.machine_ports.proofs.Arrivals.{arrives}
 use Rattle.machine_ports.proofs.Sends.{sends}
-use Rattle.machine_ports.proofs.Replies.{replies}
+use Rattle.machine_ports.proofs.Replies.{answers, responds}
 use Rattle.machine_ports.proofs.Forwards.{forwards}
 use Rattle.script_events.specs.declared.event.Event.TheVariants.{Access, Forward}
 use Rattle.script_events.specs.declared.event.AccessEvent.TheVariants as ae
@@ -66,7 +66,8 @@ pub packets_stand : PacketsStand
 unfolding step_of due arrival_of_event
 packets_stand plan facts st h (Send port bytes more trusted) is stands = sends plan facts st h stands bytes more trusted
     port
-packets_stand plan facts st h (Access (ae.Answer link)) is stands = replies plan facts st h stands link
+packets_stand plan facts st h (Access (ae.Answer link)) is stands = answers plan facts st h stands link
+packets_stand plan facts st h (Access (ae.Respond link)) is stands = responds plan facts st h stands link
 packets_stand plan facts st h (Forward link d) is stands = forwards plan facts st h stands link d
 packets_stand plan facts st h (Pass n) is stands =
     brought_to plan facts st h (Pass n) refl stands _

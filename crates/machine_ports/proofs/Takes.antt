@@ -22,7 +22,7 @@ use Rattle.machine_ports.proofs.Frames.{seals_at, accepts_in, holds_in, each_sam
 use Rattle.machine_ports.proofs.Frames.{rx_frame, rx_with, rx_slot_same, units_same, held_same, live_in, failed_more}
 use Rattle.machine_ports.proofs.Frames.{failed_same}
 use Rattle.machine_ports.proofs.Answers.{at_each, on_live}
-use Rattle.machine_ports.proofs.Beyond.{none_beyond}
+use Rattle.law_key_facts.proofs.Beyond.{none_beyond}
 
 -- one sub-stream of three is new
 pub one_new : {A : Type 0} → (f g : SubKind → A) (u : SubKind) (x : A) → f u ≡ x

@@ -1,6 +1,6 @@
 -- A step that answers `through` leaves the state: no packet that is looked at gets that answer.
-use Rattle.machine_ports.proofs.Terms.{◌≡◌, ℕ, Bool, true, false, Option, Some, None, Ok, Err, Result, arith, refl}
-use Rattle.machine_ports.proofs.Terms.{option_and_then, if◌then◌else◌, Plan, PortName, LinkState, ArrivedBytes, Event}
+use Rattle.machine_ports.proofs.Terms.{◌≡◌, Bool, true, false, Option, Some, None, Ok, Err, Result, arith, refl}
+use Rattle.machine_ports.proofs.Terms.{option_and_then, if◌then◌else◌, Plan, PortName, LinkState, ArrivedBytes}
 use Rattle.machine_ports.proofs.Terms.{Packet, has_port, packet_numbered, whole_arrival, altered_to, cut_short, find}
 use Rattle.machine_ports.proofs.Terms.{StreamState, stepped_arrival, step_of, Pass, Alter, Cut, Arrive}
 use Rattle.ide_prefix.specs.declared.fault.PacketFault.{PacketFault}

@@ -36,7 +36,9 @@ use Rattle.tlp_layout.specs.Class.{class_of}
 use Rattle.tlp_layout.specs.Faults.{place_in}
 use Rattle.tlp_layout.specs.Head.{head_bytes}
 use Rattle.tlp_layout.specs.Tlp.{header, body}
-use Rattle.tlp_layout.specs.Outgoing.{Outgoing, NoTlp, OnNone, OnStream, outgoing_of}
+use Rattle.tlp_layout.specs.Outgoing.{Outgoing, NoTlp, OnNone, OnStream}
+use Rattle.tlp_layout.specs.Reading.{read_of}
+use Rattle.tlp_layout.specs.declared.fault.TlpFault.{TlpFault}
 use Rattle.ide_prefix.specs.declared.fault.PacketFault.{PacketFault}
 use Rattle.ide_prefix.specs.Faults.{packet_place}
 use Rattle.ide_prefix.specs.Packet.{Packet, packet_bytes}
@@ -53,6 +55,7 @@ use Rattle.ide_types.specs.declared.status.StreamStatus.{StreamStatus}
 use Rattle.ide_types.specs.declared.status.StreamStatus.TheVariants as status
 use Rattle.spec_keys.specs.Places.{KeyPlace, is_between_devices, sent_direction}
 use Rattle.ide_types.specs.Lines.{is_hosted, is_link_line}
+use Rattle.ide_types.specs.Ports.{host_port, device_port}
 use Rattle.spec_keys.specs.Keys.{Touch, refusal_if, is_some_below}
 use Rattle.spec_keys.specs.Operations.{StreamStage, Idle, Stopping, Work, Reach, work_of, reach_of, op_after_reach}
 use Rattle.spec_keys.specs.Operations.{makes_draw}
@@ -72,7 +75,7 @@ use Rattle.spec_links.specs.Due.{Sending, refusals, sealed_with_syncs, first_tha
 use Rattle.spec_links.specs.History.{ArrivedBytes}
 use Rattle.ide_types.specs.declared.direction.Direction.{Direction}
 use Rattle.spec_links.specs.Hops.{HopTlp, leaving_end}
-use Rattle.machine_ports.specs.Replies.{BoundCompletion}
+use Rattle.machine_ports.specs.Replies.{ReadCompletion}
 use Rattle.machine_ports.specs.Stream.{LaneSlot, LaneSlots, slot_in_set, LiveKey, Live, StreamState}
 use Rattle.machine_ports.specs.Stream.{is_live_slot, slots_at, stream_status, no_stream, sealing_draw, receiving_draw}
 use Rattle.machine_ports.specs.Stream.{PacketOutcome, Insecure, NotKeyed, Failed, Held, Accepted, lanes_of, sealed_all}
@@ -136,13 +139,13 @@ abbrev pub kept_packet : PortName → Packet → LinkPacket
 kept_packet port p = record { port = port; bytes = packet_bytes p }
 
 -- what is said beside the ports: T of a TLP on a stream, what the packets of an accepted unit do, what is due of events
--- on interfaces, what the answer to a link's oldest waiting read comes to, what is shown of a device's memory, and what
--- the first TLP comes to that waits in a direction of a link's hop
+-- on interfaces, what the answer to the oldest read that waits at a port comes to, what is shown of a device's memory,
+-- and what the first TLP comes to that waits in a direction of a link's hop
 pub record BesidePorts : Type 0 where
   pub t : PortName → HeadView → ℕ → Bool → Bool
   pub effects : PortName → UnitName → List Packet → List Effect
   pub answer : InterfaceEvent → Verdict
-  pub reply : ℕ → Result BoundCompletion Verdict
+  pub reply : PortName → Result ReadCompletion Verdict
   pub shows : ℕ → ℕ → ℕ → ℕ → Verdict
   pub forward : ℕ → Direction → Result HopTlp Verdict
 
@@ -162,6 +165,13 @@ stepped_on_stream plan st s t (Some x) =
     stepped_answer plan st s t x (first_that_holds (refusals lanes s.class))
     (sealed_with_syncs lanes s (length st.packets + 1))
 
+-- of a TLP on a stream of an end, with this T
+abbrev pub stepped_seal : Plan → LinkState → PortName → Tlp → ℕ → Bool → Bool → Stepped
+stepped_seal plan st port tlp stream more t =
+    let s : Sending =
+    record { port = port; stream = stream; class = class_of (header tlp); more = more; trusted = t } in
+    stepped_on_stream plan st s tlp (find plan st port stream)
+
 abbrev pub stepped_send : Plan → BesidePorts → LinkState → PortName → Outgoing → Bool → Bool → Stepped
 stepped_send plan beside st port (NoTlp f) more trusted = (
   v.Malformed (port_of plan port) (tlp_word f) (place_in f),
@@ -169,13 +179,7 @@ stepped_send plan beside st port (NoTlp f) more trusted = (
 )
 stepped_send plan beside st port OnNone more trusted = (v.Plain (port_of plan port), st)
 stepped_send plan beside st port (OnStream t stream) more trusted =
-    stepped_on_stream plan st (record {
-      port = port;
-      stream = stream;
-      class = class_of (header t);
-      more = more;
-      trusted = beside.t port (header t) stream trusted;
-    }) t (find plan st port stream)
+    stepped_seal plan st port t stream more (beside.t port (header t) stream trusted)
 
 -- of bytes that are sent at an end
 abbrev pub stepped_bytes : Plan → BesidePorts → LinkState → PortName → List ℕ → Bool → Bool → Stepped
@@ -194,16 +198,20 @@ sealing_draw_at u o = option_and_then (λ (x : StreamState). sealing_draw (slots
 abbrev pub receiving_draw_at : SubKind → Option StreamState → Option ℕ
 receiving_draw_at u o = option_and_then (λ (x : StreamState). receiving_draw (slots_at false u x)) o
 
--- under a key of the bound stream from the floor on the completion is sent as any TLP is, with T
-abbrev pub stepped_completion : Plan → BesidePorts → LinkState → PortName → BoundCompletion → Option ℕ → Stepped
-stepped_completion plan beside st port r draw =
-    if is_some_below draw r.bound.floor then (v.Interface (iv.RefusedRefreshFirst (unwrap_or draw 0) r.bound.floor), st)
-    else stepped_send plan beside st port (outgoing_of (streams_of plan port.line) port.side r.bytes) false true
+-- on the completion's stream, with its T
+abbrev pub stepped_tlp : Plan → LinkState → ReadCompletion → Result Tlp TlpFault → Stepped
+stepped_tlp plan st c (Err f) = (v.Malformed (port_of plan c.end) (tlp_word f) (place_in f), st)
+stepped_tlp plan st c (Ok tlp) = stepped_seal plan st c.end tlp c.stream false c.trusted
 
-abbrev pub stepped_reply : Plan → BesidePorts → LinkState → PortName → Result BoundCompletion Verdict → Stepped
-stepped_reply plan beside st port (Err verdict) = (verdict, st)
-stepped_reply plan beside st port (Ok r) =
-    stepped_completion plan beside st port r (sealing_draw_at Cpl (find plan st port r.bound.stream))
+-- under a key of its stream from the floor on
+abbrev pub stepped_completion : Plan → LinkState → ReadCompletion → Option ℕ → Stepped
+stepped_completion plan st c draw =
+    if is_some_below draw c.floor then (v.Interface (iv.RefusedRefreshFirst (unwrap_or draw 0) c.floor), st)
+    else stepped_tlp plan st c (read_of c.bytes)
+
+abbrev pub stepped_reply : Plan → LinkState → Result ReadCompletion Verdict → Stepped
+stepped_reply plan st (Err verdict) = (verdict, st)
+stepped_reply plan st (Ok c) = stepped_completion plan st c (sealing_draw_at Cpl (find plan st c.end c.stream))
 
 -- ---- what waits at switches
 
@@ -425,7 +433,8 @@ step_of plan beside st (Reset link ends) =
     if nat_lt link (length plan.links) then (v.Reset link, reset_state plan st ends) else (v.Nothing, st)
 step_of plan beside st (Status line stream) = status_found plan st line stream (find_op plan st line stream)
 step_of plan beside st (Interface e) = (beside.answer e, st)
-step_of plan beside st (Access (ae.Answer link)) = stepped_reply plan beside st (port_at Host link) (beside.reply link)
+step_of plan beside st (Access (ae.Answer link)) = stepped_reply plan st (beside.reply (host_port link))
+step_of plan beside st (Access (ae.Respond link)) = stepped_reply plan st (beside.reply (device_port link))
 step_of plan beside st (Access (ae.Mmio interface bar offset len)) = (beside.shows interface bar offset len, st)
 step_of plan beside st (Forward link d) = stepped_forward plan beside st (leaving_end link d) (beside.forward link d)
 step_of plan beside st Absent = (v.Nothing, st)

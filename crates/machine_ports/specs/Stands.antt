@@ -13,14 +13,14 @@ use Rattle.spec_keys.specs.History.{History, base, op_of, draws}
 use Rattle.spec_keys.specs.Keys.{Keyed, Off, Loaded, On, Keys}
 use Rattle.spec_links.specs.History.{port_keys, SealedList, sealed_packets, sub_stream_packets, pending_packets}
 use Rattle.spec_links.specs.History.{units_got, got_since, has_failed, has_live_out, has_live_in, posted_count, waits}
-use Rattle.spec_links.specs.History.{total_in, units_since, sent_bytes}
+use Rattle.spec_links.specs.History.{total_in, units_since}
 use Rattle.spec_links.specs.Due.{due, effects_of}
 unfoldable use Rattle.spec_links.specs.Due.{t_sealed}
 use Rattle.spec_links.specs.Guarded.{mmio_due}
-use Rattle.spec_links.specs.Memory.{waiting_reads, hop_waiting}
-use Rattle.spec_links.specs.{grant_at}
+use Rattle.spec_links.specs.Memory.{waiting_reads, hop_waiting, policy_at}
+use Rattle.spec_links.specs.Sent.{completion_at}
 use Rattle.script_events.specs.declared.event.AccessEvent.TheVariants as ae
-use Rattle.machine_ports.specs.Replies.{link_completion}
+use Rattle.machine_ports.specs.Replies.{port_completion}
 use Rattle.machine_ports.specs.Forwards.{forward_of}
 use Rattle.spec_links.specs.Cause.{CauseLaw}
 use Rattle.spec_links.specs.KeyFacts.{KeyFacts}
@@ -128,8 +128,8 @@ beside_at plan h = record {
   t = t_sealed plan h;
   effects = effects_of plan h;
   answer = λ e. due plan h (event.Interface e);
-  reply = λ link. link_completion plan (grant_at plan h) (λ r. sent_bytes plan h (event.Access (ae.Answer link))) link
-      (waiting_reads plan h link);
+  reply = λ port. port_completion plan (policy_at plan h)
+      (completion_at plan (sealed_packets plan h) h port) port (waiting_reads plan h port);
   shows = mmio_due plan h;
   forward = λ link d. forward_of plan link (hop_waiting plan h link d);
 }
@@ -144,10 +144,11 @@ StepStands = (plan : Plan) (st : LinkState) (h : History) (e : Event) → PortsS
 abbrev pub FirstStands : Type 0
 FirstStands = (plan : Plan) → PortsStandFor plan (first_state plan) []
 
--- it is a send, an answer to a read or a forward, brings bytes, or shows a packet
+-- it is a send, an answer to a read of a host's or a device's memory or a forward, brings bytes, or shows a packet
 abbrev pub is_of_packets : Event → Bool
 is_of_packets (event.Send port bytes more trusted) = true
 is_of_packets (event.Access (ae.Answer link)) = true
+is_of_packets (event.Access (ae.Respond link)) = true
 is_of_packets (event.Forward link d) = true
 is_of_packets (event.Pass n) = true
 is_of_packets (event.Alter n at mask) = true

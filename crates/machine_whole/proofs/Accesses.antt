@@ -26,13 +26,13 @@ use Rattle.machine_whole.specs.Interfaces.{Face}
 use Rattle.machine_whole.specs.InterfacesStand.{face_at}
 use Rattle.spec_interfaces.specs.{InterfaceStatus, Happened, newest_happened}
 use Rattle.spec_links.specs.{WaitingRead}
-use Rattle.spec_links.specs.Plan.{SubStream, lane_in, stream_plan}
+use Rattle.spec_links.specs.Plan.{SubStream, is_same_port, lane_in, stream_plan}
 use Rattle.spec_links.specs.Cause.{CauseLaw}
 use Rattle.spec_links.specs.Ports.{port_of}
 use Rattle.spec_links.specs.History.{SealedList, sealed_packets, port_keys}
 use Rattle.spec_links.specs.Memory.{queued_reads, waiting_reads, unit_ended, hop_waiting, plain_of}
 unfoldable use Rattle.spec_links.specs.Sent.{reads_taken, queued_in}
-use Rattle.spec_links.specs.Sent.{is_answer_on, reads_by, unit_accepted}
+use Rattle.spec_links.specs.Sent.{answers_at, reads_by, targets_at, unit_accepted}
 unfoldable use Rattle.spec_links.specs.Guarded.{link_happenings}
 use Rattle.spec_links.specs.Guarded.{happens_by_packets, verdict_unit}
 use Rattle.machine_operations.proofs.{unplanned_keys, keys_into}
@@ -67,46 +67,50 @@ one_taken : (b : Bool) (n : ℕ) (xs ys : List WaitingRead) → ys ≡ xs
 one_taken true n xs ys same = drop_more n xs ∙ ap (drop (n + 1)) (sym same)
 one_taken false n xs ys same = ap (drop n) (sym same)
 
+-- by how the interfaces stood before the pair
 pub waiting_is : (plan : Plan) (h : History) (e : Event) (w : Verdict) (ps : List Packet) → CauseLaw plan ((e, w) ∷ h)
-    → AreEnded plan h ps e w → (link : ℕ)
-    → waiting_reads_after plan ps e w link (waiting_reads plan h link) ≡ waiting_reads plan ((e, w) ∷ h) link
+    → AreEnded plan h ps e w → (at : PortName)
+    → waiting_reads_after plan (history_statuses plan h) ps e w at (waiting_reads plan h at)
+    ≡ waiting_reads plan ((e, w) ∷ h) at
 unfolding reads_taken queued_in
-waiting_is plan h e (v.Accepted port unit effects) ps law units link =
-    by ((port_of plan port).line == link) (here_after plan h e (v.Accepted port unit effects) law link)
-    (units ∙ sym (unit_again plan h e port unit effects law))
+waiting_is plan h e (v.Accepted end unit effects) ps law units at =
+    by (is_same_port (port_of plan end) at) (here_after plan h e (v.Accepted end unit effects) law at)
+    (units ∙ sym (unit_again plan h e end unit effects law))
   where
     xs : SealedList
-    xs = sealed_packets plan ((e, v.Accepted port unit effects) ∷ h)
+    xs = sealed_packets plan ((e, v.Accepted end unit effects) ∷ h)
 
-    by : (b : Bool) → queued_in plan (sealed_packets plan ((e, v.Accepted port unit effects) ∷ h)) h link
-        ≡ queued_reads plan h link
-        → ps ≡ unit_accepted plan (sealed_packets plan ((e, v.Accepted port unit effects) ∷ h)) h e port unit
-        → (if b then waiting_reads plan h link ++ reads_by unit.draw effects ps else waiting_reads plan h link)
-        ≡ drop (reads_taken h link)
-        (if b then queued_in plan (sealed_packets plan ((e, v.Accepted port unit effects) ∷ h)) h link
-        ++ reads_by unit.draw effects
-        (unit_accepted plan (sealed_packets plan ((e, v.Accepted port unit effects) ∷ h)) h e port unit)
-        else queued_in plan (sealed_packets plan ((e, v.Accepted port unit effects) ∷ h)) h link)
+    reads : List Packet → List WaitingRead
+    reads us = reads_by (targets_at at.side (history_statuses plan h at.line)) end unit effects us
+
+    by : (b : Bool) → queued_in plan (sealed_packets plan ((e, v.Accepted end unit effects) ∷ h)) h at
+        ≡ queued_reads plan h at
+        → ps ≡ unit_accepted plan (sealed_packets plan ((e, v.Accepted end unit effects) ∷ h)) h e end unit
+        → (if b then waiting_reads plan h at ++ reads ps else waiting_reads plan h at)
+        ≡ drop (reads_taken h at)
+        (if b then queued_in plan (sealed_packets plan ((e, v.Accepted end unit effects) ∷ h)) h at
+        ++ reads (unit_accepted plan (sealed_packets plan ((e, v.Accepted end unit effects) ∷ h)) h e end unit)
+        else queued_in plan (sealed_packets plan ((e, v.Accepted end unit effects) ∷ h)) h at)
     by true here same =
-        ap (λ (us : List Packet). waiting_reads plan h link ++ reads_by unit.draw effects us) same
-        ∙ (sym (drop-append-le (reads_taken h link) (queued_reads plan h link) _ (takes_first plan h law.1 link))
-        ∙ ap (λ (ys : List WaitingRead). drop (reads_taken h link)
-        (ys ++ reads_by unit.draw effects (unit_accepted plan xs h e port unit))) (sym here))
-    by false here same = ap (drop (reads_taken h link)) (sym here)
-waiting_is plan h e (v.Sealed ds) ps law units link = one_taken (is_answer_on link e) (reads_taken h link)
-    (queued_reads plan h link) _ (here_after plan h e (v.Sealed ds) law link)
-waiting_is plan h e (v.Access (av.Dropped i c)) ps law units link = one_taken (is_answer_on link e) (reads_taken h link)
-    (queued_reads plan h link) _ (here_after plan h e (v.Access (av.Dropped i c)) law link)
-waiting_is plan h (event.Reset k ends) (v.Reset l) ps law units link = by (l == link)
-    (here_after plan h (event.Reset k ends) (v.Reset l) law link)
+        ap (λ (us : List Packet). waiting_reads plan h at ++ reads us) same
+        ∙ (sym (drop-append-le (reads_taken h at) (queued_reads plan h at) _ (takes_first plan h law.1 at))
+        ∙ ap (λ (ys : List WaitingRead). drop (reads_taken h at) (ys ++ reads (unit_accepted plan xs h e end unit)))
+        (sym here))
+    by false here same = ap (drop (reads_taken h at)) (sym here)
+waiting_is plan h e (v.Sealed ds) ps law units at = one_taken (answers_at at e) (reads_taken h at)
+    (queued_reads plan h at) _ (here_after plan h e (v.Sealed ds) law at)
+waiting_is plan h e (v.Access (av.Dropped i c)) ps law units at = one_taken (answers_at at e) (reads_taken h at)
+    (queued_reads plan h at) _ (here_after plan h e (v.Access (av.Dropped i c)) law at)
+waiting_is plan h (event.Reset k ends) (v.Reset l) ps law units at = by (l == at.line)
+    (here_after plan h (event.Reset k ends) (v.Reset l) law at)
   where
-    by : (b : Bool) → queued_in plan (sealed_packets plan ((event.Reset k ends, v.Reset l) ∷ h)) h link
-        ≡ queued_reads plan h link
-        → (if b then [] else waiting_reads plan h link) ≡ drop (if b then 0 else reads_taken h link)
-        (if b then [] else queued_in plan (sealed_packets plan ((event.Reset k ends, v.Reset l) ∷ h)) h link)
+    by : (b : Bool) → queued_in plan (sealed_packets plan ((event.Reset k ends, v.Reset l) ∷ h)) h at
+        ≡ queued_reads plan h at
+        → (if b then [] else waiting_reads plan h at) ≡ drop (if b then 0 else reads_taken h at)
+        (if b then [] else queued_in plan (sealed_packets plan ((event.Reset k ends, v.Reset l) ∷ h)) h at)
     by true here = refl
-    by false here = ap (drop (reads_taken h link)) (sym here)
-waiting_is plan h e w ps law units link = ap (drop (reads_taken h link)) (sym (here_after plan h e w law link))
+    by false here = ap (drop (reads_taken h at)) (sym here)
+waiting_is plan h e w ps law units at = ap (drop (reads_taken h at)) (sym (here_after plan h e w law at))
 
 -- ---- the floors
 

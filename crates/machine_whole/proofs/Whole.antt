@@ -1,7 +1,8 @@
 -- The whole machine stands for the history: what each part reads of the other is what the history says, so that each
 -- step is that of its parts.
-use Rattle.std.proofs.Common.{◌≡◌, ℕ, ◌∷◌, [], Bool, true, false, Err, refl, sym, ap, ◌∙◌, subst, List, length}
+use Rattle.std.proofs.Common.{◌≡◌, ℕ, ◌∷◌, [], Bool, true, false, refl, sym, ap, ◌∙◌, subst, List, length}
 use Rattle.std.proofs.Common.{if◌then◌else◌}
+use Rattle.std.proofs.lemmas.List.{append-nil}
 use Rattle.ide_types.specs.declared.port.PortName.{PortName}
 use Rattle.ide_types.specs.declared.port.Side.{Side}
 use Rattle.ide_types.specs.declared.port.Side.TheVariants.{Host, Device}
@@ -25,22 +26,20 @@ use Rattle.machine_whole.specs.Interfaces.{Faces, faces_after, interface_answer,
 use Rattle.machine_whole.specs.InterfacesStand.{FacesStandFor, ends_read}
 use Rattle.machine_whole.proofs.Faces.{faces_stand}
 use Rattle.spec_links.specs.Cause.{CauseLaw}
-use Rattle.spec_links.specs.Plan.{has_link}
-use Rattle.spec_links.specs.History.{sent_bytes}
+use Rattle.spec_links.specs.History.{sealed_packets}
 use Rattle.spec_links.specs.Memory.{policy_at, effects_under_policy, admitted_writes, shown_if, memory_due}
-use Rattle.spec_links.specs.Memory.{queued_reads, waiting_reads}
+use Rattle.spec_links.specs.Memory.{waiting_reads}
 unfoldable use Rattle.spec_links.specs.Sent.{reads_taken, queued_in}
+use Rattle.spec_links.specs.Sent.{claim_completion, completion_at}
 unfoldable use Rattle.spec_links.specs.Guarded.{link_happenings}
 use Rattle.spec_links.specs.Guarded.{mmio_by_happenings, happens_by_packets}
 use Rattle.spec_interfaces.specs.{newest_happened}
 unfoldable use Rattle.spec_interfaces.specs.Floors.{device_floor}
-use Rattle.spec_interfaces.specs.Sites.{sites, site_of_requester}
-use Rattle.spec_links.specs.{WaitingRead}
+use Rattle.spec_interfaces.specs.Sites.{sites}
+use Rattle.spec_links.specs.Terms.{MemReadView, claim_of, history_statuses, host_completer}
 unfoldable use Rattle.spec_links.specs.{completion_bytes}
-use Rattle.script_events.specs.declared.event.AccessEvent.TheVariants as ae
-use Rattle.machine_operations.specs.{site_completion, completion_first, link_completion}
-use Rattle.spec_links.proofs.HopFirst.{drop_first}
-use Rattle.law_reads.proofs.Oldest.{bytes_are}
+use Rattle.machine_operations.specs.{port_completion}
+use Rattle.law_reads.proofs.ByNumber.{IsBehind, writes_same, happenings_same}
 unfoldable use Rattle.spec_links.specs.Memory.{writes}
 use Rattle.trusted_memory.specs.Writes.{Write, newest_first}
 unfoldable use Rattle.trusted_memory.specs.Writes.{byte_last_written}
@@ -51,8 +50,8 @@ use Rattle.machine_operations.specs.{BesidePorts, LinkState, step_of, beside_at,
 use Rattle.machine_operations.proofs.AllSteps.{steps}
 use Rattle.machine_operations.proofs.Resets.{begins as first}
 use Rattle.machine_whole.specs.Machine.{Whole, t_at_side, t_kept, memory_shown, written_after, beside_of, whole_streams}
-use Rattle.machine_whole.specs.Machine.{draw_after, policy_of, completion_from_memory, machine_completion, ended_unit}
-use Rattle.machine_whole.specs.Machine.{whole_faces_after, whole_after}
+use Rattle.machine_whole.specs.Machine.{draw_after, statuses_of, policy_of, completion_from_memory, machine_completion}
+use Rattle.machine_whole.specs.Machine.{ended_unit, whole_faces_after, whole_after}
 use Rattle.machine_whole.specs.Accesses.{face_statuses, waiting_reads_after, accesses_after, unit_tlps}
 use Rattle.machine_whole.specs.Stands.{AccessesStandFor, WholeStandsFor, WholeBegins, WholeSteps}
 use Rattle.machine_whole.proofs.Units.{unit_is}
@@ -111,49 +110,53 @@ answer_says plan w h stands e =
 grants_are : (plan : Plan) (fs : Faces) (h : History) → FacesStandFor plan fs h → grant_of plan fs ≡ grant_at plan h
 grants_are plan fs h stands = λ i link requester. faces_stand.grant plan fs h link requester stands i
 
+statuses_read : (plan : Plan) (w : Whole) (h : History) → WholeStandsFor plan w h
+    → statuses_of plan w ≡ history_statuses plan h
+statuses_read plan w h stands =
+    λ i link. statuses_are plan h w.faces.list w.accesses.floors stands.faces.faces stands.accesses.floors link i
+
 policy_is : (plan : Plan) (w : Whole) (h : History) → WholeStandsFor plan w h → policy_of plan w ≡ policy_at plan h
 policy_is plan w h stands = λ i. record {
   grants = grants_are plan w.faces h stands.faces i;
-  waiting = λ link. length (stands.accesses.waiting link i);
-  statuses = λ link. statuses_are plan h w.faces.list w.accesses.floors stands.faces.faces stands.accesses.floors
-      link i;
+  waiting = λ port. length (stands.accesses.waiting port i);
+  statuses = statuses_read plan w h stands i;
 }
 
--- the completion of the first of the reads that wait is what an answer seals
-completed_is : (plan : Plan) (w : Whole) (h : History) → WholeStandsFor plan w h → (link : ℕ) (rs : List WaitingRead)
-    → waiting_reads plan h link ≡ rs → completion_first plan (grant_of plan w.faces) (completion_from_memory w) link rs
-    ≡ completion_first plan (grant_at plan h) (λ r. sent_bytes plan h (event.Access (ae.Answer link))) link rs
-completed_is plan w h stands link [] waits = refl
-completed_is plan w h stands link (r ∷ rs) waits =
-    let oldest = drop_first (reads_taken h link) (queued_reads plan h link) r rs waits in
-    let bytes = ap (λ (ws : List Write). completion_bytes (byte_last_written ws) r.read) stands.written
-    ∙ sym (bytes_are plan h link r stands.links.ports_stand.cause oldest) in
-    λ i. site_completion plan link r.draw (bytes i)
-    (grants_are plan w.faces h stands.faces i link r.read.requester) (site_of_requester plan link r.read.requester)
-
-reply_is : (plan : Plan) (w : Whole) (h : History) → WholeStandsFor plan w h → (link : ℕ)
-    → machine_completion plan w link
-    ≡ link_completion plan (grant_at plan h) (λ r. sent_bytes plan h (event.Access (ae.Answer link))) link
-    (waiting_reads plan h link)
-reply_is plan w h stands link =
-    ap (link_completion plan (grant_of plan w.faces) (completion_from_memory w) link) (stands.accesses.waiting link)
-    ∙ by (has_link plan link)
+-- memory is what the history left
+completed_is : (plan : Plan) (w : Whole) (h : History) → WholeStandsFor plan w h → (port : PortName)
+    (read : MemReadView)
+    → completion_from_memory plan w port read ≡ completion_at plan (sealed_packets plan h) h port read
+completed_is plan w h stands port read = by port.side
   where
-    by : (b : Bool) → (if b then completion_first plan (grant_of plan w.faces) (completion_from_memory w) link
-        (waiting_reads plan h link)
-        else Err v.Nothing)
-        ≡ (if b then completion_first plan (grant_at plan h) (λ r. sent_bytes plan h (event.Access (ae.Answer link)))
-        link
-        (waiting_reads plan h link) else Err v.Nothing)
-    by true = completed_is plan w h stands link (waiting_reads plan h link) refl
-    by false = refl
+    cause : CauseLaw plan h
+    cause = stands.links.ports_stand.cause
+
+    now : IsBehind plan h (sealed_packets plan h)
+    now = ([], append-nil (sealed_packets plan h))
+
+    by : (side : Side)
+        → completion_from_memory plan w (record { side = side; line = port.line }) read
+        ≡ completion_at plan (sealed_packets plan h) h (record { side = side; line = port.line }) read
+    by Host = ap (λ (ws : List Write). completion_bytes host_completer (byte_last_written ws) read)
+        (stands.written ∙ sym (writes_same plan h cause (sealed_packets plan h) now))
+    by Device = λ i. claim_completion plan port.line ((stands.accesses.happened port.line
+        ∙ sym (happenings_same plan h cause (sealed_packets plan h) now port.line)) i) read
+        (claim_of (statuses_read plan w h stands i port.line) read.span)
+
+reply_is : (plan : Plan) (w : Whole) (h : History) → WholeStandsFor plan w h → (port : PortName)
+    → machine_completion plan w port
+    ≡ port_completion plan (policy_at plan h) (completion_at plan (sealed_packets plan h) h port) port
+    (waiting_reads plan h port)
+reply_is plan w h stands port =
+    λ i. port_completion plan (policy_is plan w h stands i) (λ read. completed_is plan w h stands port read i) port
+    (stands.accesses.waiting port i)
 
 beside_is : (plan : Plan) (w : Whole) (h : History) → WholeStandsFor plan w h → beside_of plan w ≡ beside_at plan h
 beside_is plan w h stands = λ i. record {
   t = λ port head stream trusted. t_says plan w.faces h stands.faces port head stream trusted i;
   effects = λ port. effects_under_policy plan (policy_is plan w h stands i) (port_of plan port);
   answer = λ e. answer_says plan w h stands e i;
-  reply = λ link. reply_is plan w h stands link i;
+  reply = λ port. reply_is plan w h stands port i;
   shows = mmio_by_happenings plan (λ link. stands.accesses.happened link i);
   forward = λ link d. forward_of plan link (stands.accesses.carried link d i);
 }
@@ -194,8 +197,9 @@ accesses_are plan w h e x faces stands is next =
     let law : CauseLaw plan ((e, x) ∷ h) = (is, stands.links.ports_stand.cause) in
     let units = units_are plan w h e x stands is in
     record {
-      waiting = λ link. ap (waiting_reads_after plan (ended_unit plan w e) e x link) (stands.accesses.waiting link)
-          ∙ waiting_is plan h e x (ended_unit plan w e) law units link;
+      waiting = λ port. (λ i. waiting_reads_after plan (statuses_read plan w h stands i) (ended_unit plan w e) e x port
+          (stands.accesses.waiting port i))
+          ∙ waiting_is plan h e x (ended_unit plan w e) law units port;
       floors = floors_are plan w.links h e x w.faces.list faces.list w.accesses.floors stands.links.ports_stand
           stands.faces.faces next.faces stands.accesses.floors;
       happened = λ link. ap (newest_happened
@@ -255,5 +259,5 @@ whole_begins plan = record {
   faces = faces_stand.first plan;
   draw = refl;
   written = refl;
-  accesses = record { waiting = λ link. refl; floors = refl; happened = λ link. refl; carried = λ link d. refl };
+  accesses = record { waiting = λ port. refl; floors = refl; happened = λ link. refl; carried = λ link d. refl };
 }

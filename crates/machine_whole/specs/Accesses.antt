@@ -18,7 +18,8 @@ use Rattle.spec_interfaces.specs.Floors.{floor_after_event}
 use Rattle.machine_whole.specs.Interfaces.{Face, Faces}
 use Rattle.spec_links.specs.{WaitingRead}
 use Rattle.spec_interfaces.specs.{InterfaceStatus, interface_status, Happened, newest_happened}
-use Rattle.spec_links.specs.Sent.{is_answer_on, reads_by}
+use Rattle.spec_links.specs.Sent.{answers_at, reads_by, targets_at}
+use Rattle.spec_links.specs.Plan.{is_same_port}
 use Rattle.spec_links.specs.Hops.{HopTlp, tlps_with}
 use Rattle.spec_links.specs.Memory.{plain_of}
 use Rattle.spec_links.specs.Ports.{port_of}
@@ -26,11 +27,12 @@ use Rattle.spec_links.specs.Guarded.{happens_by_packets}
 use Rattle.machine_operations.specs.{LinkState, find, port_at, receiving_draw_at}
 use Rattle.law_reads.specs.Waiting.{waiting_next}
 
--- of each link the reads that wait, the oldest first, and what happened to its device's memory, the newest first; of
--- each interface, in the topology's order, the least draw that its device takes trusted writes under; and of each
--- link's hop the TLPs that wait in a direction, the first first
+-- of each port the reads that wait, the oldest first; of each link what happened to its device's memory, the newest
+-- first; of each interface, in the topology's order, the least draw that its device takes trusted requests under; and
+-- of
+-- each link's hop the TLPs that wait in a direction, the first first
 pub record AccessState : Type 0 where
-  pub waiting : ℕ → List WaitingRead
+  pub waiting : PortName → List WaitingRead
   pub floors : List ℕ
   pub happened : ℕ → List Happened
   pub carried : ℕ → Direction → List HopTlp
@@ -38,7 +40,7 @@ pub record AccessState : Type 0 where
 abbrev pub first_accesses : Plan → AccessState
 first_accesses plan =
     record {
-      waiting = λ link. [];
+      waiting = λ port. [];
       floors = map (λ x. 0) (sites plan);
       happened = λ link. [];
       carried = λ link d. [];
@@ -53,15 +55,19 @@ face_statuses link _ _ _ = []
 
 -- ---- one step
 
--- if an event had this verdict, and ended a unit of these packets, or none
-abbrev pub waiting_reads_after : Plan → List Packet → Event → Verdict → ℕ → List WaitingRead → List WaitingRead
-waiting_reads_after plan ps e (v.Accepted port unit effects) link rs =
-    if (port_of plan port).line == link then rs ++ reads_by unit.draw effects ps else rs
-waiting_reads_after plan ps e (v.Sealed ds) link rs = if is_answer_on link e then drop 1 rs else rs
-waiting_reads_after plan ps e (v.Access (av.Dropped interface cause)) link rs = if is_answer_on link e then drop 1 rs
-    else rs
-waiting_reads_after plan ps (event.Reset k ends) (v.Reset l) link rs = if l == link then [] else rs
-waiting_reads_after plan ps e w link rs = rs
+-- those that wait at a port, by how the interfaces of each link's device stood before the event, if it had this
+-- verdict,
+-- and ended a unit of these packets, or none
+abbrev pub waiting_reads_after : Plan → (ℕ → List InterfaceStatus) → List Packet → Event → Verdict → PortName
+    → List WaitingRead → List WaitingRead
+waiting_reads_after plan statuses ps e (v.Accepted end unit effects) port rs =
+    if is_same_port (port_of plan end) port
+    then rs ++ reads_by (targets_at port.side (statuses port.line)) end unit effects ps else rs
+waiting_reads_after plan statuses ps e (v.Sealed ds) port rs = if answers_at port e then drop 1 rs else rs
+waiting_reads_after plan statuses ps e (v.Access (av.Dropped interface cause)) port rs =
+    if answers_at port e then drop 1 rs else rs
+waiting_reads_after plan statuses ps (event.Reset k ends) (v.Reset l) port rs = if l == port.line then [] else rs
+waiting_reads_after plan statuses ps e w port rs = rs
 
 -- the TLPs of the unit that a verdict ends, if it ends one of these packets
 abbrev pub unit_tlps : Plan → List Packet → Verdict → List HopTlp
@@ -82,12 +88,13 @@ floors_after e draw (x ∷ xs) (f ∷ fs) (g ∷ gs) (n ∷ ns) =
     floor_after_event e x (is_run f.tdi.state) (is_run g.tdi.state) (draw x) n ∷ floors_after e draw xs fs gs ns
 floors_after e draw _ _ _ _ = []
 
--- by the ports before the event
+-- by the ports, and how the interfaces of each link's device stood, before the event
 abbrev pub accesses_after : Plan → LinkState → Faces → Faces → List Packet → Event → Verdict → AccessState → AccessState
-accesses_after plan st before after ps e w a = record {
-  waiting = λ link. waiting_reads_after plan ps e w link (a.waiting link);
-  floors = floors_after e (device_draw_at plan st) (sites plan) before.list after.list a.floors;
-  happened = λ link. newest_happened
-      (happens_by_packets plan (λ l. face_statuses l (sites plan) before.list a.floors) ps e w link) (a.happened link);
-  carried = λ link d. waiting_next (unit_tlps plan ps w) link d e w (a.carried link d);
-}
+accesses_after plan st before after ps e w a =
+    let statuses : ℕ → List InterfaceStatus = λ link. face_statuses link (sites plan) before.list a.floors in
+    record {
+      waiting = λ port. waiting_reads_after plan statuses ps e w port (a.waiting port);
+      floors = floors_after e (device_draw_at plan st) (sites plan) before.list after.list a.floors;
+      happened = λ link. newest_happened (happens_by_packets plan statuses ps e w link) (a.happened link);
+      carried = λ link d. waiting_next (unit_tlps plan ps w) link d e w (a.carried link d);
+    }

@@ -20,7 +20,7 @@ use Rattle.machine_whole.specs.Interfaces.{Faces, new_faces, Streams, EndsRead, 
 use Rattle.machine_whole.specs.Interfaces.{peer_t_of, grant_of}
 use Rattle.machine_operations.specs.{forward_of, StreamState, PacketOutcome, Accepted, stream_outcome, BesidePorts}
 use Rattle.machine_operations.specs.{LinkState, find, find_op, machine_status, step_of, first_state, whole_arrival}
-use Rattle.machine_operations.specs.{altered_to, cut_short, packet_numbered, BoundCompletion, link_completion}
+use Rattle.machine_operations.specs.{altered_to, cut_short, packet_numbered, ReadCompletion, port_completion}
 use Rattle.spec_links.specs.Memory.{Policy, effects_under_policy, admitted_writes, shown_if}
 use Rattle.spec_links.specs.Guarded.{mmio_by_happenings}
 use Rattle.spec_links.specs.History.{ArrivedBytes}
@@ -35,7 +35,8 @@ use Rattle.ide_prefix.specs.declared.fault.PacketFault.{PacketFault}
 use Rattle.ide_prefix.specs.Reading.{CutValue, IdePacket, cut_of}
 use Rattle.script_events.specs.declared.event.InterfaceEvent.TheVariants as ie
 use Rattle.spec_interfaces.specs.Sites.{sites}
-use Rattle.spec_links.specs.{WaitingRead}
+use Rattle.spec_links.specs.Sent.{claim_completion}
+use Rattle.spec_links.specs.Terms.{InterfaceStatus, MemReadView, claim_of, host_completer}
 unfoldable use Rattle.spec_links.specs.{completion_bytes}
 use Rattle.machine_whole.specs.Accesses.{AccessState, first_accesses, face_statuses, posted_draw_at, accesses_after}
 
@@ -137,21 +138,30 @@ unit_in plan st (Some a) = unit_cut plan st a.port (cut_of a.bytes)
 
 -- ---- beside the ports
 
--- what the effects of packets depend on
+-- how the interfaces of a link's device stand
+abbrev pub statuses_of : Plan → Whole → ℕ → List InterfaceStatus
+statuses_of plan w link = face_statuses link (sites plan) w.faces.list w.accesses.floors
+
+-- what the effects of packets and the answers to reads depend on
 abbrev pub policy_of : Plan → Whole → Policy
 policy_of plan w = record {
   grants = grant_of plan w.faces;
-  waiting = λ link. length (w.accesses.waiting link);
-  statuses = λ link. face_statuses link (sites plan) w.faces.list w.accesses.floors;
+  waiting = λ port. length (w.accesses.waiting port);
+  statuses = statuses_of plan w;
 }
 
--- the completion of a read, from memory as it is now
-abbrev pub completion_from_memory : Whole → WaitingRead → List ℕ
-completion_from_memory w r = completion_bytes (byte_last_written w.written) r.read
+-- the completion of a read that waits at a port: from trusted memory, or from that of the interface that claims it now
+abbrev pub completion_from_memory : Plan → Whole → PortName → MemReadView → List ℕ
+completion_from_memory plan w port read = by port.side
+  where
+    by : Side → List ℕ
+    by Host = completion_bytes host_completer (byte_last_written w.written) read
+    by Device = claim_completion plan port.line (w.accesses.happened port.line) read
+        (claim_of (statuses_of plan w port.line) read.span)
 
-abbrev pub machine_completion : Plan → Whole → ℕ → Result BoundCompletion Verdict
-machine_completion plan w link = link_completion plan (grant_of plan w.faces) (completion_from_memory w) link
-    (w.accesses.waiting link)
+abbrev pub machine_completion : Plan → Whole → PortName → Result ReadCompletion Verdict
+machine_completion plan w port =
+    port_completion plan (policy_of plan w) (completion_from_memory plan w port) port (w.accesses.waiting port)
 
 abbrev pub beside_of : Plan → Whole → BesidePorts
 beside_of plan w = record {

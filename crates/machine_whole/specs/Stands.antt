@@ -1,6 +1,7 @@
 -- What is kept stands for the whole history.
 use Rattle.std.specs.Prelude.{ℕ, ◌≡◌, ◌∷◌, [], map}
 use Rattle.ide_types.specs.declared.plan.Plan.{Plan}
+use Rattle.ide_types.specs.declared.port.PortName.{PortName}
 use Rattle.script_events.specs.declared.event.Event.{Event}
 use Rattle.spec_keys.specs.History.{History}
 use Rattle.spec_interfaces.specs.Views.{stream_draw}
@@ -16,7 +17,7 @@ use Rattle.machine_operations.specs.{PortsStandFor}
 use Rattle.machine_whole.specs.Machine.{Whole, new_whole, whole_step}
 
 pub record AccessesStandFor (plan : Plan) (a : AccessState) (h : History) : Type 0 where
-  pub waiting : (link : ℕ) → a.waiting link ≡ waiting_reads plan h link
+  pub waiting : (port : PortName) → a.waiting port ≡ waiting_reads plan h port
   pub floors : a.floors ≡ map (device_floor plan h) (sites plan)
   pub happened : (link : ℕ) → a.happened link ≡ link_happenings plan h link
   pub carried : (link : ℕ) (d : Direction) → a.carried link d ≡ hop_waiting plan h link d

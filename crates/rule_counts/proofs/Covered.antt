@@ -97,7 +97,8 @@ covered_next plan h e w c b rules after covers looks is rules_are few after_is s
       counts_are =
           ap (counted_all rules) covers.counts_are
           ∙ (all_counted rules (rule_count plan h) listed most
-          ∙ ap (λ (rs : List Text). map (λ (name : Text). rule_count plan h name + times_in rs name) answering_rules) told);
+          ∙ ap (λ (rs : List Text). map (λ (name : Text). rule_count plan h name + times_in rs name) answering_rules)
+          told);
       few = λ name.
           let more = times_few rules name in
           let here = ap (λ (rs : List Text). times_in rs name) told in
@@ -112,7 +113,7 @@ covered_next plan h e w c b rules after covers looks is rules_are few after_is s
 
 -- before the first event
 pub none_covered : (plan : Plan) → IsCoverage plan (record {
-  counts = replicate 75 0;
+  counts = replicate 85 0;
   forged = 0;
   seals = record { packets = []; bases = [] };
 }) []

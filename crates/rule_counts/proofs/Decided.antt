@@ -119,7 +119,8 @@ module _ (plan : Plan) (fits : FitsPlan plan) (h : History) (cause : CauseLaw pl
 
     all_described : AreDescribed xs
     all_described = all_at (λ (y : SealedPacket × Packet). y.0.m ≡ y.1.prefix.m) xs
-        (λ i y at. sym (ap (λ (f : Prefix). f.m) (placed plan (streams_fit plan fits) (draws plan) h cause i y at).prefix))
+        (λ i y at. sym (ap (λ (f : Prefix). f.m)
+        (placed plan (streams_fit plan fits) (draws plan) h cause i y at).prefix))
 
     all_fit : AllByRecursion FitsPacket ended
     all_fit = All-snoc FitsPacket (pending_packets plan h s j) x.packet (held_fits plan h cause s j (n + 1))
@@ -304,7 +305,8 @@ module _ (plan : Plan) (fits : FitsPlan plan) (s : WholeLinks) (links : AreLinks
 
       by_receiver : RxSub → Bool
       by_receiver r =
-          unsealed_under seals (kept_packets s) a.port p.prefix.stream p.prefix.sub closed_there (receiver_facts r).total
+          unsealed_under seals (kept_packets s) a.port p.prefix.stream p.prefix.sub closed_there
+          (receiver_facts r).total
           (held_packets (slot_in_set r.slots p.prefix.k) ++ p ∷ []) (set_seen p.prefix.k (receiver_facts r).sets)
 
       by_slot : ℕ → LaneSlot → Bool
@@ -339,7 +341,8 @@ module _ (plan : Plan) (fits : FitsPlan plan) (s : WholeLinks) (links : AreLinks
           p.prefix.stream links at) ∙ found_there a.port p.prefix.stream is.passed.known))
       by_port (Some e) at =
           let found : option_map (λ (f : Found). f.state) (found_stream e.plans e.states p.prefix.stream) ≡ Some state =
-          sym (end_found plan s.links.ends s.links.keeper.keys s.links.packets.packets a.port e p.prefix.stream links at)
+          sym (end_found plan s.links.ends s.links.keeper.keys s.links.packets.packets a.port e p.prefix.stream links
+          at)
           ∙ found_there a.port p.prefix.stream is.passed.known in
           let facts = facts_found closed_there (found_stream e.plans e.states p.prefix.stream) state found
           (λ f there. closed_at plan a.port e p.prefix.stream f

@@ -116,7 +116,8 @@ module _ (plan : Plan) (h : History) (e : Event) (not_one : NotForged plan h e) 
   by_tag a x at tested false is = refl
   by_tag a x at tested true is = rw (sealed_is plan h a.port x (not_one a x at tested is)) refl
 
-  by_ending : (a : ArrivedBytes) → arrival_of_event plan h e ≡ Some a → (r : Result Ending Verdict) → before_tag plan h a ≡ r
+  by_ending : (a : ArrivedBytes) → arrival_of_event plan h e ≡ Some a → (r : Result Ending Verdict)
+      → before_tag plan h a ≡ r
       → is_forged_ending plan h a.port r ≡ false
   by_ending a at (Err w) tested = refl
   by_ending a at (Ok x) tested = by_tag a x at tested (is_verified plan h a.port x) refl

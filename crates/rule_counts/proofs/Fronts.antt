@@ -1,4 +1,5 @@
--- What came ahead of a unit when it was sealed, by what is noted of seals: on a closed stream, of unit 1, the units that
+-- What came ahead of a unit when it was sealed, by what is noted of seals: on a closed stream, of unit 1, the units
+-- that
 -- were ended under the draws from Base on, below the unit's.
 use Rattle.std.proofs.Common.{◌≡◌, ℕ, zero, suc, ◌+◌, ◌≤◌, ◌==◌, ◌&&◌, Bool, true, false, List, [], ◌∷◌, ◌++◌, length}
 use Rattle.std.proofs.Common.{map, refl, sym, ap, ◌∙◌, arith, filter, inl, inr}

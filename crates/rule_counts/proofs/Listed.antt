@@ -4,6 +4,8 @@ use Rattle.std.specs.List.{AllByRecursion}
 use Rattle.std.specs.Prelude.{if◌then◌else◌, map, nat_lt}
 use Rattle.ide_types.specs.{Text, is_link_line, is_same_sub}
 use Rattle.ide_types.specs.declared.port.PortName.{PortName}
+use Rattle.ide_types.specs.declared.port.Side.{Side}
+use Rattle.ide_types.specs.declared.port.Side.TheVariants.{Host, Device}
 use Rattle.ide_types.specs.declared.sub.SubKind.{SubKind}
 use Rattle.ide_types.specs.declared.sub.SubKind.TheVariants.{Pr, Npr, Cpl}
 use Rattle.ide_types.specs.declared.sub.FailCause.{FailCause}
@@ -24,13 +26,13 @@ use Rattle.event_verdicts.specs.declared.access.AccessVerdict.TheVariants as av
 use Rattle.event_verdicts.specs.declared.verdict.Verdict.TheVariants as v
 use Rattle.event_verdicts.specs.declared.verdict.BlockCause.TheVariants as cause
 use Rattle.event_verdicts.specs.declared.verdict.Effect.TheVariants as effect
-use Rattle.why_facts.specs.declared.fact.Fact.{Fact}
+use Rattle.told_facts.specs.declared.fact.Fact.{Fact}
 use Rattle.why_facts.specs.{effect_rule_of, rule_of}
-use Rattle.why_facts.specs.Rules.{access_rule, answer_rule, arriving_rule, asked_rule, class_of_first}
-use Rattle.why_facts.specs.Rules.{class_of_second, dropped_rule, fail_rule, host_cause_rule, interface_rule}
-use Rattle.why_facts.specs.Rules.{is_host_end, key_rule, line_rule, mmio_cause_rule, operation_rule, read_cause_rule}
-use Rattle.why_facts.specs.Rules.{refreshed_rule, sending_rule, unanswered_rule, unless_none, unnamed_rule}
-use Rattle.why_facts.specs.Rules.{write_cause_rule}
+use Rattle.why_facts.specs.Rules.{access_rule, answer_rule, arriving_rule, asked_rule, by_side, class_of_first}
+use Rattle.why_facts.specs.Rules.{class_of_second, device_dropped_rule, fail_rule, host_cause_rule, host_dropped_rule}
+use Rattle.why_facts.specs.Rules.{interface_rule, is_host_end, key_rule, line_rule, mmio_cause_rule, operation_rule}
+use Rattle.why_facts.specs.Rules.{read_cause_rule, refreshed_rule, refused_rule, sending_rule, unanswered_rule}
+use Rattle.why_facts.specs.Rules.{unless_none, unnamed_rule, write_cause_rule}
 use Rattle.rule_counts.specs.Laws.{IsListed, RulesAreListed}
 use Rattle.rule_counts.specs.Told.{effect_rules, event_rules}
 
@@ -103,28 +105,46 @@ interface_listed e (v.LostReply n) = refl
 interface_listed e (v.RefusedDevice n code) = refl
 interface_listed e w = asked_listed e
 
-dropped_listed : (c : BlockCause) → IsListed (dropped_rule c)
-dropped_listed cause.NotRunning = refl
-dropped_listed cause.WrongStream = refl
-dropped_listed c = refl
+by_side_listed : (side : Side) (host device : Text) → IsListed host → IsListed device
+    → IsListed (by_side side host device)
+by_side_listed Host host device one other = one
+by_side_listed Device host device one other = other
 
-unanswered_listed : (w : AccessVerdict) → IsListed (unanswered_rule w)
-unanswered_listed (av.Dropped interface c) = dropped_listed c
-unanswered_listed w = refl
+host_dropped_listed : (c : BlockCause) → IsListed (host_dropped_rule c)
+host_dropped_listed cause.NotRunning = refl
+host_dropped_listed cause.WrongStream = refl
+host_dropped_listed c = refl
 
-refreshed_listed : (w : InterfaceVerdict) → IsListed (refreshed_rule w)
-refreshed_listed (iv.RefusedRefreshFirst draw needed) = refl
-refreshed_listed w = refl
+device_dropped_listed : (c : BlockCause) → IsListed (device_dropped_rule c)
+device_dropped_listed cause.NotTrusted = refl
+device_dropped_listed cause.NotRunning = refl
+device_dropped_listed cause.WrongStream = refl
+device_dropped_listed cause.Moved = refl
+device_dropped_listed c = refl
 
-answer_listed : (w : Verdict) → IsListed (answer_rule w)
-answer_listed v.Nothing = refl
-answer_listed (v.Access w) = unanswered_listed w
-answer_listed (v.Interface w) = refreshed_listed w
-answer_listed (v.Sealed ds) = refl
-answer_listed w = refl
+refused_listed : (side : Side) → IsListed (refused_rule side)
+refused_listed side = by_side_listed side _ _ refl refl
+
+unanswered_listed : (side : Side) (w : AccessVerdict) → IsListed (unanswered_rule side w)
+unanswered_listed side (av.Empty link) = by_side_listed side _ _ refl refl
+unanswered_listed side (av.Dropped interface c) =
+    by_side_listed side _ _ (host_dropped_listed c) (device_dropped_listed c)
+unanswered_listed side (av.Mmio bytes) = refused_listed side
+
+refreshed_listed : (side : Side) (w : InterfaceVerdict) → IsListed (refreshed_rule side w)
+refreshed_listed side (iv.RefusedRefreshFirst draw needed) = by_side_listed side _ _ refl refl
+refreshed_listed side w = refused_listed side
+
+answer_listed : (side : Side) (w : Verdict) → IsListed (answer_rule side w)
+answer_listed side v.Nothing = by_side_listed side _ _ refl refl
+answer_listed side (v.Access w) = unanswered_listed side w
+answer_listed side (v.Interface w) = refreshed_listed side w
+answer_listed side (v.Sealed ds) = by_side_listed side _ _ refl refl
+answer_listed side w = refused_listed side
 
 access_listed : (e : AccessEvent) (w : Verdict) → IsListed (access_rule e w)
-access_listed (ae.Answer link) w = answer_listed w
+access_listed (ae.Answer link) w = answer_listed Host w
+access_listed (ae.Respond link) w = answer_listed Device w
 access_listed (ae.Mmio interface bar offset len) w = refl
 
 none_listed : (rule : Text) (w : Verdict) → IsListed rule → IsListed (unless_none rule w)
@@ -158,6 +178,7 @@ write_listed cause.Stale = refl
 write_listed cause.Outside = refl
 write_listed cause.Crosses = refl
 write_listed cause.Full = refl
+write_listed cause.Moved = refl
 
 read_listed : (c : BlockCause) → IsListed (read_cause_rule c)
 read_listed cause.NotTrusted = refl
@@ -167,6 +188,7 @@ read_listed cause.Stale = refl
 read_listed cause.Outside = refl
 read_listed cause.Crosses = refl
 read_listed cause.Full = refl
+read_listed cause.Moved = refl
 
 mmio_listed : (c : BlockCause) → IsListed (mmio_cause_rule c)
 mmio_listed cause.NotTrusted = refl
@@ -176,6 +198,7 @@ mmio_listed cause.Stale = refl
 mmio_listed cause.Outside = refl
 mmio_listed cause.Crosses = refl
 mmio_listed cause.Full = refl
+mmio_listed cause.Moved = refl
 
 host_listed : (sub : SubKind) (c : BlockCause) → IsListed (host_cause_rule sub c)
 host_listed Npr c = read_listed c

@@ -63,7 +63,8 @@ none_described = record {
   sync = false;
 }
 
-pub index_at : {A : Type 0} (xs : List A) (i : ℕ) (d : A) → i < length xs → slice_get xs i ≡ Some (slice_index_or xs i d)
+pub index_at : {A : Type 0} (xs : List A) (i : ℕ) (d : A) → i < length xs → slice_get xs i
+    ≡ Some (slice_index_or xs i d)
 index_at [] i d less = absurd (omega (arith, less))
 index_at (y ∷ xs) zero d less = refl
 index_at (y ∷ xs) (suc i) d less = index_at xs i d (omega (arith, less))

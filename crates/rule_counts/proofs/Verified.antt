@@ -1,6 +1,24 @@
 -- A verdict that is due says that a tag verified exactly if one did, and a packet whose tag is looked at passed the
 -- checks before.
-use Rattle.std.proofs.Common.{◌≡◌, ℕ, ◌&&◌, Bool, true, false, Option, Some, None, Result, Ok, Err, refl, ap, arith, ◌∙◌, subst}
+use Rattle.std.proofs.Common.{
+  ◌≡◌,
+  ℕ,
+  ◌&&◌,
+  Bool,
+  true,
+  false,
+  Option,
+  Some,
+  None,
+  Result,
+  Ok,
+  Err,
+  refl,
+  ap,
+  arith,
+  ◌∙◌,
+  subst,
+}
 use Rattle.std.specs.Prelude.{◌||◌, List, if◌then◌else◌, not}
 use Rattle.ide_types.specs.declared.port.PortName.{PortName}
 use Rattle.ide_types.specs.declared.plan.Plan.{Plan}

@@ -6,7 +6,7 @@ use Rattle.script_events.specs.declared.event.Event.{Event}
 use Rattle.event_verdicts.specs.declared.verdict.Verdict.{Verdict}
 use Rattle.spec_keys.specs.History.{History, draws}
 use Rattle.spec_links.specs.Due.{due}
-use Rattle.why_facts.specs.declared.fact.Fact.{Fact}
+use Rattle.told_facts.specs.declared.fact.Fact.{Fact}
 use Rattle.why_facts.specs.{facts_due, rule_of}
 use Rattle.rule_counts.specs.Names.{answering_rules}
 unfoldable use Rattle.rule_counts.specs.Told.{rule_count}

@@ -9,7 +9,7 @@ use Rattle.event_verdicts.specs.declared.verdict.Verdict.{Verdict}
 use Rattle.event_verdicts.specs.declared.verdict.Effect.{Effect}
 use Rattle.spec_keys.specs.History.{History}
 use Rattle.spec_links.specs.Laws.{NoForgery}
-use Rattle.why_facts.specs.declared.fact.Fact.{Fact}
+use Rattle.told_facts.specs.declared.fact.Fact.{Fact}
 use Rattle.why_facts.specs.{rule_of, effect_rule_of}
 use Rattle.rule_counts.specs.Names.{answering_rules}
 use Rattle.rule_counts.specs.Told.{times_in}

@@ -8,7 +8,7 @@ use Rattle.event_verdicts.specs.declared.verdict.Verdict.{Verdict}
 use Rattle.event_verdicts.specs.declared.verdict.Verdict.TheVariants as v
 use Rattle.spec_keys.specs.History.{History}
 use Rattle.spec_links.specs.Due.{due}
-use Rattle.why_facts.specs.declared.fact.Fact.{Fact}
+use Rattle.told_facts.specs.declared.fact.Fact.{Fact}
 use Rattle.why_facts.specs.{facts_due, rule_of, effect_rule_of}
 
 -- of an accepted unit the rule of each packet's effect

@@ -46,7 +46,8 @@ was_sealed_in seals kept end stream u closed got draw units unit =
     && is_same_front closed units (units_sealed_below seals end stream u draw) got
 
 -- by the slot of the receiver under whose key it comes
-abbrev pub unsealed_under : SealsView → List LinkPacket → PortName → (stream : ℕ) → SubKind → (closed : Bool) → (got : ℕ)
+abbrev pub unsealed_under : SealsView → List LinkPacket → PortName → (stream : ℕ) → SubKind → (closed : Bool)
+    → (got : ℕ)
     → (unit : List Packet) → SlotFacts → Bool
 unsealed_under seals kept end stream u closed got unit (slot.Live draw units packets) =
     not (was_sealed_in seals kept end stream u closed got draw units unit)

@@ -10,7 +10,8 @@ use event_verdicts::{Effect, Verdict};
 use ide_types::{OutOfMemory, PortName, SubKind};
 use script_events::Event;
 use std::alloc::Global;
-use why_facts::{Fact, effect_rule, rule};
+use told_facts::Fact;
+use why_facts::{effect_rule, rule};
 
 // These rules, and behind them that of each effect of the packets of a unit that an end accepted.
 fn with_effects(

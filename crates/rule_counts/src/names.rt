@@ -5,7 +5,7 @@ ghost use Rattle.rule_counts.specs.Names.{answering_rules};
 ghost use Rattle.rule_counts.specs.Counting.{place_in};
 
 /// How many rules can answer.
-pub(crate) const RULE_COUNT: usize = 75;
+pub(crate) const RULE_COUNT: usize = 85;
 
 const RULES: [&str; RULE_COUNT] = [
     "lines.none",
@@ -78,6 +78,16 @@ const RULES: [&str; RULE_COUNT] = [
     "mmio.floor",
     "mmio.bytes",
     "mmio.shown",
+    "responses.link",
+    "responses.empty",
+    "responses.moved",
+    "responses.trusted",
+    "responses.running",
+    "responses.stream",
+    "responses.floor",
+    "responses.refresh",
+    "responses.refused",
+    "responses.sealed",
     "peers.operations",
     "hops.operations",
     "hops.through",

@@ -21,6 +21,7 @@ use line_routes::{has_port, partner, reached};
 use script_events::Event;
 use std::alloc::Global;
 use sub_stream::{SetFacts, SlotFacts};
+use why_facts::altered;
 use world::WholeLinks;
 
 /// Whether a verdict says that a tag verified.
@@ -35,16 +36,6 @@ pub(crate) fn is_verified(verdict: &Verdict) -> bool
                 ..
             }
     )
-}
-
-// A copy of the bytes, with the one at `at` combined with `mask`.
-fn altered(alloc: Global, bytes: &[u8], at: usize, mask: u8) -> Result<Vec<u8>, OutOfMemory>
-    requires { at < length bytes.now }
-    ensures { IfOk result (λ copy. copy.items ≡ slice_set bytes.now at (bit_xor (slice_index bytes.now at) mask)) }
-{
-    let mut copy = Vec::from_slice(alloc, bytes)?;
-    copy[at] ^= mask;
-    Ok(copy)
 }
 
 fn set_of(sets: SetFacts, k: bool) -> SlotFacts

@@ -47,5 +47,8 @@ access_reads first rest later z others =
     family_row made_access (codes "answer") number_tests (drop 1 (access_rows later)) rest first _ _ z
     (made_reads (number_tests rest) rest _ Access
     (made_reads (number_tests rest) rest (one_number_in rest) ae.Answer (one_number rest)))
+    (family_row made_access (codes "respond") number_tests (drop 2 (access_rows later)) rest first _ _ z
+    (made_reads (number_tests rest) rest _ Access
+    (made_reads (number_tests rest) rest (one_number_in rest) ae.Respond (one_number rest)))
     (family_row made_access (codes "mmio") mmio_tests later rest first _ None z
-    (made_reads (mmio_tests rest) rest (mmio_in rest) Access (mmio rest)) others)
+    (made_reads (mmio_tests rest) rest (mmio_in rest) Access (mmio rest)) others))

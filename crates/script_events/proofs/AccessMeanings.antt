@@ -44,13 +44,17 @@ access_spelled first rest z others =
     tested_family (SpelledAs SpelledBy rest) made_access first (codes "answer") _ _ z
     (made SpelledBy rest _ _ Access
     (made AccessSpelledBy rest _ (one_number_in rest) ae.Answer (one_spelled _ rest)))
+    (tested_family (SpelledAs SpelledBy rest) made_access first (codes "respond") _ _ z
+    (made SpelledBy rest _ _ Access
+    (made AccessSpelledBy rest _ (one_number_in rest) ae.Respond (one_spelled _ rest)))
     (tested_family (SpelledAs SpelledBy rest) made_access first (codes "mmio") _ None z
-    (made SpelledBy rest _ (mmio_in rest) Access (mmio_spelled rest)) others)
+    (made SpelledBy rest _ (mmio_in rest) Access (mmio_spelled rest)) others))
 
 -- ---- what is spelled is read
 
 pub access_meant : (ws : List Text) (e : AccessEvent) → AccessSpelledBy e ws → event_in ws ≡ Ok (Some (Access e))
 access_meant ws (ae.Answer link) h = rw h.1 (rw h.0.1 refl)
+access_meant ws (ae.Respond link) h = rw h.1 (rw h.0.1 refl)
 access_meant ws (ae.Mmio i b o l) h = rw h.6
     (rw h.0.1 (rw h.1.1 (rw h.2.1 (rw (length_back h.3.0 l h.3.1 h.4 h.5) refl))))
 
@@ -58,4 +62,5 @@ access_meant ws (ae.Mmio i b o l) h = rw h.6
 
 pub access_allowed : (ws : List Text) (e : AccessEvent) → AccessSpelledBy e ws → IsAllowedAccess e
 access_allowed ws (ae.Answer link) h = tt
+access_allowed ws (ae.Respond link) h = tt
 access_allowed ws (ae.Mmio i b o l) h = (h.4, h.5)

@@ -164,12 +164,12 @@ event_reads first rest =
     (row_reads (codes "dump") number_tests (drop 9 event_table) rest first _ _ _
     (made_reads (number_tests rest) rest (one_number_in rest) Dump (one_number rest))
     (interface_reads first rest (drop 19 event_table) (access_event_in first rest)
-    (access_reads first rest (drop 21 event_table) (parsed_peer_event first rest)
-    (peer_reads first rest (drop 25 event_table) (parsed_hop_event first rest)
-    (hop_reads first rest (drop 28 event_table) (bytes_event_in first rest)
-    (last_row (codes "send") send_tests (drop 29 event_table) rest first _ _ (send rest)
-    (last_row (codes "psend") peer_send_tests (drop 30 event_table) rest first _ _ (peer_send rest)
-    (last_row (codes "arrive") arrive_tests (drop 31 event_table) rest first _ _ (arrive rest)
+    (access_reads first rest (drop 22 event_table) (parsed_peer_event first rest)
+    (peer_reads first rest (drop 26 event_table) (parsed_hop_event first rest)
+    (hop_reads first rest (drop 29 event_table) (bytes_event_in first rest)
+    (last_row (codes "send") send_tests (drop 30 event_table) rest first _ _ (send rest)
+    (last_row (codes "psend") peer_send_tests (drop 31 event_table) rest first _ _ (peer_send rest)
+    (last_row (codes "arrive") arrive_tests (drop 32 event_table) rest first _ _ (arrive rest)
     (no_row rest first))))))))))))))))
 
 -- ---- lines

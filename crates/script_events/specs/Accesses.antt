@@ -1,4 +1,4 @@
--- Lines of trusted reads and of guarded memory: as they are read, as they are spelled, and the rows of the table of
+-- Lines of reads that wait and of guarded memory: as they are read, as they are spelled, and the rows of the table of
 -- faults.
 use Rattle.std.specs.Prelude.{◌≡◌, ◌≤◌, List, [], ◌∷◌, Option, Some, None, Result, Ok, Err, if◌then◌else◌, codes}
 use Rattle.std.specs.Option.{ok_or}
@@ -21,10 +21,11 @@ mmio_in (i ∷ b ∷ o ∷ l ∷ []) = do
   Ok (ae.Mmio interface bar offset len)
 mmio_in _ = Err Count
 
--- an event on a trusted read or on guarded memory; nothing if the first word is none of these events
+-- an event on a read that waits or on guarded memory; nothing if the first word is none of these events
 abbrev pub access_event_by_word : Text → List Text → Option (Result AccessEvent LineFault)
 access_event_by_word first rest =
     if bytes_eq first (codes "answer") then Some (one_number_in rest >>= λ n. Ok (ae.Answer n))
+    else if bytes_eq first (codes "respond") then Some (one_number_in rest >>= λ n. Ok (ae.Respond n))
     else if bytes_eq first (codes "mmio") then Some (mmio_in rest)
     else None
 
@@ -33,6 +34,7 @@ access_event_by_word first rest =
 -- the words spell the event: 1 to 256 bytes are shown
 abbrev pub AccessSpelledBy : AccessEvent → List Text → Type 0
 AccessSpelledBy (ae.Answer link) words = OneSpelledBy (codes "answer") link words
+AccessSpelledBy (ae.Respond link) words = OneSpelledBy (codes "respond") link words
 AccessSpelledBy (ae.Mmio interface bar offset len) words =
     (i : WordOf number_of_word interface) × (b : WordOf number_of_word bar) × (o : WordOf number_of_word offset)
     × (l : WordOf number_of_word len) × (1 ≤ len) × (len ≤ 256)
@@ -41,6 +43,7 @@ AccessSpelledBy (ae.Mmio interface bar offset len) words =
 -- 1 to 256 bytes are shown
 abbrev pub IsAllowedAccess : AccessEvent → Type 0
 IsAllowedAccess (ae.Answer link) = Unit {0}
+IsAllowedAccess (ae.Respond link) = Unit {0}
 IsAllowedAccess (ae.Mmio interface bar offset len) = (1 ≤ len) × (len ≤ 256)
 
 -- ---- the rows of the table
@@ -51,4 +54,5 @@ mmio_tests _ = None
 
 -- before the rows of other events
 abbrev pub access_rows : List Row → List Row
-access_rows others = (codes "answer", number_tests) ∷ (codes "mmio", mmio_tests) ∷ others
+access_rows others =
+    (codes "answer", number_tests) ∷ (codes "respond", number_tests) ∷ (codes "mmio", mmio_tests) ∷ others

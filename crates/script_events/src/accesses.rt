@@ -1,4 +1,4 @@
-//! The events of trusted reads and of guarded memory that lines of a script spell.
+//! The events of reads that wait and of guarded memory that lines of a script spell.
 
 ghost use Rattle.std.specs.Prelude.{◌≡◌, map};
 ghost use Rattle.script_events.specs.Accesses.{mmio_in, access_event_by_word};
@@ -25,12 +25,15 @@ fn mmio(words: &[&[u8]]) -> Result<AccessEvent, LineFault>
     })
 }
 
-// An event on a trusted read or on guarded memory; `None` if the first word is none of these events.
+// An event on a read that waits or on guarded memory; `None` if the first word is none of these events.
 pub(crate) fn access_event(first: &[u8], rest: &[&[u8]]) -> Option<Result<AccessEvent, LineFault>>
     ensures { result ≡ access_event_by_word first.now (map (λ w. w.now) rest.now) }
 {
     if first == b"answer".as_slice() {
         return Some(one_number(rest).map(|link| AccessEvent::Answer { link }));
+    }
+    if first == b"respond".as_slice() {
+        return Some(one_number(rest).map(|link| AccessEvent::Respond { link }));
     }
     if first == b"mmio".as_slice() {
         return Some(mmio(rest));

@@ -1,23 +1,23 @@
-//! The events of a history.
+//! The events of a history (this profile).
 
 use crate::Ends;
 use ide_types::{Bytes, Direction, PortName, Register};
 
-/// What is lost of an exchange: its request, or its reply (this profile).
+/// What is lost of an exchange: its request, or its reply.
 #[derive(Clone, Copy, PartialEq, Eq)]
 pub enum Lost {
     Request,
     Reply,
 }
 
-/// The exchange that is lost if the event gets that far, by its number from 1, and which message of it (this profile).
+/// The exchange that is lost if the event gets that far, by its number from 1, and which message of it.
 #[derive(Clone, Copy, PartialEq, Eq)]
 pub struct Loss {
     pub exchange: u64,
     pub lost: Lost,
 }
 
-/// What is asked of a device interface, by its number over all links, or of trusted memory (this profile).
+/// What is asked of a device interface, by its number over all links, or of trusted memory.
 #[derive(Drop)]
 pub enum InterfaceEvent {
     /// The manager locks the interface.
@@ -84,11 +84,15 @@ pub enum InterfaceEvent {
     },
 }
 
-/// A trusted read that a host answers, or bytes of a device's guarded memory that are shown (this profile).
+/// A read that a host or a device answers, or bytes of a device's guarded memory that are shown.
 #[derive(Drop)]
 pub enum AccessEvent {
     /// `answer LINK`: the host answers the oldest trusted read of the link that waits.
     Answer {
+        link: u64,
+    },
+    /// `respond LINK`: the device of the link answers the oldest read that waits at its port.
+    Respond {
         link: u64,
     },
     /// `mmio INTERFACE BAR OFFSET LEN`: shows bytes of the range of a BAR of an interface, 1 to 256 of them from the
@@ -101,7 +105,7 @@ pub enum AccessEvent {
     },
 }
 
-/// What happens, of what the topology has (this profile). A link is named by the number of its line, and so is a stream
+/// What happens, of what the topology has. A link is named by the number of its line, and so is a stream
 /// between two devices or of a hop; a port is the end of a line. Streams and packets need not exist: a packet is named
 /// by the number that it was sealed under, from 1.
 #[derive(Drop)]

@@ -1,4 +1,4 @@
-//! Why a line of a script spells no event.
+//! Why a line of a script spells no event (this profile).
 
 ghost use Rattle.std.specs.Prelude.{◌≡◌, Some, IfOk};
 ghost use Rattle.script_events.specs.declared.fault.LineError.TheVariants.{Fault};
@@ -8,11 +8,11 @@ use ide_types::OutOfMemory;
 use std::alloc::Global;
 use std::fmt;
 
-/// How many bytes a line may have, its line feed aside (this profile).
+/// How many bytes a line may have, its line feed aside.
 pub const LINE_LIMIT: usize = 20_000;
 
 /// The first fault of a line, in the order in which they are looked for: too long and not ASCII first, then
-/// an unknown first word, then the count of words, then the words from the left (this profile).
+/// an unknown first word, then the count of words, then the words from the left.
 #[derive(Clone, Copy, PartialEq, Eq)]
 pub enum LineFault {
     /// A word that is not known, or out of its place.
@@ -60,8 +60,7 @@ impl fmt::Display for LineFault {
     }
 }
 
-/// The last line at a line of the script, counted from 1, that spells no event, with its line feed (this
-/// profile).
+/// The last line at a line of the script, counted from 1, that spells no event, with its line feed.
 pub fn fault_line(alloc: Global, line: u64, fault: LineFault) -> Result<Vec<u8>, OutOfMemory>
     ensures { IfOk result (λ text. text.items ≡ fault_line_of line fault) }
 {

@@ -1,4 +1,4 @@
-//! The event that a line of a script spells.
+//! The event that a line of a script spells (this profile).
 
 ghost use Rattle.std.specs.Prelude.{◌≡◌, ◌∷◌, [], false, map};
 ghost use Rattle.std.specs.Option.{ok_or};
@@ -268,7 +268,7 @@ fn event_in_line(alloc: Global, line: &[u8]) -> Result<Option<ScriptEvent>, Line
 }
 
 /// The event that a line without its line feed spells, `None` on a line of spaces and on one that begins with `#`, or
-/// the first fault of any other line (this profile). Only the events `send`, `psend` and `arrive` take memory.
+/// the first fault of any other line. Only the events `send`, `psend` and `arrive` take memory.
 pub fn parse_line(alloc: Global, line: &[u8]) -> Result<Option<ScriptEvent>, LineError>
     ensures gives { IsLineAnswer (line_meaning line.now) result }
     ensures exact { begins_bytes (words_in line.now) ≡ false → result ≡ line_answer (line_meaning line.now) }
@@ -279,7 +279,7 @@ pub fn parse_line(alloc: Global, line: &[u8]) -> Result<Option<ScriptEvent>, Lin
 }
 
 /// A line means an event exactly if it spells that event, and none exactly if it is a comment or of spaces only. A
-/// spelled event is of a port of one of eight links or its switch, and trusted at a host's port alone (this profile).
+/// spelled event is of a port of one of eight links or its switch, and trusted at a host's port alone.
 pub fn lines_spell()
     ensures exact { MeaningIsSpelling }
     ensures none { NothingIsSkipped }
@@ -287,7 +287,7 @@ pub fn lines_spell()
 {}
 
 /// The fault of a line is its first: by the causes in their order, and then by the first word that does not fit its
-/// place after its event's word (this profile).
+/// place after its event's word.
 pub fn faults_are_first()
     ensures { FaultsAreFirst }
 {}

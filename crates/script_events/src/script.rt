@@ -1,9 +1,9 @@
-//! The events that lines of a script spell.
+//! The events that lines of a script spell (this profile).
 
 use crate::{AccessEvent, InterfaceEvent, Loss};
 use ide_types::{Bytes, PortName, Side};
 
-/// What is asked of a stream between two devices, by its number in the topology (this profile).
+/// What is asked of a stream between two devices, by its number in the topology.
 #[derive(Clone, Copy, PartialEq, Eq)]
 pub enum PeerEvent {
     /// `pestablish P`: the manager gives the stream its keys.
@@ -30,7 +30,7 @@ pub enum PeerEvent {
     },
 }
 
-/// What is asked of the hop of a link (this profile). Segment 0 is towards the host, segment 1 towards the device.
+/// What is asked of the hop of a link. Segment 0 is towards the host, segment 1 towards the device.
 #[derive(Clone, Copy, PartialEq, Eq)]
 pub enum HopEvent {
     /// `hestablish LINK SEG`: the manager gives the hop's stream its keys on this segment.
@@ -52,7 +52,7 @@ pub enum HopEvent {
     },
 }
 
-/// What a line of a script asks for (this profile). Links, streams, interfaces and packets need not exist: a packet is
+/// What a line of a script asks for. Links, streams, interfaces and packets need not exist: a packet is
 /// named by the number that it was sealed under, from 1.
 #[derive(Drop)]
 pub enum ScriptEvent {

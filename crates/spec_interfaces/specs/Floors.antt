@@ -1,7 +1,7 @@
 -- How the interfaces of each link's device stand over whole histories: the least draw that each takes trusted writes
 -- under, and its state, ranges and bound stream (this profile).
 use Rattle.std.specs.Prelude.{ℕ, zero, suc, ◌+◌, ◌-◌, ◌==◌, ◌&&◌, not, Bool, false, if◌then◌else◌, List, [], ◌∷◌}
-use Rattle.std.specs.Prelude.{length, map, filter}
+use Rattle.std.specs.Prelude.{length, map, filter, slice_get, Option}
 use Rattle.spec_keys.specs.Places.{KeyPlace}
 use Rattle.spec_keys.specs.History.{place_keys}
 use Rattle.ide_types.specs.declared.sub.SubKind.TheVariants.{Pr}
@@ -42,6 +42,10 @@ device_floor plan ((e, w) ∷ h) x =
 -- in order
 abbrev pub link_sites : Plan → ℕ → List Site
 link_sites plan link = filter (λ x. x.link == link) (sites plan)
+
+-- the one at a place on its link, from 0
+abbrev pub site_on : Plan → ℕ → ℕ → Option Site
+site_on plan link place = slice_get (link_sites plan link) place
 
 -- how many interfaces are on the links before this one
 abbrev pub interfaces_before : List LinkPlan → ℕ → ℕ

@@ -2,6 +2,7 @@
 -- event to the send, or to the packet that the event brought; no other way leads to one of the three. From there each
 -- test that gives another verdict must have gone the other way, and these tests are what the records list.
 use Rattle.spec_links.proofs.Terms.{Bool, Err, List, None, Ok, Option, Result, Some, [], ap, arith, false, length, refl}
+use Rattle.spec_links.specs.Terms.{option_map_or}
 use Rattle.spec_links.proofs.Terms.{subst, sym, true, ℕ, ◌+◌, ◌∙◌, ◌∷◌, ◌≡◌, unwrap_or, key_due, Ending, Sending}
 use Rattle.spec_links.proofs.Terms.{arrival_due, before_tag, before_tag_of_cut, due, dump_due, effects_of}
 use Rattle.spec_links.proofs.Terms.{unit_packets_ended, first_that_holds, send_due, is_mixed, is_overfull, is_verified}
@@ -12,10 +13,17 @@ use Rattle.spec_links.proofs.Terms.{sealed_packets, units_got, is_quiet, SubStre
 use Rattle.spec_links.proofs.Terms.{AllByRecursion, Alter, Arrive, Cut, Dump, Effect, Establish, Interface, Event}
 use Rattle.spec_links.proofs.Terms.{sent_bytes, Pass, History, Packet, Plan, PortName, Refresh, Reset, SealedPacket}
 use Rattle.spec_links.proofs.Terms.{Send, Status, Stop, UnitName, Verdict, if◌then◌else◌, is_some, not, packets_in_hold}
-use Rattle.spec_links.proofs.Terms.{◌++◌, Access, sending_port, answer_due, answer_first, site_answer}
+use Rattle.spec_links.proofs.Terms.{◌++◌, Access, sending_port, answer_due, site_answer}
 use Rattle.spec_links.proofs.Terms.{completion_verdict, outgoing_completion, is_before, judged_by, answer_judged}
 use Rattle.spec_links.proofs.Terms.{binding_cause, WaitingRead, waiting_reads, Site, site_of_requester, granted_to}
 use Rattle.spec_links.proofs.Terms.{live_key, lane_out, Cpl}
+use Rattle.spec_links.specs.Due.{seal_due, first_answered, read_due, response_sent, response_judged}
+use Rattle.spec_links.specs.Due.{site_response, target_response, respond_due}
+use Rattle.spec_links.specs.Terms.{ReadArrival, ReadTarget, TlpFault, Claim, least_draw, site_on}
+use Rattle.spec_links.proofs.HopFirst.{drop_first}
+use Rattle.spec_links.specs.Sent.{reads_taken}
+use Rattle.spec_links.specs.Memory.{queued_reads}
+use Rattle.ide_types.specs.Ports.{host_port, device_port}
 use Rattle.spec_links.specs.Due.{bytes_due, through_due, forward_out, forward_first, ending_due}
 use Rattle.spec_links.specs.Hops.{HopTlp, has_hop}
 use Rattle.spec_links.specs.Memory.{hop_waiting, unit_ended}
@@ -89,7 +97,6 @@ pub record IsSealing (plan : Plan) (h : History) (port : PortName) (bytes : List
     pub reads : read_of bytes ≡ Ok tlp
     pub class : sending.class ≡ class_of (header tlp)
     pub at_port : sending.port ≡ port
-    pub comes : outgoing_of (streams_of plan port.line) port.side bytes ≡ OnStream tlp sending.stream
     pub free : AreFalse (refusals (lanes_at plan h sending.port sending.stream) sending.class)
     pub number : ℕ
     pub next : number ≡ length (sealed_packets plan h) + 1
@@ -101,6 +108,7 @@ pub record IsSealing (plan : Plan) (h : History) (port : PortName) (bytes : List
 abbrev pub is_sealing : Event → Bool
 is_sealing (Send port bytes more trusted) = true
 is_sealing (Access (ae.Answer link)) = true
+is_sealing (Access (ae.Respond link)) = true
 is_sealing (Forward link d) = true
 is_sealing _ = false
 
@@ -113,8 +121,23 @@ record Brought (plan : Plan) (h : History) (e : Event) (w : Verdict) : Type 0 wh
   stays : goes_through plan at.port at.bytes ≡ false
   is : w ≡ ending_due plan h at.port (before_tag_of_cut plan h at.port (Ok (IdePacket packet)))
 
+-- the stream is chosen by the TLP: a response's is that of its read
+abbrev pub is_routed : Event → Bool
+is_routed (Access (ae.Respond link)) = false
+is_routed e = true
+
+-- the bytes that it seals come to this TLP on this stream
+abbrev pub ComesOn : Plan → History → Event → Tlp → ℕ → Type 0
+ComesOn plan h e tlp stream =
+    is_routed e ≡ true
+    → outgoing_of (streams_of plan (sending_port plan h e).line) (sending_port plan h e).side (sent_bytes plan h e)
+    ≡ OnStream tlp stream
+
 abbrev Sent : Plan → History → Event → List SealedPacket → Type 0
-Sent plan h e ds = (is_sealing e ≡ true) × IsSealing plan h (sending_port plan e) (sent_bytes plan h e) ds
+Sent plan h e ds =
+    (is_sealing e ≡ true)
+    × ((s : IsSealing plan h (sending_port plan h e) (sent_bytes plan h e) ds) × ComesOn plan h e s.tlp
+    s.sending.stream)
 
 abbrev Tells : Plan → History → Event → Verdict → Type 0
 Tells plan h e (v.Held port unit) = Brought plan h e (v.Held port unit)
@@ -131,37 +154,47 @@ first_tells plan h e [] last all ends = ends tt
 first_tells plan h e ((true, w) ∷ xs) last all ends = all.0
 first_tells plan h e ((false, w) ∷ xs) last all ends = first_tells plan h e xs last all.1 (λ free. ends (refl, free))
 
-outgoing_tells : (plan : Plan) (h : History) (e : Event) → is_sealing e ≡ true → (more trusted : Bool) (o : Outgoing)
-    → outgoing_of (streams_of plan (sending_port plan e).line) (sending_port plan e).side (sent_bytes plan h e) ≡ o
-    → Tells plan h e (send_due plan h (sending_port plan e) o more trusted)
-outgoing_tells plan h e seals more trusted (NoTlp f) comes = tt
-outgoing_tells plan h e seals more trusted OnNone comes = tt
-outgoing_tells plan h e seals more trusted (OnStream t stream) comes =
-    let port = sending_port plan e in
+seal_tells : (plan : Plan) (h : History) (e : Event) → is_sealing e ≡ true → (more t : Bool) (tlp : Tlp) (stream : ℕ)
+    → read_of (sent_bytes plan h e) ≡ Ok tlp → ComesOn plan h e tlp stream
+    → Tells plan h e (seal_due plan h (sending_port plan h e) tlp stream more t)
+seal_tells plan h e seals more t tlp stream reads comes =
+    let port = sending_port plan h e in
     let s : Sending = record {
       port = port;
       stream = stream;
-      class = class_of (header t);
+      class = class_of (header tlp);
       more = more;
-      trusted = t_sealed plan h port (header t) stream trusted;
+      trusted = t;
     } in
     first_tells plan h e (refusals (lanes_at plan h port stream) s.class) _
     (tt, (tt, (tt, (tt, (tt, (tt, (tt, (tt, tt))))))))
     (λ free. (
       seals,
-      record {
-        sending = s;
-        tlp = t;
-        reads = (on_stream_reads (streams_of plan port.line) port.side (sent_bytes plan h e) t stream comes).0;
-        class = refl;
-        at_port = refl;
-        comes = comes;
-        free = free;
-        number = _;
-        next = refl;
-        list = refl;
-      },
+      (
+        record {
+          sending = s;
+          tlp = tlp;
+          reads = reads;
+          class = refl;
+          at_port = refl;
+          free = free;
+          number = _;
+          next = refl;
+          list = refl;
+        },
+        comes,
+      ),
     ))
+
+outgoing_tells : (plan : Plan) (h : History) (e : Event) → is_sealing e ≡ true → (more trusted : Bool) (o : Outgoing)
+    → outgoing_of (streams_of plan (sending_port plan h e).line) (sending_port plan h e).side (sent_bytes plan h e) ≡ o
+    → Tells plan h e (send_due plan h (sending_port plan h e) o more trusted)
+outgoing_tells plan h e seals more trusted (NoTlp f) comes = tt
+outgoing_tells plan h e seals more trusted OnNone comes = tt
+outgoing_tells plan h e seals more trusted (OnStream t stream) comes =
+    let port = sending_port plan h e in
+    seal_tells plan h e seals more (t_sealed plan h port (header t) stream trusted) t stream
+    (on_stream_reads (streams_of plan port.line) port.side (sent_bytes plan h e) t stream comes).0 (λ routed. comes)
 
 if_tells : (plan : Plan) (h : History) (e : Event) (here : Bool) (x y : Verdict) → Tells plan h e x → Tells plan h e y
     → Tells plan h e (if here then x else y)
@@ -179,38 +212,87 @@ send_tells plan h port bytes more trusted here =
 
 -- ---- answers
 
+read_tells : (plan : Plan) (h : History) (e : Event) (port : PortName) (answer : WaitingRead → Verdict)
+    → ((r : WaitingRead) (rs : List WaitingRead) → waiting_reads plan h port ≡ r ∷ rs → Tells plan h e (answer r))
+    → Tells plan h e (read_due plan h port answer)
+read_tells plan h e port answer each =
+    if_tells plan h e (has_link plan port.line) _ v.Nothing (by (waiting_reads plan h port) refl) tt
+  where
+    by : (rs : List WaitingRead) → waiting_reads plan h port ≡ rs
+        → Tells plan h e (first_answered answer port.line rs)
+    by [] is = tt
+    by (r ∷ rs) is = each r rs is
+
 judged_tells : (plan : Plan) (h : History) (link interface : ℕ) (bound : Binding) (o : Option BlockCause)
     → let e = Access (ae.Answer link) in
-    Tells plan h e (answer_judged plan h (sending_port plan e) (outgoing_completion plan h link)
+    Tells plan h e (answer_judged plan h (host_port link) (outgoing_completion plan h link)
     (judged_by interface bound o))
 judged_tells plan h link interface bound (Some c) = tt
 judged_tells plan h link interface bound None =
     let e = Access (ae.Answer link) in
     let out = outgoing_completion plan h link in
-    let key = live_key h (sending_port plan e) (lane_out (sending_port plan e) bound.stream Cpl) in
+    let key = live_key h (host_port link) (lane_out (host_port link) bound.stream Cpl) in
     if_tells plan h e (is_before key bound.floor) _ _ tt (outgoing_tells plan h e refl false true out refl)
 
 answer_by_tells : (plan : Plan) (h : History) (link interface draw : ℕ) (o : Option Binding)
     → let e = Access (ae.Answer link) in
-    Tells plan h e (completion_verdict plan h (sending_port plan e) interface draw o (outgoing_completion plan h link))
+    Tells plan h e (completion_verdict plan h (host_port link) interface draw o (outgoing_completion plan h link))
 answer_by_tells plan h link interface draw None = tt
 answer_by_tells plan h link interface draw (Some bound) = judged_tells plan h link interface bound
     (binding_cause bound (stream_taken (outgoing_completion plan h link)) draw)
 
 answer_of_tells : (plan : Plan) (h : History) (link draw : ℕ) (o : Option Site) → let e = Access (ae.Answer link) in
-    Tells plan h e (site_answer plan h (sending_port plan e) draw o (outgoing_completion plan h link))
+    Tells plan h e (site_answer plan h (host_port link) draw o (outgoing_completion plan h link))
 answer_of_tells plan h link draw None = tt
 answer_of_tells plan h link draw (Some x) = answer_by_tells plan h link x.number draw (granted_to h (Some x))
 
-answer_first_tells : (plan : Plan) (h : History) (link : ℕ) (rs : List WaitingRead) → let e = Access (ae.Answer link) in
-    Tells plan h e (answer_first plan h (sending_port plan e) rs (outgoing_completion plan h link))
-answer_first_tells plan h link [] = tt
-answer_first_tells plan h link (r ∷ rs) =
-    answer_of_tells plan h link r.draw (site_of_requester plan link r.read.requester)
-
 answer_tells : (plan : Plan) (h : History) (link : ℕ) → Tells plan h (Access (ae.Answer link)) (answer_due plan h link)
-answer_tells plan h link = if_tells plan h (Access (ae.Answer link)) (has_link plan link) _ v.Nothing
-    (answer_first_tells plan h link (waiting_reads plan h link)) tt
+answer_tells plan h link = read_tells plan h (Access (ae.Answer link)) (host_port link) _
+    (λ r rs waits. answer_of_tells plan h link r.came.draw (site_of_requester plan link r.read.requester))
+
+-- ---- responses
+
+response_sent_tells : (plan : Plan) (h : History) (link : ℕ) (came : ReadArrival) (r : Result Tlp TlpFault)
+    → let e = Access (ae.Respond link) in
+    sending_port plan h e ≡ came.end → read_of (sent_bytes plan h e) ≡ r
+    → Tells plan h e (response_sent plan h came r)
+response_sent_tells plan h link came (Err f) at reads = tt
+response_sent_tells plan h link came (Ok tlp) at reads =
+    let e = Access (ae.Respond link) in
+    subst (λ (end : PortName). Tells plan h e (seal_due plan h end tlp came.stream false came.trusted)) at
+    (seal_tells plan h e refl false came.trusted tlp came.stream reads (λ routed. absurd cc))
+
+response_judged_tells : (plan : Plan) (h : History) (link interface : ℕ) (came : ReadArrival)
+    (o : Result Claim BlockCause) → let e = Access (ae.Respond link) in
+    sending_port plan h e ≡ came.end
+    → Tells plan h e (response_judged plan h came interface (read_of (sent_bytes plan h e)) o)
+response_judged_tells plan h link interface came (Err c) at = tt
+response_judged_tells plan h link interface came (Ok claim) at =
+    let e = Access (ae.Respond link) in
+    if_tells plan h e (is_before (live_key h came.end (lane_out came.end came.stream Cpl)) (least_draw claim came)) _
+    _ tt
+    (response_sent_tells plan h link came (read_of (sent_bytes plan h e)) at refl)
+
+site_response_tells : (plan : Plan) (h : History) (link : ℕ) (r : WaitingRead) (target : ReadTarget) (o : Option Site)
+    → let e = Access (ae.Respond link) in
+    sending_port plan h e ≡ r.came.end → Tells plan h e (site_response plan h link r target o)
+site_response_tells plan h link r target None at = tt
+site_response_tells plan h link r target (Some x) at = response_judged_tells plan h link x.number r.came _ at
+
+target_response_tells : (plan : Plan) (h : History) (link : ℕ) (r : WaitingRead) (o : Option ReadTarget)
+    → let e = Access (ae.Respond link) in
+    sending_port plan h e ≡ r.came.end → Tells plan h e (target_response plan h link r o)
+target_response_tells plan h link r None at = tt
+target_response_tells plan h link r (Some target) at =
+    site_response_tells plan h link r target (site_on plan link target.interface) at
+
+respond_tells : (plan : Plan) (h : History) (link : ℕ)
+    → Tells plan h (Access (ae.Respond link)) (respond_due plan h link)
+respond_tells plan h link =
+    let port = device_port link in
+    read_tells plan h (Access (ae.Respond link)) port _ (λ r rs waits. target_response_tells plan h link r r.target
+    (ap (λ (o : Option WaitingRead). option_map_or (λ (x : WaitingRead). x.came.end) o port)
+    (drop_first (reads_taken h port) (queued_reads plan h port) r rs waits)))
 
 -- ---- what waits at switches
 
@@ -270,6 +352,7 @@ tells : (plan : Plan) (h : History) (e : Event) → Tells plan h e (due plan h e
 unfolding due key_due
 tells plan h (Send port bytes more trusted) = send_tells plan h port bytes more trusted (may_send plan port)
 tells plan h (Access (ae.Answer link)) = answer_tells plan h link
+tells plan h (Access (ae.Respond link)) = respond_tells plan h link
 tells plan h (Access (ae.Mmio interface bar offset len)) =
     quiet_tells plan h (Access (ae.Mmio interface bar offset len)) _ (mmio_quiet plan h interface bar offset len)
 tells plan h (Dump n) = quiet_tells plan h (Dump n) _ (dump_quiet n (packet_by_number (sealed_packets plan h) n))
@@ -380,8 +463,14 @@ pub sealed_by_sealing : (plan : Plan) (h : History) (e : Event) (ds : List Seale
 sealed_by_sealing plan h e ds is = (subst (Tells plan h e) (sym is) (tells plan h e)).0
 
 pub sealing_is : (plan : Plan) (h : History) (e : Event) (ds : List SealedPacket) → v.Sealed ds ≡ due plan h e
-    → IsSealing plan h (sending_port plan e) (sent_bytes plan h e) ds
-sealing_is plan h e ds is = (subst (Tells plan h e) (sym is) (tells plan h e)).1
+    → IsSealing plan h (sending_port plan h e) (sent_bytes plan h e) ds
+sealing_is plan h e ds is = (subst (Tells plan h e) (sym is) (tells plan h e)).1.0
+
+-- on the stream that its TLP takes, but for a response
+pub sealing_comes : (plan : Plan) (h : History) (e : Event) (ds : List SealedPacket) (is : v.Sealed ds ≡ due plan h e)
+    → ComesOn plan h e (sealing_is plan h e ds is).tlp (sealing_is plan h e ds is).sending.stream
+unfolding sealing_is
+sealing_comes plan h e ds is = (subst (Tells plan h e) (sym is) (tells plan h e)).1.1
 
 -- ---- what follows
 

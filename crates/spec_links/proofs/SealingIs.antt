@@ -109,6 +109,7 @@ pub sealing_touches : (ops : ℕ → ℕ → StreamStage) (n : ℕ) (e : Event) 
     → is_sealing e ≡ true → touches ops n e (Sealed ds) p ≡ seal_touches p ds
 sealing_touches ops n (Send q bytes more trusted) ds p seals = refl
 sealing_touches ops n (Access (ae.Answer link)) ds p seals = refl
+sealing_touches ops n (Access (ae.Respond link)) ds p seals = refl
 sealing_touches ops n (Forward link d) ds p seals = refl
 sealing_touches ops n e ds p seals = absurd cc
 
@@ -116,6 +117,7 @@ pub sealing_manager : (h : History) (e : Event) (w : Verdict) → is_sealing e �
 unfolding manager
 sealing_manager h (Send q bytes more trusted) w seals = refl
 sealing_manager h (Access (ae.Answer link)) w seals = refl
+sealing_manager h (Access (ae.Respond link)) w seals = refl
 sealing_manager h (Forward link d) w seals = refl
 sealing_manager h e w seals = absurd cc
 
@@ -124,5 +126,6 @@ pub sealing_base : (h : History) (e : Event) (w : Verdict) (line stream : ℕ) �
 unfolding base
 sealing_base h (Send q bytes more trusted) w line stream seals = refl
 sealing_base h (Access (ae.Answer l)) w line stream seals = refl
+sealing_base h (Access (ae.Respond l)) w line stream seals = refl
 sealing_base h (Forward l d) w line stream seals = refl
 sealing_base h e w line stream seals = absurd cc

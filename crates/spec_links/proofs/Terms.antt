@@ -32,7 +32,7 @@ pub use Rattle.spec_links.specs.Due.{Ending, Lanes, Sending, arrival_due, before
 pub use Rattle.spec_links.specs.Due.{effects_of, unit_packets_ended, ends_unit, first_that_holds, is_keyless, is_mixed}
 pub use Rattle.spec_links.specs.Due.{is_overfull, is_verified, lanes_at, needs_sync, no_key, receiving_sub_stream}
 pub use Rattle.spec_links.specs.Due.{refusals, sealed_with_syncs, send_due, sets_trusted, next_unit_name, answer_due}
-pub use Rattle.spec_links.specs.Due.{answer_first, site_answer, completion_verdict, outgoing_completion, is_before}
+pub use Rattle.spec_links.specs.Due.{site_answer, completion_verdict, outgoing_completion, is_before}
 pub use Rattle.spec_links.specs.Due.{judged_by, answer_judged}
 unfoldable pub use Rattle.spec_links.specs.Due.{before_tag, due}
 pub use Rattle.spec_links.specs.History.{ArrivedBytes, KeyName, SealedList, accepted_keys, after_ends, ahead_of_packet}

@@ -3,8 +3,8 @@ use Rattle.std.specs.Prelude.{if◌then◌else◌, ◌&&◌, ◌+◌, ◌==◌, 
 use Rattle.std.specs.Prelude.{drop, length, not, take, ℕ}
 use Rattle.spec_links.specs.Terms.{option_and_then, PortName, Plan, Effect, UnitName, read_head_of, TlpFault, iv_of}
 use Rattle.spec_links.specs.Terms.{Packet, is_sync_packet, encrypted_bytes, open_of, sent_direction}
-use Rattle.spec_links.specs.Terms.{Write, Grant, write_span, memory_write, is_on_bound, if_placed, owner_id}
-use Rattle.spec_links.specs.Terms.{request_effect, mmio_effect, InterfaceStatus}
+use Rattle.spec_links.specs.Terms.{Write, Grant, memory_write, is_on_bound, if_placed, owner_id}
+use Rattle.spec_links.specs.Terms.{request_effect, device_request_effect, InterfaceStatus}
 use Rattle.ide_types.specs.declared.binding.Binding.{Binding}
 use Rattle.tlp_layout.specs.declared.head.HeadView.{HeadView}
 use Rattle.spec_links.specs.Plan.{key_of}
@@ -20,8 +20,8 @@ Grants = ℕ → ℕ → Option Binding
 
 pub record Policy : Type 0 where
   pub grants : Grants
-  -- how many trusted reads of a link wait for their answer
-  pub waiting : ℕ → ℕ
+  -- how many reads wait at a port for their answer
+  pub waiting : PortName → ℕ
   -- how the interfaces of a link's device stand
   pub statuses : ℕ → List InterfaceStatus
 
@@ -35,16 +35,17 @@ unit_grant grants port unit head =
 
 -- ---- effects
 
--- at a host's port, while so many reads of the link wait: the header says which bytes are asked for
+-- at a host's port, while so many reads wait there: the header says which bytes are asked for
 abbrev pub host_effect : Plan → Grants → ℕ → PortName → UnitName → Packet → Result HeadView TlpFault → Effect
 host_effect plan grants waiting port unit p (Err f) = effect.Delivered
 host_effect plan grants waiting port unit p (Ok head) =
     request_effect plan.memory p.prefix.t (unit_grant grants port unit head) waiting head
 
--- at a device's port, whose interfaces stand so
-abbrev pub device_effect : List InterfaceStatus → UnitName → Packet → Result HeadView TlpFault → Effect
-device_effect statuses unit p (Err f) = effect.Delivered
-device_effect statuses unit p (Ok head) = mmio_effect statuses p.prefix.t unit.stream unit.draw (write_span head)
+-- at a device's port, whose interfaces stand so, while so many reads wait there
+abbrev pub device_effect : List InterfaceStatus → ℕ → UnitName → Packet → Result HeadView TlpFault → Effect
+device_effect statuses waiting unit p (Err f) = effect.Delivered
+device_effect statuses waiting unit p (Ok head) =
+    device_request_effect statuses p.prefix.t unit.stream unit.draw waiting head
 
 -- at a switch each TLP waits
 abbrev pub switch_effect : Effect
@@ -56,7 +57,7 @@ effect_by plan policy waiting port unit p =
     else if at_switch plan port then switch_effect
     else if sent_direction port.side == 0
     then host_effect plan policy.grants waiting port unit p (read_head_of p.head)
-    else device_effect (policy.statuses port.line) unit p (read_head_of p.head)
+    else device_effect (policy.statuses port.line) waiting unit p (read_head_of p.head)
 
 -- a read that is queued waits too
 abbrev pub waiting_then : Effect → ℕ → ℕ
@@ -72,7 +73,7 @@ effects_each plan policy waiting port unit (p ∷ ps) =
 
 -- of the packets of a unit that was accepted at a port, in order
 abbrev pub effects_under_policy : Plan → Policy → PortName → UnitName → List Packet → List Effect
-effects_under_policy plan policy port unit ps = effects_each plan policy (policy.waiting port.line) port unit ps
+effects_under_policy plan policy port unit ps = effects_each plan policy (policy.waiting port) port unit ps
 
 -- ---- the writes that are admitted
 

@@ -5,7 +5,6 @@ use Rattle.std.specs.Prelude.{take, ℕ}
 use Rattle.spec_links.specs.Terms.{Plan, SealedPacket, Accepted, Sealed, iv_of, Packet, is_sync_packet}
 use Rattle.spec_links.specs.Terms.{encrypted_bytes, open_of, History}
 use Rattle.spec_links.specs.Plan.{SubStream, is_same, key_of}
-use Rattle.spec_links.specs.Laws.{IsPrefixOf}
 use Rattle.spec_links.specs.History.{sub_stream_of, sent_bytes, arrived_packet, is_received_under, packets_in_hold}
 
 -- ---- sent
@@ -43,7 +42,3 @@ tlps_got plan ((e, Accepted port unit effects) ∷ h) s j =
     ++ arrived_packet plan h e ∷ [])
     else tlps_got plan h s j
 tlps_got plan (_ ∷ h) s j = tlps_got plan h s j
-
--- Key by key, each sub-stream delivered a prefix of the TLPs that were sent in it.
-abbrev pub DeliveryLaw : Plan → History → Type 0
-DeliveryLaw plan h = (s : SubStream) (j : ℕ) → IsPrefixOf (tlps_got plan h s j) (tlps_sent plan h s j)

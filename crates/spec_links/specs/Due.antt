@@ -6,7 +6,10 @@ use Rattle.spec_links.specs.Terms.{Establish, Interface, Pass, Refresh, Reset, S
 use Rattle.spec_links.specs.Terms.{granted_to, Site, site_of_requester, WaitingRead, owner_site, SealedPacket, UnitName}
 use Rattle.spec_links.specs.Terms.{Verdict, header, iv_of, Packet, packet_bytes, CutValue, IdePacket, PlainTlp, cut_of}
 use Rattle.spec_links.specs.Terms.{authenticated_bytes, encrypted_bytes, PacketFault, verifies, History, history_status}
-use Rattle.spec_links.specs.Terms.{received_direction}
+use Rattle.spec_links.specs.Terms.{received_direction, TlpFault, Tlp, read_of, Claim, claim_of, judged_claim}
+use Rattle.spec_links.specs.Terms.{least_draw}
+use Rattle.spec_links.specs.Terms.{ReadArrival, ReadTarget, history_statuses, site_on}
+use Rattle.ide_types.specs.Ports.{host_port, device_port}
 use Rattle.spec_keys.specs.Due.{key_due}
 use Rattle.spec_interfaces.specs.Due.{interface_verdict_due as interface_due}
 use Rattle.tlp_layout.specs.Outgoing.{Outgoing, NoTlp, OnNone, OnStream, outgoing_of, stream_taken}
@@ -22,7 +25,7 @@ use Rattle.spec_links.specs.Ports.{port_of, at_switch, may_send, outgoing_at, se
 use Rattle.spec_links.specs.Units.{units, open_unit}
 use Rattle.spec_links.specs.History.{ArrivedBytes, KeyName, sealed_packets, sent_packets, arrival_of_event}
 use Rattle.spec_links.specs.History.{packet_by_number, pending_packets, units_got, on_draw, live_key, has_failed}
-use Rattle.spec_links.specs.History.{posted_count, meets_counts, received_in, ahead_due, sent_bytes, sending_port}
+use Rattle.spec_links.specs.History.{posted_count, meets_counts, received_in, ahead_due, sent_bytes}
 use Rattle.ide_types.specs.declared.sub.SubKind.TheVariants.{Cpl}
 use Rattle.ide_types.specs.declared.verdict.InterfaceVerdict.TheVariants as iv
 use Rattle.script_events.specs.declared.event.AccessEvent.TheVariants as ae
@@ -72,26 +75,25 @@ unfoldable pub t_sealed : Plan → History → PortName → HeadView → ℕ →
 t_sealed plan h end head stream trusted =
     if at_switch plan end then trusted else t_at plan h end (owner_site plan (owners_link plan end) head) stream trusted
 
+-- of a TLP on a stream of an end, with this T
+abbrev pub seal_due : Plan → History → PortName → Tlp → ℕ → Bool → Bool → Verdict
+seal_due plan h port tlp stream more t =
+    let s : Sending =
+    record { port = port; stream = stream; class = class_of (header tlp); more = more; trusted = t } in
+    verdict_of_send (lanes_at plan h port stream) s (length (sealed_packets plan h) + 1)
+
 -- of a TLP on the line of an end
 abbrev pub send_due : Plan → History → PortName → Outgoing → Bool → Bool → Verdict
 send_due plan h port (NoTlp f) more trusted = v.Malformed (port_of plan port) (tlp_word f) (place_in f)
 send_due plan h port OnNone more trusted = v.Plain (port_of plan port)
-send_due plan h port (OnStream t stream) more trusted =
-    let s : Sending =
-    record {
-      port = port;
-      stream = stream;
-      class = class_of (header t);
-      more = more;
-      trusted = t_sealed plan h port (header t) stream trusted;
-    } in
-    verdict_of_send (lanes_at plan h port stream) s (length (sealed_packets plan h) + 1)
+send_due plan h port (OnStream tlp stream) more trusted =
+    seal_due plan h port tlp stream more (t_sealed plan h port (header tlp) stream trusted)
 
 -- of bytes that are sent at an end
 abbrev pub bytes_due : Plan → History → PortName → List ℕ → Bool → Bool → Verdict
 bytes_due plan h end bytes more trusted = send_due plan h end (outgoing_at plan end bytes) more trusted
 
--- ---- answers
+-- ---- reads that wait
 
 -- the draw that completions are sealed under is less than the floor
 abbrev pub is_before : Option KeyName → ℕ → Bool
@@ -101,11 +103,21 @@ is_before (Some key) floor = nat_lt key.draw floor
 abbrev pub draw_of : Option KeyName → ℕ
 draw_of key = option_map_or (λ (k : KeyName). k.draw) key 0
 
--- under a key of the bound stream from the floor on it is sent as any TLP is, with T
-abbrev pub answer_with_key : Plan → History → PortName → ℕ → Option KeyName → Outgoing → Verdict
-answer_with_key plan h port floor key out =
-    if is_before key floor then v.Interface (iv.RefusedRefreshFirst (draw_of key) floor)
-    else send_due plan h port out false true
+-- a completion is sent as any TLP is under a key from the floor on
+abbrev pub sent_from : ℕ → Option KeyName → Verdict → Verdict
+sent_from floor key sent =
+    if is_before key floor then v.Interface (iv.RefusedRefreshFirst (draw_of key) floor) else sent
+
+-- the oldest read that waits at a port of this link
+abbrev pub first_answered : (WaitingRead → Verdict) → ℕ → List WaitingRead → Verdict
+first_answered answer link [] = v.Access (av.Empty link)
+first_answered answer link (r ∷ rs) = answer r
+
+abbrev pub read_due : Plan → History → PortName → (WaitingRead → Verdict) → Verdict
+read_due plan h port answer =
+    if has_link plan port.line then first_answered answer port.line (waiting_reads plan h port) else v.Nothing
+
+-- ---- at a host's port
 
 -- a read of an interface is dropped by a cause, if there is one
 abbrev pub judged_by : ℕ → Binding → Option BlockCause → Result Binding Verdict
@@ -118,11 +130,11 @@ abbrev pub judged_bound : Option ℕ → ℕ → ℕ → Option Binding → Resu
 judged_bound taken interface draw None = Err (v.Access (av.Dropped interface cause.NotRunning))
 judged_bound taken interface draw (Some bound) = judged_by interface bound (binding_cause bound taken draw)
 
--- as it was judged
+-- as it was judged: with T, under a key of the bound stream
 abbrev pub answer_judged : Plan → History → PortName → Outgoing → Result Binding Verdict → Verdict
 answer_judged plan h port out (Err verdict) = verdict
 answer_judged plan h port out (Ok bound) =
-    answer_with_key plan h port bound.floor (live_key h port (lane_out port bound.stream Cpl)) out
+    sent_from bound.floor (live_key h port (lane_out port bound.stream Cpl)) (send_due plan h port out false true)
 
 -- of an interface with this binding, if its view is Running, to a read that came under a draw
 abbrev pub completion_verdict : Plan → History → PortName → ℕ → ℕ → Option Binding → Outgoing → Verdict
@@ -133,22 +145,44 @@ abbrev pub site_answer : Plan → History → PortName → ℕ → Option Site �
 site_answer plan h port draw None out = v.Nothing
 site_answer plan h port draw (Some x) out = completion_verdict plan h port x.number draw (granted_to h (Some x)) out
 
--- the oldest read that waits, and its completion
-abbrev pub answer_first : Plan → History → PortName → List WaitingRead → Outgoing → Verdict
-answer_first plan h port [] out = v.Access (av.Empty port.line)
-answer_first plan h port (r ∷ rs) out =
-    site_answer plan h port r.draw (site_of_requester plan port.line r.read.requester) out
-
 -- what the completion comes to at the host's port
 abbrev pub outgoing_completion : Plan → History → ℕ → Outgoing
 outgoing_completion plan h link = outgoing_of (streams_of plan link) Host (sent_bytes plan h (Access (ae.Answer link)))
 
 abbrev pub answer_due : Plan → History → ℕ → Verdict
 answer_due plan h link =
-    if has_link plan link
-    then answer_first plan h (sending_port plan (Access (ae.Answer link))) (waiting_reads plan h link)
-    (outgoing_completion plan h link)
-    else v.Nothing
+    read_due plan h (host_port link) (λ (r : WaitingRead). site_answer plan h (host_port link) r.came.draw
+    (site_of_requester plan link r.read.requester)
+    (outgoing_completion plan h link))
+
+-- ---- at a device's port
+
+-- on the stream and at the end on which its read came, with T as it had it
+abbrev pub response_sent : Plan → History → ReadArrival → Result Tlp TlpFault → Verdict
+response_sent plan h came (Err f) = v.Malformed (port_of plan came.end) (tlp_word f) (place_in f)
+response_sent plan h came (Ok tlp) = seal_due plan h came.end tlp came.stream false came.trusted
+
+-- of a read of an interface, as it was judged
+abbrev pub response_judged : Plan → History → ReadArrival → ℕ → Result Tlp TlpFault → Result Claim BlockCause → Verdict
+response_judged plan h came interface tlp (Err c) = v.Access (av.Dropped interface c)
+response_judged plan h came interface tlp (Ok claim) =
+    sent_from (least_draw claim came) (live_key h came.end (lane_out came.end came.stream Cpl))
+    (response_sent plan h came tlp)
+
+-- by how the interfaces stand now
+abbrev pub site_response : Plan → History → ℕ → WaitingRead → ReadTarget → Option Site → Verdict
+site_response plan h link r target None = v.Nothing
+site_response plan h link r target (Some x) =
+    response_judged plan h r.came x.number (read_of (sent_bytes plan h (Access (ae.Respond link))))
+    (judged_claim (claim_of (history_statuses plan h link) r.read.span) target r.came)
+
+abbrev pub target_response : Plan → History → ℕ → WaitingRead → Option ReadTarget → Verdict
+target_response plan h link r None = v.Nothing
+target_response plan h link r (Some target) = site_response plan h link r target (site_on plan link target.interface)
+
+abbrev pub respond_due : Plan → History → ℕ → Verdict
+respond_due plan h link =
+    read_due plan h (device_port link) (λ (r : WaitingRead). target_response plan h link r r.target)
 
 -- ---- what waits at switches
 
@@ -257,6 +291,7 @@ unfoldable pub due : Plan → History → Event → Verdict
 due plan h (Send port bytes more trusted) =
     if may_send plan port then bytes_due plan h (sealing_end plan port bytes) bytes more trusted else v.Nothing
 due plan h (Access (ae.Answer link)) = answer_due plan h link
+due plan h (Access (ae.Respond link)) = respond_due plan h link
 due plan h (Access (ae.Mmio interface bar offset len)) = mmio_due plan h interface bar offset len
 due plan h (Dump n) = dump_due n (packet_by_number (sealed_packets plan h) n)
 due plan h (Establish line stream lose) = key_due (key_plan plan) h (Establish line stream lose) v.Nothing

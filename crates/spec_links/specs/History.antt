@@ -14,7 +14,7 @@ pub use Rattle.spec_stream.specs.Sending.{KeyName, prefix_of, total_ahead}
 pub use Rattle.spec_links.specs.Packets.{sub_stream_of, SealedList, ArrivedBytes, packet_by_number, arrival_at_partner}
 pub use Rattle.spec_links.specs.Packets.{altered_arrival, shortened_arrival, arrived_in, no_packet, cut_packet}
 pub use Rattle.spec_links.specs.Packets.{arrival_packet, received_in, is_received_under}
-pub use Rattle.spec_links.specs.Sent.{sending_port}
+use Rattle.spec_links.specs.Sent.{port_by}
 unfoldable pub use Rattle.spec_links.specs.Sent.{bytes_by}
 
 -- ---- what was sealed
@@ -98,6 +98,10 @@ sealed_packets plan (_ ∷ h) = sealed_packets plan h
 -- the bytes that a sealed verdict of this event seals
 abbrev pub sent_bytes : Plan → History → Event → List ℕ
 sent_bytes plan h e = bytes_by plan (sealed_packets plan h) h e
+
+-- the end that seals them
+abbrev pub sending_port : Plan → History → Event → PortName
+sending_port plan h e = port_by plan (sealed_packets plan h) h e
 
 -- the packets that were sealed in a sub-stream under a draw, in order
 abbrev pub sent_packets : Plan → History → SubStream → ℕ → List Packet

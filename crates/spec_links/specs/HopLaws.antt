@@ -10,13 +10,13 @@ use Rattle.ide_types.specs.declared.direction.Direction.{Direction}
 use Rattle.spec_keys.specs.History.{begins_keyed, draws, manager, op_of}
 use Rattle.spec_links.specs.Plan.{SubStream, is_same_port}
 use Rattle.spec_links.specs.History.{sent_bytes, sealed_packets, accepted_packets, packets_in_hold}
-use Rattle.spec_links.specs.Hops.{HopTlp, has_hop, first_end, entering_end, leaving_end, last_end, clears_hop}
+use Rattle.spec_links.specs.Hops.{HopTlp, has_hop, entering_end, leaving_end, clears_hop}
 use Rattle.spec_links.specs.Memory.{accepted_tlps, hop_waiting, waiting_reads, writes}
 use Rattle.spec_links.specs.Guarded.{link_happenings}
 use Rattle.ide_types.specs.declared.port.Side.{Side}
 use Rattle.spec_interfaces.specs.Views.{managed_view}
 use Rattle.spec_interfaces.specs.Devices.{interface_at}
-use Rattle.spec_links.specs.Laws.{IsPrefixOf, NoForgery}
+use Rattle.spec_links.specs.Laws.{IsPrefixOf}
 use Rattle.event_verdicts.specs.declared.verdict.Verdict.TheVariants as v
 
 -- ---- what was sealed
@@ -73,19 +73,6 @@ ForwardsEach plan h =
     → IsPrefixOf (in_sub u (tlps_since_reset plan h link (leaving_end link d)))
     (in_sub u (accepted_tlps plan h link (entering_end link d)))
 
--- If each segment had one draw since then, what is accepted behind the hop is, in each sub-stream, a prefix of what was
--- sealed before it.
-abbrev pub CrossesInOrder : Plan → History → Type 0
-CrossesInOrder plan h =
-    (link : ℕ) (d : Direction) (u : SubKind) → has_hop plan link ≡ true → OneDraw h link
-    → IsPrefixOf (in_sub u (accepted_tlps plan h link (last_end link d)))
-    (in_sub u (tlps_since_reset plan h link (first_end link d)))
-
-pub record HopLaw (plan : Plan) (h : History) : Type 0 where
-  pub whole : ForwardsInOrder plan h
-  pub each : ForwardsEach plan h
-  pub crosses : NoForgery plan h → CrossesInOrder plan h
-
 -- ---- what goes through
 
 -- the event brings bytes to a port
@@ -108,12 +95,8 @@ pub record IsUnchanged (plan : Plan) (h : History) (e : Event) (w : Verdict) : T
   pub pending_packets : (s : SubStream) (j n : ℕ) → packets_in_hold plan ((e, w) ∷ h) s j n
       ≡ packets_in_hold plan h s j n
   pub switches : (link : ℕ) (d : Direction) → hop_waiting plan ((e, w) ∷ h) link d ≡ hop_waiting plan h link d
-  pub reads : (link : ℕ) → waiting_reads plan ((e, w) ∷ h) link ≡ waiting_reads plan h link
+  pub reads : (port : PortName) → waiting_reads plan ((e, w) ∷ h) port ≡ waiting_reads plan h port
   pub memory : writes plan ((e, w) ∷ h) ≡ writes plan h
   pub devices : (link : ℕ) → link_happenings plan ((e, w) ∷ h) link ≡ link_happenings plan h link
   pub views : (x : Site) → managed_view ((e, w) ∷ h) x ≡ managed_view h x
   pub interfaces : (x : Site) → interface_at plan ((e, w) ∷ h) x ≡ interface_at plan h x
-
--- An answer `through` leaves them so.
-abbrev pub ThroughLaw : Plan → History → Type 0
-ThroughLaw plan h = (e : Event) (port : PortName) → brings_bytes e ≡ true → IsUnchanged plan h e (v.Through port)

@@ -55,16 +55,6 @@ OlderFirst plan h (Accepted port unit effects) =
     → accepted_packets plan h (received_in port unit) i ≡ sent_packets plan h (received_in port unit) i
 OlderFirst plan h _ = Unit {0}
 
-abbrev pub ClosedLaw : Plan → History → Type 0
-ClosedLaw plan [] = Unit {0}
-ClosedLaw plan ((event, verdict) ∷ h) = OlderFirst plan h verdict × ClosedLaw plan h
-
--- Key by key, each sub-stream got a prefix of what was sealed, and the draws of its accepted units never fall.
-pub record PrefixLaw (plan : Plan) (h : History) : Type 0 where
-  pub prefix : (s : SubStream) (j : ℕ) → IsPrefixOf (accepted_packets plan h s j) (sent_packets plan h s j)
-  pub draws : DrawsNeverFall h
-  pub older : ClosedLaw plan h
-
 -- no total passes 8 bytes
 abbrev pub TotalsFit : Plan → History → Type 0
 TotalsFit plan [] = Unit {0}

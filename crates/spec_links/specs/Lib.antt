@@ -5,11 +5,13 @@ pub mod Units
 pub mod Packets
 pub mod Admission
 pub mod Ended
+pub mod Happens
 pub mod Hops
 pub mod Sent
 pub mod History
 pub mod Memory
 pub mod Guarded
+pub mod Queues
 pub mod Due
 pub mod Cause
 pub mod KeyFacts
@@ -29,21 +31,25 @@ pub use Rattle.spec_links.specs.History.{total_ahead, ahead_sent, ahead_due}
 pub use Rattle.spec_links.specs.Due.{due}
 pub use Rattle.spec_links.specs.Memory.{Policy, policy_at, writes, queued_reads, waiting_reads, effects_of}
 pub use Rattle.spec_links.specs.Memory.{ContentsFollow, accepted_tlps, hop_waiting}
-pub use Rattle.spec_links.specs.Sent.{sending_port}
+pub use Rattle.spec_links.specs.History.{sending_port}
+pub use Rattle.spec_links.specs.Sent.{answering_port, answers_at}
 unfoldable pub use Rattle.spec_links.specs.Sent.{reads_taken, bytes_by}
+pub use Rattle.spec_links.specs.Sent.{port_by}
+pub use Rattle.spec_links.specs.Queues.{TakesFirst, FewWait}
 pub use Rattle.spec_links.specs.Cause.{CauseLaw, OneHistory}
-pub use Rattle.spec_links.specs.Laws.{NoForgery, PrefixLaw, DrawsNeverFall, TotalsFit, WholeLaw, OrderIsNoForgery}
-pub use Rattle.spec_links.specs.Delivered.{DeliveryLaw, tlps_sent, tlps_got}
-pub use Rattle.spec_links.specs.Ordered.{OrderLaw}
+pub use Rattle.spec_links.specs.Laws.{NoForgery, DrawsNeverFall, TotalsFit, WholeLaw, OrderIsNoForgery}
+pub use Rattle.spec_links.specs.Delivered.{tlps_sent, tlps_got}
 pub use Rattle.spec_links.specs.Numbers.{NumbersFresh}
 pub use Rattle.spec_links.specs.Hops.{HopTlp, has_hop, first_end, entering_end, leaving_end, last_end}
 unfoldable pub use Rattle.spec_links.specs.Hops.{accepted_tlps_in_list, forwarded_count}
 unfoldable pub use Rattle.spec_links.specs.HopLaws.{tlps_since_reset, draws_since}
-pub use Rattle.spec_links.specs.HopLaws.{OneDraw, HopLaw, ThroughLaw}
+pub use Rattle.spec_links.specs.HopLaws.{OneDraw}
 pub use Rattle.spec_interfaces.specs.Cause.{owner_id}
 pub use Rattle.spec_interfaces.specs.Devices.{devices}
 pub use Rattle.spec_interfaces.specs.Sites.{Site, site_of_requester}
 pub use Rattle.spec_interfaces.specs.Views.{grant_at, granted_to}
 pub use Rattle.trusted_memory.specs.declared.queue.WaitingRead.{WaitingRead}
+pub use Rattle.trusted_memory.specs.declared.queue.ReadArrival.{ReadArrival}
+pub use Rattle.trusted_memory.specs.declared.queue.ReadTarget.{ReadTarget}
 unfoldable pub use Rattle.spec_interfaces.specs.Sites.{sites}
 unfoldable pub use Rattle.trusted_memory.specs.Completions.{completion_bytes}

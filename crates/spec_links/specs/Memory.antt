@@ -19,13 +19,13 @@ use Rattle.ide_types.specs.declared.verdict.InterfaceVerdict.TheVariants as iv
 
 -- ---- reads
 
--- the reads of a link that were queued since its last reset, in order
-abbrev pub queued_reads : Plan → History → ℕ → List WaitingRead
-queued_reads plan h link = queued_in plan (sealed_packets plan h) h link
+-- those that were queued at a port since its link's last reset, in order
+abbrev pub queued_reads : Plan → History → PortName → List WaitingRead
+queued_reads plan h port = queued_in plan (sealed_packets plan h) h port
 
--- those that wait for their answer
-abbrev pub waiting_reads : Plan → History → ℕ → List WaitingRead
-waiting_reads plan h link = drop (reads_taken h link) (queued_reads plan h link)
+-- those that wait there for their answer
+abbrev pub waiting_reads : Plan → History → PortName → List WaitingRead
+waiting_reads plan h port = drop (reads_taken h port) (queued_reads plan h port)
 
 -- ---- TLPs at switches
 
@@ -43,7 +43,7 @@ hop_waiting plan h link d = drop (forwarded_count h link d) (accepted_tlps plan 
 abbrev pub policy_at : Plan → History → Policy
 policy_at plan h = record {
   grants = grant_at plan h;
-  waiting = λ link. length (waiting_reads plan h link);
+  waiting = λ port. length (waiting_reads plan h port);
   statuses = history_statuses plan h;
 }
 

@@ -1,5 +1,5 @@
 -- Non-posted packets and completions are accepted after the posted packets that were sealed before them.
-use Rattle.std.specs.Prelude.{◌<◌, ◌∷◌, ◌≡◌, ◌≢◌, ◌≤◌, Some, [], false, length, slice_get, take, true, ℕ}
+use Rattle.std.specs.Prelude.{◌<◌, ◌∷◌, ◌≡◌, ◌≢◌, ◌≤◌, Some, false, length, slice_get, take, true, ℕ}
 use Rattle.spec_links.specs.Terms.{AllByRecursion, sub_bits, Plan, Event, SealedPacket, Verdict, Accepted, Packet}
 use Rattle.spec_links.specs.Terms.{History, base}
 use Rattle.spec_links.specs.Plan.{SubStream, is_closed}
@@ -33,7 +33,3 @@ BehindPosted plan h e (Accepted port unit effects) =
     → IsPacketAtPlace (sealed_packets plan h) (posted_lane (received_in port unit)) j n earlier
     → n < length (accepted_packets plan h (posted_lane (received_in port unit)) j)
 BehindPosted plan h e _ = Unit {0}
-
-abbrev pub OrderLaw : Plan → History → Type 0
-OrderLaw plan [] = Unit {0}
-OrderLaw plan ((event, verdict) ∷ h) = BehindPosted plan h event verdict × OrderLaw plan h

@@ -39,7 +39,7 @@ pub use Rattle.spec_keys.specs.History.{keeps_live, place_keys, history_status}
 pub use Rattle.spec_keys.specs.Keys.{Keyed, Keys, Off, On, key_in, no_keys, on_in, unless_below}
 pub use Rattle.spec_keys.specs.Places.{KeyPlan, KeyPlace, received_direction, sent_direction}
 pub use Rattle.spec_interfaces.specs.Views.{grant_at, granted_to}
-pub use Rattle.spec_interfaces.specs.Floors.{history_statuses}
+pub use Rattle.spec_interfaces.specs.Floors.{history_statuses, site_on}
 pub use Rattle.spec_interfaces.specs.Sites.{Site, site_of_requester}
 pub use Rattle.spec_interfaces.specs.Cause.{owner_id, owner_site, owners_link, t_at}
 pub use Rattle.trusted_memory.specs.declared.grant.Grant.{Grant}
@@ -51,7 +51,12 @@ pub use Rattle.trusted_memory.specs.Admitted.{is_on_bound, if_placed, admitted_w
 pub use Rattle.trusted_memory.specs.Memory.{MemoryContents, IsLeftBy, Leads, bytes_from}
 pub use Rattle.trusted_memory.specs.declared.read.MemReadView.{MemReadView}
 pub use Rattle.trusted_memory.specs.declared.queue.WaitingRead.{WaitingRead}
+pub use Rattle.trusted_memory.specs.declared.queue.ReadArrival.{ReadArrival}
+pub use Rattle.trusted_memory.specs.declared.queue.ReadTarget.{ReadTarget}
+pub use Rattle.trusted_memory.specs.Completions.{host_completer}
+pub use Rattle.trusted_memory.specs.declared.span.Span.{Span}
 pub use Rattle.trusted_memory.specs.Requests.{memory_read}
 pub use Rattle.trusted_memory.specs.Waiting.{request_effect}
 unfoldable pub use Rattle.trusted_memory.specs.Completions.{completion_bytes}
-pub use Rattle.spec_interfaces.specs.{InterfaceStatus, mmio_effect}
+pub use Rattle.spec_interfaces.specs.{InterfaceStatus, device_request_effect}
+pub use Rattle.spec_interfaces.specs.{Claim, claim_of, claimed_byte, judged_claim, least_draw, target_of}

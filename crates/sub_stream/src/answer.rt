@@ -1,8 +1,8 @@
-//! What senders and receivers answer.
+//! What senders and receivers answer (this profile).
 
 use ide_types::{FailCause, SubKind};
 
-/// A sealed packet as its prefix says, with its draw, its unit's counter and its length in bytes (this profile).
+/// A sealed packet as its prefix says, with its draw, its unit's counter and its length in bytes.
 #[derive(Clone, Copy, Default, PartialEq, Eq)]
 pub struct MeasuredPacket {
     pub stream: u8,
@@ -22,7 +22,7 @@ pub struct MeasuredPacket {
     pub length: usize,
 }
 
-/// Why a sender seals nothing (this profile).
+/// Why a sender seals nothing.
 #[derive(Clone, Copy, PartialEq, Eq)]
 pub enum TxRefusal {
     /// No slot is Live.
@@ -31,7 +31,7 @@ pub enum TxRefusal {
     Worn(u64),
 }
 
-/// What a receiver answers to a packet (this profile).
+/// What a receiver answers to a packet.
 #[derive(Clone, Copy, PartialEq, Eq)]
 pub enum Taken {
     /// Neither slot is Live.

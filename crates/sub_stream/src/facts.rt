@@ -1,4 +1,4 @@
-//! What is seen of the key slots of a sub-stream, and of what is counted beside them.
+//! What is seen of the key slots of a sub-stream, and of what is counted beside them (this profile).
 
 ghost use Rattle.std.specs.Prelude.{◌≡◌, List, length};
 ghost use Rattle.ide_prefix.specs.Packet.{Packet};
@@ -11,8 +11,7 @@ use key_slots::{SlotState, Slots};
 
 /// A key slot as it is seen: without a key; with one that waits for its K_SET_GO; with one of a sender that waits for
 /// the end of the older key's unit; with one in use. A draw is said by its number, and of a key in use how many units
-/// were finished under it, and how many packets there are of the next (PCI Express Base 6.0 section 6.33, in this
-/// profile).
+/// were finished under it, and how many packets there are of the next (PCI Express Base 6.0 section 6.33).
 #[derive(Clone, Copy, PartialEq, Eq)]
 pub enum SlotFacts {
     Empty,
@@ -28,7 +27,7 @@ pub struct SetFacts {
     pub one: SlotFacts,
 }
 
-/// What a sender keeps: its slots, the posted count of its next packet, and how many units it finished (this profile).
+/// What a sender keeps: its slots, the posted count of its next packet, and how many units it finished.
 #[derive(Clone, Copy, PartialEq, Eq)]
 pub struct SenderFacts {
     pub sets: SetFacts,
@@ -37,7 +36,7 @@ pub struct SenderFacts {
 }
 
 /// What a receiver keeps: its slots, and of the units that it accepted the sum of the posted counts of their packets,
-/// how many packets, and how many units (this profile).
+/// how many packets, and how many units.
 #[derive(Clone, Copy, PartialEq, Eq)]
 pub struct ReceiverFacts {
     pub sets: SetFacts,
@@ -53,8 +52,7 @@ pub struct LaneFacts {
     pub receiver: ReceiverFacts,
 }
 
-/// What a stream keeps at a port: whether it is closed, whether it failed, its status, and its sub-streams (this
-/// profile).
+/// What a stream keeps at a port: whether it is closed, whether it failed, its status, and its sub-streams.
 #[derive(Clone, Copy, PartialEq, Eq)]
 pub struct StreamFacts {
     pub closed: bool,

@@ -1,4 +1,4 @@
-//! The sender of one sub-stream, and the bytes of the packets that it seals.
+//! The sender of one sub-stream, and the bytes of the packets that it seals (this profile).
 
 ghost use Rattle.std.specs.Prelude.{◌≡◌, ◌==◌, ◌&&◌, ◌||◌, ◌^◌, false, ℕ, ◌+◌, ◌<◌, ◌≤◌, List, ◌++◌, [], length};
 ghost use Rattle.std.specs.Prelude.{vec_len, vec_capacity, is_ok, not, true, if◌then◌else◌, IfOk, Some, Ok};
@@ -46,12 +46,11 @@ const PREFIX_BYTES: usize = 4;
 // The bytes of a unit's tag.
 const TAG_BYTES: usize = 12;
 
-// The header of a sync packet (this profile).
+// The header of a sync packet.
 const SYNC_HEAD: [u8; 12] = [SYNC_FIRST, 0, 0, 0, 0, 0, 0, 0, 0, 0, 0, 0];
 
 /// A sender of one sub-stream: it seals units of at most `aggregation` packets under the Live key, and at most as many
-/// as its limit under one key. A newer key waits for the end of an open unit (PCI Express Base 6.0 section 6.33, in
-/// this profile).
+/// as its limit under one key. A newer key waits for the end of an open unit (PCI Express Base 6.0 section 6.33).
 #[derive(Drop)]
 pub struct Tx {
     stream: u8,

@@ -1,4 +1,4 @@
-//! Reading messages.
+//! Reading messages (TDISP section 11.3, in this profile's layout).
 
 ghost use Rattle.std.specs.Prelude.{◌≡◌, ◌+◌, ◌<◌, ◌≤◌, ◌^◌, true, length, slice_index, take, drop};
 ghost use Rattle.byteorder.specs.Endian.{little_number};
@@ -138,7 +138,7 @@ fn request(kind: u8, function: u32, body: &[u8]) -> RequestView
 }
 
 /// The request that the bytes spell, all of them, else the first fault from the left: of the protocol byte, the
-/// version, the type, the length; reserved bytes are ignored (TDISP section 11.3, in this profile's layout).
+/// version, the type, the length; reserved bytes are ignored (TDISP section 11.3).
 pub fn request_read(bytes: &[u8]) -> Result<RequestView, TdispFault>
     ensures { result ≡ request_reading bytes.now }
 {
@@ -234,7 +234,7 @@ fn reply<'a>(kind: u8, function: u32, body: &'a [u8]) -> ReplyView<'a>
 }
 
 /// The reply that the bytes spell, all of them, else the first fault from the left: of the protocol byte, the version,
-/// the type, the length; reserved bytes are ignored (TDISP section 11.3, in this profile's layout).
+/// the type, the length; reserved bytes are ignored (TDISP section 11.3).
 pub fn reply_read(bytes: &[u8]) -> Result<ReplyView<'_>, TdispFault>
     ensures { reply_answer result ≡ reply_reading bytes.now }
 {

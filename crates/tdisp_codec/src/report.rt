@@ -1,4 +1,4 @@
-//! The report of an interface.
+//! The report of an interface (TDISP section 11.3, in this profile's layout).
 
 ghost use Rattle.std.specs.Prelude.{◌≡◌, ◌%◌, length};
 ghost use Rattle.std.specs.List.{flat_map};
@@ -17,14 +17,14 @@ pub struct ReportRange {
     pub id: u16,
 }
 
-/// Ranges, lent as their bytes, 16 each (TDISP section 11.3, in this profile's layout).
+/// Ranges, lent as their bytes, 16 each (TDISP section 11.3).
 #[derive(Clone, Copy)]
 pub struct Ranges<'a> {
     pub bytes: &'a [u8],
     ghost whole: { length bytes.now % 16 ≡ 0 },
 }
 
-/// The report of an interface (TDISP section 11.3, in this profile's layout), with its lists lent. Of `info` bit 0 is
+/// The report of an interface (TDISP section 11.3), with its lists lent. Of `info` bit 0 is
 /// firmware updates not permitted, 1 DMA without PASID, 2 DMA with PASID, 3 ATS, 4 PRS; `msix`, `lnr` and `tph` are the
 /// control registers; `device` is the device's own information. There are at most 2^32 - 1 ranges and bytes of it.
 #[derive(Clone, Copy)]

@@ -1,4 +1,5 @@
-//! Writing messages and reports. `out` has room for the bytes, so no writer takes memory.
+//! Writing messages and reports. `out` has room for the bytes, so no writer takes memory (TDISP section 11.3, in this
+//! profile's layout).
 
 ghost use Rattle.std.specs.Prelude.{◌≡◌, ◌+◌, ◌/◌, ◌<◌, ◌≤◌, ◌^◌, [], ◌∷◌, ◌++◌, length, vec_len, vec_capacity};
 ghost use Rattle.byteorder.specs.Endian.{little_bytes};
@@ -46,7 +47,7 @@ fn append_lock(out: &mut Vec<u8>, flags: u16, stream: u8, offset: u64, mask: u64
     append64(out, mask);
 }
 
-/// Appends the request's bytes, with 0 in the reserved ones (this profile).
+/// Appends the request's bytes, with 0 in the reserved ones.
 pub fn request_write(request: &RequestView, out: &mut Vec<u8>)
     requires { vec_len out.old + length (request_spelling request.now) ≤ vec_capacity out.old }
     ensures items { out.new.items ≡ out.old.items ++ request_spelling request.now }
@@ -130,7 +131,7 @@ fn append_portion(out: &mut Vec<u8>, remainder: u16, portion: &[u8])
     append(out, portion);
 }
 
-/// Appends the reply's bytes, with 0 in the reserved ones (this profile).
+/// Appends the reply's bytes, with 0 in the reserved ones.
 pub fn reply_write(reply: &ReplyView<'_>, out: &mut Vec<u8>)
     requires counted { IsCountedReply (reply_shown reply.now) }
     requires room { vec_len out.old + length (reply_spelling (reply_shown reply.now)) ≤ vec_capacity out.old }
@@ -208,8 +209,7 @@ fn append_front(out: &mut Vec<u8>, report: &ReportView<'_>)
     append32(out, (report.ranges.bytes.len() / 16) as u32);
 }
 
-/// Appends the report's bytes, with 0 in the reserved ones: 20, those of its ranges, and the device's own (this
-/// profile).
+/// Appends the report's bytes, with 0 in the reserved ones: 20, those of its ranges, and the device's own.
 pub fn report_write(report: &ReportView<'_>, out: &mut Vec<u8>)
     requires ranges { length report.now.ranges.bytes.now / 16 < 2 ^ 32 }
     requires device { length report.now.device.now < 2 ^ 32 }

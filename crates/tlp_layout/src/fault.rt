@@ -1,11 +1,11 @@
-//! Why bytes are no TLP.
+//! Why bytes are no TLP (this profile).
 
-/// The first fault from the left, with its place, a byte offset from 0 (this profile).
+/// The first fault from the left, with its place, a byte offset from 0.
 #[derive(Clone, Copy, PartialEq, Eq)]
 pub enum TlpFault {
     /// The bytes end before the TLP does.
     Short(usize),
-    /// Byte 0 is no Fmt and Type of this profile.
+    /// Byte 0 is no Fmt and Type that is read here.
     Kind(usize),
     /// A bit that is 0 here is set: a reserved one, TH, TD, EP, or one of the two lowest of an
     /// address.

@@ -55,7 +55,7 @@ pub(crate) fn layout_of_byte(first: u8) -> Option<Layout>
     }
 }
 
-/// The kind of TLP whose header byte 0 begins; `None` if this profile has no such TLP.
+/// The kind of TLP whose header byte 0 begins; `None` if there is no such TLP.
 pub fn kind_at(first: u8) -> Option<TlpKind>
     ensures { result ≡ kind_named first }
 {

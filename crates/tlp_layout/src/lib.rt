@@ -2,7 +2,7 @@
 //! 6.0 section 2.2), read with the place of the first fault; headers written; and which stream of its link a TLP takes
 //! at a port (section 6.33, in this profile's order).
 //!
-//! These rules are this profile's and not the standard's. A reserved bit that is set is refused, and so are TH, TD and
+//! These rules are not the standard's. A reserved bit that is set is refused, and so are TH, TD and
 //! EP. Of a configuration request only Length is checked, which is 1. AT is kept at every value. No rule is kept on
 //! byte enables, on 4 KiB boundaries or on the payload's size. Routings 6 and 7 are refused. Left out are I/O requests,
 //! locked reads, AtomicOps, deferrable memory writes, prefixes, the digest, processing hints, poisoned TLPs, and the

@@ -1,4 +1,4 @@
-//! Why a text is no plan.
+//! Why a text is no plan (this profile).
 
 ghost use Rattle.std.specs.Prelude.{◌≡◌};
 ghost use Rattle.toml_walk.specs.declared.fault.PlanError.TheVariants.{Memory};
@@ -6,7 +6,7 @@ ghost use Rattle.toml_walk.specs.declared.fault.PlanError.TheVariants.{Memory};
 use ide_types::Bytes;
 use std::alloc::{AllocError, AllocFailed};
 
-/// Why a key is refused (this profile).
+/// Why a key is refused.
 #[derive(Clone, Copy)]
 pub enum KeyFault {
     /// The key is not there and has no default.
@@ -24,7 +24,7 @@ pub enum KeyFault {
     Limit,
 }
 
-/// The first fault of a walk (this profile).
+/// The first fault of a walk.
 #[derive(Drop)]
 pub enum PlanFault {
     /// The bytes are no TOML text.

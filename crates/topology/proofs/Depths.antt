@@ -456,7 +456,8 @@ interface_deep t ms x s e =
     let flags = first (optional t ms (codes "flags") 0 (number (within 0 31))) _ x bound.2 in
     let offset = first (optional t ms (codes "offset") 0 (number (bounds_of_form 0 greatest Pages))) _ x flags.2 in
     let registers = first (register_keys t ms) _ x offset.2 in
-    let info = first (optional t ms (codes "info") [] (hex_bytes 1024)) _ x registers.2 in
+    let reads = first (optional t ms (codes "reads") false truth) _ x registers.2 in
+    let info = first (optional t ms (codes "info") [] (hex_bytes 1024)) _ x reads.2 in
     let bars = first (optional t ms (codes "bars") [] (list (count_between 0 6) (table bar_keys))) _ x info.2 in
     let found = registers_found t ms registers.0 registers.1 in
     known_deep 2 (interface_names 2) ms s (none_refused t (unknown_in (interface_names 2) (key_names ms)) k.1)
@@ -465,31 +466,34 @@ interface_deep t ms x s e =
       (
         found.1.1.1.1.1.1.0,
         (
-          of_required 2 t ms (codes "rid") (number (within 0 65535)) rid.0 (number_deep 2 (within 0 65535)) rid.1,
+          of_optional 2 t ms (codes "reads") false truth reads.0 (truth_deep 2) reads.1,
           (
-            of_required 2 t ms (codes "stream") any_integer bound.0 (integer_deep 2) bound.1,
+            of_required 2 t ms (codes "rid") (number (within 0 65535)) rid.0 (number_deep 2 (within 0 65535)) rid.1,
             (
-              of_optional 2 t ms (codes "flags") 0 (number (within 0 31)) flags.0 (number_deep 2 (within 0 31)) flags.1,
+              of_required 2 t ms (codes "stream") any_integer bound.0 (integer_deep 2) bound.1,
               (
-                of_optional 2 t ms (codes "offset") 0 (number (bounds_of_form 0 greatest Pages)) offset.0
-                    (number_deep 2 (bounds_of_form 0 greatest Pages)) offset.1,
+                of_optional 2 t ms (codes "flags") 0 (number (within 0 31)) flags.0 (number_deep 2 (within 0 31)) flags.1,
                 (
-                  found.0,
+                  of_optional 2 t ms (codes "offset") 0 (number (bounds_of_form 0 greatest Pages)) offset.0
+                      (number_deep 2 (bounds_of_form 0 greatest Pages)) offset.1,
                   (
-                    found.1.0,
+                    found.0,
                     (
-                      found.1.1.0,
+                      found.1.0,
                       (
-                        found.1.1.1.0,
+                        found.1.1.0,
                         (
-                          found.1.1.1.1.0,
+                          found.1.1.1.0,
                           (
-                            of_optional 2 t ms (codes "info") [] (hex_bytes 1024) info.0 (hex_deep 2 1024) info.1,
+                            found.1.1.1.1.0,
                             (
-                              of_optional 2 t ms (codes "bars") [] (list (count_between 0 6) (table bar_keys)) bars.0
-                                  (list_deep 1 (count_between 0 6) (table bar_keys) (table_deep 0 bar_keys bar_deep))
-                                  bars.1,
-                              tt,
+                              of_optional 2 t ms (codes "info") [] (hex_bytes 1024) info.0 (hex_deep 2 1024) info.1,
+                              (
+                                of_optional 2 t ms (codes "bars") [] (list (count_between 0 6) (table bar_keys)) bars.0
+                                    (list_deep 1 (count_between 0 6) (table bar_keys) (table_deep 0 bar_keys bar_deep))
+                                    bars.1,
+                                tt,
+                              ),
                             ),
                           ),
                         ),

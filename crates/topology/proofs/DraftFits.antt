@@ -14,7 +14,7 @@ use Rattle.toml_walk.specs.Bounds.{greatest, within, bounds_of_form}
 use Rattle.toml_walk.specs.Paths.{Path}
 use Rattle.toml_walk.specs.Walk.{only_known, required_value, optional, table, list, count_between, any_number}
 use Rattle.toml_walk.specs.Walk.{given_value}
-use Rattle.toml_walk.specs.Values.{integer, number, key_bytes, hex_bytes}
+use Rattle.toml_walk.specs.Values.{integer, number, truth, key_bytes, hex_bytes}
 use Rattle.toml_walk.proofs.Holds.{Holds, gives, anything, next, weaker, Admitted, Listed, number_holds, key_holds}
 use Rattle.toml_walk.proofs.Holds.{hex_holds, required_holds, optional_holds, given_holds, table_holds, list_holds}
 use Rattle.topology.specs.declared.draft.LinkDraft.{LinkDraft}
@@ -115,6 +115,7 @@ interface_holds version t ms =
     (optional_holds _ t ms (codes "offset") 0 _ (record { least = lit≤ tt; most = lit≤ tt; form = refl })
     (number_holds _)) (λ offset offset_fits.
     next FitsRegisters DraftFits (register_keys t ms) _ (registers_hold t ms) (λ registers registers_fit.
+    next (λ _. Unit {0}) DraftFits (optional t ms (codes "reads") false truth) _ (anything _) (λ reads _.
     next (λ bytes. (length bytes ≤ 1024) × AreBytes bytes) DraftFits (optional t ms (codes "info") [] (hex_bytes 1024))
     _
     (optional_holds _ t ms (codes "info") [] _ (lit≤ tt, All-nil (λ b. b < 256)) (hex_holds 1024)) (λ info info_fits.
@@ -138,7 +139,7 @@ interface_holds version t ms =
       info_bytes = info_fits.1;
       bars = bars_fit.0;
       each_bar = bars_fit.1;
-    })))))))))
+    }))))))))))
 
 pub record LinkHolds (l : LinkDraft) : Type 0 where
   pub nonces : length l.nonces ≤ 1024

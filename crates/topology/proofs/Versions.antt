@@ -1,6 +1,7 @@
 -- What is read of a table in its version is read of it in version 2.
 use Rattle.std.proofs.Common.{◌≡◌, refl, ◌∙◌, ℕ, ◌==◌, ◌||◌, Bool, true, false, List, []}
 use Rattle.std.proofs.Common.{◌∷◌, Option, Some, None, Ok, codes}
+use Rattle.std.specs.Str.{bytes_eq}
 use Rattle.toml.specs.Data.{Members, get_member}
 use Rattle.ide_types.specs.declared.stream.StreamPlan.{StreamPlan}
 use Rattle.toml_walk.specs.Values.{key_bytes}
@@ -49,7 +50,9 @@ or_right false b h = h
 both_known : (b : Bool) (version : ℕ) (k : Text) → (version == 2) ≡ b → is_known (interface_names version) k ≡ true
     → is_known (interface_names 2) k ≡ true
 both_known true version k is h = rw is at h
-both_known false version k is h = or_right _ _ (or_right _ _ (rw is at h))
+both_known false version k is h =
+    or_right (bytes_eq (codes "pasid") k) _ (or_right (bytes_eq (codes "ats") k) _
+    (or_right (bytes_eq (codes "reads") k) _ (rw is at h)))
 
 pub interface_extends : (version : ℕ) (t : Path) (ms : Members)
     → Carries Same (interface_keys version t ms) (interface_keys 2 t ms)

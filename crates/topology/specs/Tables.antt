@@ -135,9 +135,10 @@ common_names =
     ∷ codes "cacheline"
     ∷ codes "tph" ∷ codes "info" ∷ codes "bars" ∷ []
 
--- version 2 has two more
+-- version 2 has three more
 abbrev pub interface_names : ℕ → List Text
-interface_names version = if version == 2 then codes "pasid" ∷ codes "ats" ∷ common_names else common_names
+interface_names version =
+    if version == 2 then codes "pasid" ∷ codes "ats" ∷ codes "reads" ∷ common_names else common_names
 
 -- the registers of an interface
 unfoldable pub register_keys : Path → Members → Result RegisterDraft PlanFault
@@ -168,6 +169,7 @@ interface_keys version t ms = do
   flags ← optional t ms (codes "flags") 0 (number (within 0 31))
   offset ← optional t ms (codes "offset") 0 (number (bounds_of_form 0 greatest Pages))
   registers ← register_keys t ms
+  reads ← optional t ms (codes "reads") false truth
   info ← optional t ms (codes "info") [] (hex_bytes 1024)
   bars ← optional t ms (codes "bars") [] (list (count_between 0 6) (table bar_keys))
   Ok (record {
@@ -184,6 +186,7 @@ interface_keys version t ms = do
       tph = registers.tph;
       pasid = registers.pasid;
       ats = registers.ats;
+      reads = reads;
       info = info;
       bars = bars;
     };

@@ -13,7 +13,7 @@ use ide_types::{BarPlan, Bytes, InterfacePlan, Items};
 use std::alloc::Global;
 use toml::Value;
 use toml_walk::{
-    Byte, Form, GREATEST, HexBytes, Keys, ListOf, Long, Path, PlanError, Reader, Wide, Word,
+    Byte, Form, GREATEST, HexBytes, Keys, ListOf, Long, Path, PlanError, Reader, Truth, Wide, Word,
     integer_of, table_of,
 };
 
@@ -91,6 +91,7 @@ const NAMES: &[&str] = &[
 const NEWER_NAMES: &[&str] = &[
     "pasid",
     "ats",
+    "reads",
     "rid",
     "stream",
     "flags",
@@ -144,6 +145,7 @@ fn interface_of(version: u8, keys: &Keys) -> Result<InterfaceDraft, PlanError>
     let flags = keys.optional("flags", 0, &Word::within(0, 31))?;
     let offset = keys.optional("offset", 0, &Wide::formed(0, Form::Pages))?;
     let registers = registers_of(keys)?;
+    let reads = keys.optional("reads", false, &Truth)?;
     let none = Bytes::new(Vec::new(keys.alloc));
     let info = keys.optional("info", none, &HexBytes { most: 1024 })?;
     let none = Items::new(Vec::new(keys.alloc));
@@ -162,6 +164,7 @@ fn interface_of(version: u8, keys: &Keys) -> Result<InterfaceDraft, PlanError>
             tph: registers.tph,
             pasid: registers.pasid,
             ats: registers.ats,
+            reads,
             info,
             bars,
         },

@@ -1,5 +1,6 @@
 -- A completion has a spelling, if the fields of the read are in range and memory has bytes.
-use Rattle.std.proofs.Common.{◌≡◌, ℕ, ◌+◌, ◌*◌, ◌%◌, ◌<◌, ◌≤◌, Bool, true, false, cond, eqb, length, get_or, All, refl}
+use Rattle.std.proofs.Common.{◌≡◌, ℕ, ◌+◌, ◌*◌, ◌%◌, ◌^◌, ◌<◌, ◌≤◌, Bool, true, false, cond, eqb, length, get_or, All}
+use Rattle.std.proofs.Common.{refl}
 use Rattle.std.proofs.Common.{◌∙◌, arith, lit<, Ok}
 use Rattle.std.specs.List.{range_with_len}
 use Rattle.std.proofs.lemmas.Bool.Decides.{nat_tests}
@@ -14,10 +15,11 @@ use Rattle.trusted_memory.specs.declared.read.MemReadView.{MemReadView}
 use Rattle.trusted_memory.specs.Requests.{FitsRead}
 use Rattle.trusted_memory.specs.Completions.{read_bytes, completion_head, completion, completion_bytes}
 
-pub head_fits : (r : MemReadView) → FitsRead r → FitsHead (completion_head r)
-head_fits r fits = record {
+pub head_fits : (completer : ℕ) (r : MemReadView) → completer < 2 ^ 16 → FitsRead r
+    → FitsHead (completion_head completer r)
+head_fits completer r small fits = record {
   lead = record { tc = fits.tc; attr = fits.attr; at = lit< tt; length = omega arith };
-  fields = (refl, lit< tt, (lit< tt, refl), omega arith, fits.requester, fits.tag, omega arith);
+  fields = (refl, small, (lit< tt, refl), omega arith, fits.requester, fits.tag, omega arith);
 }
 
 length-read : (n : ℕ) → 1 ≤ n → n ≤ 1024 → 4 * n ≡ 4 * cond (eqb (n % 1024) 0) 1024 (n % 1024)
@@ -40,10 +42,11 @@ read_bytes_small byte r small =
     (λ k d less. small_if (is_enabled r.span (place k d)) (byte (r.span.address + place k d))
     (small (r.span.address + place k d)))
 
-pub reads_if_small : (byte : ℕ → ℕ) (r : MemReadView) → FitsRead r → All (λ b. b < 256) (read_bytes byte r.span)
-    → read_of (completion_bytes byte r) ≡ Ok (completion byte r)
+pub reads_if_small : (completer : ℕ) (byte : ℕ → ℕ) (r : MemReadView) → completer < 2 ^ 16 → FitsRead r
+    → All (λ b. b < 256) (read_bytes byte r.span)
+    → read_of (completion_bytes completer byte r) ≡ Ok (completion completer byte r)
 unfolding completion_bytes
-reads_if_small byte r fits small =
-    let spells = spells_whole (completion_head r) (read_bytes byte r.span) (head_fits r fits)
+reads_if_small completer byte r little fits small =
+    let spells = spells_whole (completion_head completer r) (read_bytes byte r.span) (head_fits completer r little fits)
     (length-read_bytes byte r fits) small in
-    (read_spells_tlp (completion byte r) (completion_bytes byte r)).0 spells.0
+    (read_spells_tlp (completion completer byte r) (completion_bytes completer byte r)).0 spells.0

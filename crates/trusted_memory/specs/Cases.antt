@@ -29,7 +29,7 @@ case_completion length count lower payload = 0x4a ∷ 0x00 ∷ 0x00 ∷ length �
 -- these are the completion's bytes of the read that these bytes are, after the write
 abbrev pub IsAnswer : List ℕ → List ℕ → Type 0
 IsAnswer read answer =
-    option_map (completion_bytes (byte_last_written (newest_first (write_of_tlp (tlp_read written_bytes) ∷ []) [])))
+    option_map (completion_bytes 0 (byte_last_written (newest_first (write_of_tlp (tlp_read written_bytes) ∷ []) [])))
     (memory_read (head_read read))
     ≡ Some answer
 

@@ -1,5 +1,5 @@
 -- The completion that answers a memory read (PCI Express Base 6.0 sections 2.2.9 and 2.3.1). This profile's own: one
--- completion answers the whole read, its completer ID is 0, and the bytes that are not enabled are 0.
+-- completion answers the whole read, and the bytes that are not enabled are 0.
 use Rattle.std.specs.Prelude.{ℕ, ◌+◌, ◌-◌, ◌%◌, false, true, if◌then◌else◌, List, [], ◌∷◌, map, filter, Option, Some}
 use Rattle.std.specs.Prelude.{None}
 use Rattle.std.specs.List.{range_with_len}
@@ -51,13 +51,13 @@ lower_address s = (s.address + first_or (first_and_last (enabled_places s)) 0) %
 abbrev pub read_bytes : (ℕ → ℕ) → Span → List ℕ
 read_bytes byte s = map (λ i. if is_enabled s i then byte (s.address + i) else 0) (range_with_len 0 (span_byte_count s))
 
--- Length counts double words, and 0 stands for 1024
-abbrev pub completion_head : MemReadView → HeadView
-completion_head r = record {
+-- by the completer of this ID; Length counts double words, and 0 stands for 1024
+abbrev pub completion_head : ℕ → MemReadView → HeadView
+completion_head completer r = record {
   lead = record { wide = false; tc = r.tc; attr = r.attr; at = 0; length = r.span.length % 1024 };
   has_payload = true;
   fields = Completion (record {
-    completer = 0;
+    completer = completer;
     status = Successful;
     bcm = false;
     count = byte_count r.span;
@@ -67,9 +67,13 @@ completion_head r = record {
   });
 }
 
--- the completion of a read of memory whose byte at each address this function gives
-abbrev pub completion : (ℕ → ℕ) → MemReadView → Tlp
-completion byte r = with_payload (completion_head r) (read_bytes byte r.span)
+-- the completion of a read of memory whose byte at each address this function gives, by the completer of this ID
+abbrev pub completion : ℕ → (ℕ → ℕ) → MemReadView → Tlp
+completion completer byte r = with_payload (completion_head completer r) (read_bytes byte r.span)
 
-unfoldable pub completion_bytes : (ℕ → ℕ) → MemReadView → List ℕ
-completion_bytes byte r = tlp_bytes (completion byte r)
+unfoldable pub completion_bytes : ℕ → (ℕ → ℕ) → MemReadView → List ℕ
+completion_bytes completer byte r = tlp_bytes (completion completer byte r)
+
+-- of a host (this profile)
+abbrev pub host_completer : ℕ
+host_completer = 0

@@ -28,9 +28,12 @@ pub use Rattle.trusted_memory.specs.Memory.{byte_after_effect, IsLeftBy, Leads}
 pub use Rattle.trusted_memory.specs.Pages.{IsBlank}
 pub use Rattle.trusted_memory.specs.declared.read.MemReadView.{MemReadView}
 pub use Rattle.trusted_memory.specs.declared.queue.WaitingRead.{WaitingRead}
+pub use Rattle.trusted_memory.specs.declared.queue.ReadTarget.{ReadTarget}
+pub use Rattle.trusted_memory.specs.declared.queue.ReadArrival.{ReadArrival}
 pub use Rattle.trusted_memory.specs.Requests.{memory_read, FitsRead}
 pub use Rattle.trusted_memory.specs.Completions.{enabled_places, first_and_last, first_or, extent, byte_count}
 pub use Rattle.trusted_memory.specs.Completions.{lower_address, read_bytes, completion_head, completion}
+pub use Rattle.trusted_memory.specs.Completions.{host_completer}
 unfoldable pub use Rattle.trusted_memory.specs.Completions.{completion_bytes}
 pub use Rattle.trusted_memory.specs.Waiting.{most_waiting, read_cause, read_effect, effect_by_read, request_effect}
 pub use Rattle.trusted_memory.specs.Waiting.{waiting_after}

@@ -1,4 +1,4 @@
--- Which trusted reads wait for their answer, and the effects of requests at a host's port (this profile).
+-- Which reads wait at a port for their answer, and the effects of requests at a host's port (this profile).
 use Rattle.std.specs.Prelude.{ℕ, ◌≤◌, nat_le, Bool, true, if◌then◌else◌, List, [], ◌∷◌, ◌++◌, length, All, Option, Some}
 use Rattle.std.specs.Prelude.{None}
 use Rattle.std.specs.Option.{option_or}
@@ -16,7 +16,7 @@ use Rattle.trusted_memory.specs.declared.queue.WaitingRead.{WaitingRead}
 use Rattle.trusted_memory.specs.declared.read.MemReadView.{MemReadView}
 use Rattle.trusted_memory.specs.Requests.{memory_read, FitsRead}
 
--- so many reads of a link may wait
+-- so many reads may wait at a port
 abbrev pub most_waiting : ℕ
 most_waiting = 64
 

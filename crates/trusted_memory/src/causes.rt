@@ -1,4 +1,4 @@
-//! Why memory requests are blocked.
+//! Why memory requests are blocked (this profile).
 
 ghost use Rattle.std.specs.Prelude.{◌≡◌};
 ghost use Rattle.trusted_memory.specs.Causes.{grant_cause, place_cause, block_cause};
@@ -9,7 +9,7 @@ use event_verdicts::{BlockCause, binding_cause};
 use ide_types::Region;
 
 /// Why the grant does not admit a trusted request: its requester is no running interface; it came on another stream
-/// than the bound one; its draw is less than the floor (this profile).
+/// than the bound one; its draw is less than the floor.
 pub fn grant_cause(grant: Grant) -> Option<BlockCause>
     ensures { result ≡ grant_cause grant.bound grant.stream grant.draw }
 {
@@ -19,7 +19,7 @@ pub fn grant_cause(grant: Grant) -> Option<BlockCause>
     }
 }
 
-/// Why the bytes have no place: they are not all in one region; they cross a 4 KiB boundary (this profile).
+/// Why the bytes have no place: they are not all in one region; they cross a 4 KiB boundary.
 pub fn place_cause(regions: &[Region], span: Span) -> Option<BlockCause>
     ensures { result ≡ place_cause regions.now span }
 {

@@ -1,16 +1,14 @@
 //! The completion that answers a read.
 
-ghost use Rattle.std.specs.Prelude.{◌≡◌, ◌+◌, ◌≤◌, ◌<◌, ◌++◌, ℕ, List, Some, Ok, true, IfSome, All, length};
+ghost use Rattle.std.specs.Prelude.{◌≡◌, ◌+◌, ◌≤◌, ◌<◌, ◌++◌, ℕ, Some, Ok, true, IfSome, All, length};
 ghost use Rattle.std.specs.Prelude.{slice_index, vec_len, vec_capacity, if◌then◌else◌};
 ghost use Rattle.tlp_layout.specs.Reading.{read_of};
 ghost use Rattle.trusted_memory.specs.Spans.{span_byte_count, is_enabled};
-ghost use Rattle.trusted_memory.specs.Writes.{Write, byte_last_written};
-ghost use Rattle.trusted_memory.specs.Memory.{byte_at, IsLeftBy};
 ghost use Rattle.trusted_memory.specs.Requests.{FitsRead};
 ghost use Rattle.trusted_memory.specs.Completions.{enabled_places, first_and_last, first_or, byte_count, lower_address};
 ghost use Rattle.trusted_memory.specs.Completions.{read_bytes, completion_head, completion, completion_bytes};
 
-use crate::{MemReadView, Span, Trusted};
+use crate::{MemReadView, ShownMemory, Span};
 use tlp_layout::{CompletionFields, CompletionStatus, Fields, HeadView, Lead, write_head};
 
 /// The most bytes of a completion with data: a header of 3 double words, and 1,024 double words (PCI Express Base 6.0
@@ -92,8 +90,8 @@ fn lower_address(span: Span, ends: Option<(usize, usize)>) -> u8
 
 // ---- the header
 
-fn completion_head(read: &MemReadView) -> HeadView
-    ensures { result ≡ completion_head read.now }
+fn completion_head(completer: u16, read: &MemReadView) -> HeadView
+    ensures { result ≡ completion_head completer read.now }
 {
     let ends = enabled_ends(read.span);
     HeadView {
@@ -106,7 +104,7 @@ fn completion_head(read: &MemReadView) -> HeadView
         },
         has_payload: true,
         fields: Fields::Completion(CompletionFields {
-            completer: 0,
+            completer,
             status: CompletionStatus::Successful,
             bcm: false,
             count: byte_count(read.span, ends),
@@ -147,20 +145,22 @@ fn clear_others(span: Span, bytes: &mut [u8])
     }
 }
 
-fn read_into(memory: &Trusted, span: Span, bytes: &mut [u8])
-    requires { length bytes.old ≡ span_byte_count span }
-    ensures { bytes.new ≡ read_bytes (byte_at memory.now.contents) span }
+fn read_into<M: ShownMemory>(memory: &M, span: Span, bytes: &mut [u8])
+    requires long { length bytes.old ≡ span_byte_count span }
+    requires shown { M.shows memory.now span.address (span_byte_count span) ≡ true }
+    ensures { bytes.new ≡ read_bytes (M.byte memory.now) span }
 {
-    memory.copy(span.address, bytes);
+    memory.show(span.address, bytes);
     clear_others(span, bytes);
 }
 
-fn append_data(memory: &Trusted, span: Span, out: &mut Vec<u8>)
+fn append_data<M: ShownMemory>(memory: &M, span: Span, out: &mut Vec<u8>)
     requires short { span_byte_count span ≤ 4096 }
+    requires shown { M.shows memory.now span.address (span_byte_count span) ≡ true }
     requires room { vec_len out.old + 4096 ≤ vec_capacity out.old }
-    ensures items { out.new.items ≡ out.old.items ++ read_bytes (byte_at memory.now.contents) span }
+    ensures items { out.new.items ≡ out.old.items ++ read_bytes (M.byte memory.now) span }
     ensures capacity { vec_capacity out.old ≤ vec_capacity out.new }
-    ensures bytes { All (λ b. b < 256) (read_bytes (byte_at memory.now.contents) span) }
+    ensures bytes { All (λ b. b < 256) (read_bytes (M.byte memory.now) span) }
 {
     let mut page = [0u8; DATA_BYTES];
     let bytes = &mut page[..span.bytes()];
@@ -169,23 +169,29 @@ fn append_data(memory: &Trusted, span: Span, out: &mut Vec<u8>)
 }
 
 /// Appends the completion that answers a read of this memory as it stands, with as many bytes of data as the read
-/// names, and gives its header (PCI Express Base 6.0 section 2.2.9). Its completer ID is 0, and a byte that the read
-/// does not enable, or that no region has, is 0 (this profile). That there is room for 4,108 bytes and that the read's
-/// fields are in range are the caller's conditions. It takes no memory.
-pub fn complete(memory: &Trusted, read: &MemReadView, out: &mut Vec<u8>) -> HeadView
+/// names, and gives its header (PCI Express Base 6.0 section 2.2.9). Its completer ID is `completer`, and a byte that
+/// the read does not enable is 0 (this profile). That there is room for 4,108 bytes, that the memory shows the bytes and
+/// that the read's fields are in range are the caller's conditions. It takes no memory.
+pub fn complete<M: ShownMemory>(
+    memory: &M,
+    completer: u16,
+    read: &MemReadView,
+    out: &mut Vec<u8>,
+) -> HeadView
+    requires shown { M.shows memory.now read.now.span.address (span_byte_count read.now.span) ≡ true }
     requires fits { FitsRead read.now }
     requires room { vec_len out.old + COMPLETION_BYTES ≤ vec_capacity out.old }
-    ensures bytes { out.new.items ≡ out.old.items ++ completion_bytes (byte_at memory.now.contents) read.now }
-    // That is, of each enabled byte, what the last applied write that enables it left, else 0.
-    ensures last { (writes : List Write) → IsLeftBy memory.now.contents writes
-        → out.new.items ≡ out.old.items ++ completion_bytes (byte_last_written writes) read.now }
+    ensures bytes { out.new.items ≡ out.old.items ++ completion_bytes completer (M.byte memory.now) read.now }
+    // That is, of memory with these bytes.
+    ensures alike { (byte : ℕ → ℕ) → ((a : ℕ) → M.byte memory.now a ≡ byte a)
+        → out.new.items ≡ out.old.items ++ completion_bytes completer byte read.now }
     ensures capacity { vec_capacity out.old ≤ vec_capacity out.new }
-    ensures head { result ≡ completion_head read.now }
+    ensures head { result ≡ completion_head completer read.now }
     // So it is read again.
-    ensures reads { let byte = byte_at memory.now.contents in
-        read_of (completion_bytes byte read.now) ≡ Ok (completion byte read.now) }
+    ensures reads { read_of (completion_bytes completer (M.byte memory.now) read.now)
+        ≡ Ok (completion completer (M.byte memory.now) read.now) }
 {
-    let head = completion_head(read);
+    let head = completion_head(completer, read);
     write_head(&head, out);
     append_data(memory, read.span, out);
     head

@@ -1,29 +1,51 @@
-//! The reads of a link that wait.
+//! The reads that wait at a port (this profile).
 
-ghost use Rattle.std.specs.Prelude.{◌≡◌, ◌≤◌, [], IfOk, IfSome, length, drop};
+ghost use Rattle.std.specs.Prelude.{◌≡◌, ◌≤◌, [], IfOk, IfSome, None, length, drop};
 ghost use Rattle.std.specs.List.{slice_get};
 ghost use Rattle.trusted_memory.specs.Requests.{FitsRead};
 
 use crate::{Grant, MemReadView, Trusted};
 use event_verdicts::{BlockCause, Effect};
-use ide_types::OutOfMemory;
+use ide_types::{OutOfMemory, PortName};
 use std::alloc::Global;
 use std::collections::VecDeque;
 use std::marker::Model;
 
-/// The most reads of a link that may wait (this profile).
+/// The most reads that may wait at a port.
 pub const MOST_WAITING: usize = 64;
 
-/// A read that waits for its answer (this profile).
+/// What a read of a device's memory is of: an interface, by its place on its link, and its BAR, by its number.
+#[derive(Clone, Copy, PartialEq, Eq)]
+pub struct ReadTarget {
+    pub interface: usize,
+    pub bar: usize,
+}
+
+/// How a read came to a port.
+#[derive(Clone, Copy, PartialEq, Eq)]
+pub struct ReadArrival {
+    /// The end of the line that it came on, at this port.
+    pub end: PortName,
+    /// The ID of its stream.
+    pub stream: u8,
+    /// The draw of the key of the unit that brought it.
+    pub draw: u32,
+    /// Whether it had T.
+    pub trusted: bool,
+}
+
+/// A read that waits for its answer.
 #[derive(Clone, Copy, PartialEq, Eq)]
 pub struct WaitingRead {
     /// The read.
     pub read: MemReadView,
-    /// The draw of the key of the unit that brought it.
-    pub draw: u32,
+    /// How it came.
+    pub came: ReadArrival,
+    /// The interface and BAR that claimed it; `None` of a read of trusted memory.
+    pub target: Option<ReadTarget>,
 }
 
-/// The trusted reads of a link that wait for their answer, at most 64 (this profile). Contracts see the list of them,
+/// The reads that wait at a port for their answer, at most 64. Contracts see the list of them,
 /// oldest first. It has room for all of them from the start.
 #[derive(Drop)]
 pub struct Reads {
@@ -62,8 +84,8 @@ impl Reads {
         self.waiting.len()
     }
 
-    // One more, unless as many wait as may.
-    fn push(&mut self, read: WaitingRead) -> Effect
+    /// One more, unless as many wait as may.
+    pub fn push(&mut self, read: WaitingRead) -> Effect
         requires { FitsRead read.read }
         ensures effect { result ≡ read_effect (full_cause (length self.old)) }
         ensures reads { self.new ≡ waiting_after result read self.old }
@@ -76,22 +98,32 @@ impl Reads {
     }
 
     /// Offers a memory read with T that a host's port accepted: it waits as the last, or is blocked by the first cause
-    /// that holds. The causes are those of a trusted write to the same bytes, and then that 64 reads wait (this
-    /// profile). `draw` is that of the key of the read's unit. A blocked read changes nothing. That the fields of the
-    /// read are in range is the caller's condition. It takes no memory.
-    pub fn offer(&mut self, memory: &Trusted, read: &MemReadView, draw: u32, grant: Grant) -> Effect
+    /// that holds. The causes are those of a trusted write to the same bytes, and then that 64 reads wait. A blocked
+    /// read changes nothing. That the fields of the read are in range is the caller's condition. It takes no memory.
+    pub fn offer(
+        &mut self,
+        memory: &Trusted,
+        read: &MemReadView,
+        came: ReadArrival,
+        grant: Grant,
+    ) -> Effect
         requires { FitsRead read.now }
         ensures effect { result ≡ read_effect
             (read_cause memory.now.contents.regions read.now.span grant (length self.old)) }
-        ensures reads { self.new ≡ waiting_after result (record { read = read.now; draw = draw }) self.old }
+        ensures reads { self.new ≡ waiting_after result
+            (record { read = read.now; came = came; target = None }) self.old }
     {
         match memory.block_cause(read.span, true, grant) {
             Some(cause) => Effect::Blocked(cause),
-            None => self.push(WaitingRead { read: *read, draw }),
+            None => self.push(WaitingRead {
+                read: *read,
+                came,
+                target: None,
+            }),
         }
     }
 
-    /// The oldest read that waits, with its draw; `None` exactly if none waits.
+    /// The oldest read that waits; `None` exactly if none waits.
     pub fn first(&self) -> Option<WaitingRead>
         ensures oldest { result ≡ slice_get self.now 0 }
         // So it can be completed.

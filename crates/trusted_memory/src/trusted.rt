@@ -1,4 +1,4 @@
-//! The regions and their pages.
+//! The regions and their pages (this profile).
 
 ghost use Rattle.std.specs.Prelude.{◌≡◌, ◌+◌, ◌/◌, ◌^◌, ◌≤◌, ◌==◌, ◌&&◌, ◌||◌, ℕ, List, [], ◌∷◌, true, false, All};
 ghost use Rattle.std.specs.Prelude.{Some, IfOk, IsOk, OnOk, length, max, if◌then◌else◌};
@@ -20,7 +20,7 @@ use std::collections::HashMap;
 use std::marker::Model;
 use tlp_layout::TlpView;
 
-/// The memory of a confidential guest at the host (PCI Express Base 6.0 chapter 11, in this profile). Contracts see its
+/// The memory of a confidential guest at the host (PCI Express Base 6.0 chapter 11). Contracts see its
 /// contents, that is its regions and the bytes that stand in them; and beside them which pages of 4,096 bytes are
 /// there, and the number of spare pages, whose memory is taken already.
 #[derive(Drop)]
@@ -134,7 +134,7 @@ impl Trusted {
     /// Applies a memory write that was accepted at a host's port, or tells the first cause that blocks it: it is not
     /// trusted (T is clear); its requester is no running interface; it came on another stream than the bound one; its
     /// draw is less than the floor; the bytes of its double words are not all in one region; they cross a 4 KiB
-    /// boundary (this profile). The payload's enabled bytes are written to ascending addresses. It takes no memory, and
+    /// boundary. The payload's enabled bytes are written to ascending addresses. It takes no memory, and
     /// a spare page only if the write is applied and its page is not there.
     pub fn apply(&mut self, write: &MemWriteView<'_>, trusted: bool, grant: Grant) -> Effect
         requires { 1 ≤ self.old.spare }

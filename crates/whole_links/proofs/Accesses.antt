@@ -10,8 +10,7 @@ use Rattle.ide_types.specs.declared.port.PortName.{PortName}
 use Rattle.ide_types.specs.Sub.{direction_number}
 use Rattle.ide_types.specs.declared.interface.BarPlan.{BarPlan}
 use Rattle.ide_types.specs.declared.plan.Plan.{Plan}
-use Rattle.script_events.specs.declared.event.Event.TheVariants.{Access, Reset, Forward}
-use Rattle.script_events.specs.declared.event.AccessEvent.TheVariants as ae
+use Rattle.script_events.specs.declared.event.Event.TheVariants.{Reset, Forward}
 use Rattle.event_verdicts.specs.declared.verdict.Verdict.{Verdict}
 use Rattle.event_verdicts.specs.declared.verdict.Verdict.TheVariants as v
 use Rattle.spec_keys.proofs.Tests.{same-true}
@@ -24,8 +23,14 @@ use Rattle.guarded_memory.specs.Contents.{GuardedMemory, MmioLeads}
 use Rattle.spec_links.specs.Hops.{clears_hop, is_forward_on}
 use Rattle.link_stores.specs.declared.link.LinkAccesses.{LinkAccesses}
 use Rattle.join_ends.specs.Turns.{hops_cleared}
-use Rattle.join_ends.proofs.Turns.{turn_at, rests_all, turn_then}
-use Rattle.all_links.specs.{waiting_reads_after, LinkEnds, IsThere}
+use Rattle.join_ends.proofs.Turns.{reads_same, turn_at, rests_all, turn_then}
+use Rattle.link_stores.specs.{reads_on, with_reads}
+use Rattle.machine_ports.specs.Machine.{port_at}
+use Rattle.spec_links.specs.Plan.{is_same_port}
+use Rattle.ide_types.specs.Sub.{sent_direction}
+use Rattle.ide_types.specs.declared.port.Side.{Side}
+use Rattle.ide_types.specs.declared.port.Side.TheVariants.{Host, Device}
+use Rattle.all_links.specs.{LinkEnds, IsThere}
 use Rattle.all_links.specs.declared.links.Links.{Links}
 use Rattle.all_links.specs.Interfaces.{interface_named}
 use Rattle.all_links.specs.Accesses.{is_sending, AccessesTurn, carried_on_link, same_reads, same_floors, same_carried}
@@ -38,46 +43,82 @@ use Rattle.std.specs.Option.{option_map_or}
 use Rattle.interface_state.specs.Machine.{DeviceTdi}
 use Rattle.all_links.proofs.Asked.{if_some, is_found}
 use Rattle.whole_links.specs.Accesses.{takes_read, is_sealed, happens_at, bars_named, floors_if, floors_set}
-use Rattle.whole_links.specs.Accesses.{reset_happens, carried_after_event, AccessesInterface}
+use Rattle.whole_links.specs.Accesses.{reset_happens, carried_after_event, reads_after_event, AccessesInterface}
+use Rattle.whole_links.specs.Besides.{answer_event}
 
 -- ---- answers to reads
 
-keeps_reads : (plan : Plan) (link : ℕ) (w : Verdict) (k : ℕ) (ws : List WaitingRead) → takes_read w ≡ false
-    → is_sending w ≡ true → waiting_reads_after plan [] (Access (ae.Answer link)) w k ws ≡ ws
-keeps_reads plan link w k ws keeps sends = grind arith
+keeps_reads : (plan : Plan) (side : Side) (link : ℕ) (w : Verdict) (port : PortName) (ws : List WaitingRead)
+    → takes_read w ≡ false → is_sending w ≡ true → reads_after_event plan (answer_event side link) w port ws ≡ ws
+keeps_reads plan Host link w port ws keeps sends = grind arith
+keeps_reads plan Device link w port ws keeps sends = grind arith
 
-takes_reads : (plan : Plan) (link : ℕ) (w : Verdict) (k : ℕ) (ws : List WaitingRead) → takes_read w ≡ true
-    → waiting_reads_after plan [] (Access (ae.Answer link)) w k ws ≡ (if link == k then drop 1 ws else ws)
-takes_reads plan link w k ws takes = grind arith
+takes_reads : (plan : Plan) (side : Side) (link : ℕ) (w : Verdict) (port : PortName) (ws : List WaitingRead)
+    → takes_read w ≡ true
+    → reads_after_event plan (answer_event side link) w port ws
+    ≡ (if is_same_port (port_at side link) port then drop 1 ws else ws)
+takes_reads plan Host link w port ws takes = grind arith
+takes_reads plan Device link w port ws takes = grind arith
 
-pub answer_keeps : (plan : Plan) (xs : List LinkAccesses) (link : ℕ) (w : Verdict) → takes_read w ≡ false → is_sending w
-    ≡ true → AccessesTurn (waiting_reads_after plan [] (Access (ae.Answer link)) w) same_floors nothing_happens
-    same_carried xs xs
-answer_keeps plan xs link w keeps sends =
+pub answer_keeps : (plan : Plan) (xs : List LinkAccesses) (side : Side) (link : ℕ) (w : Verdict)
+    → takes_read w ≡ false → is_sending w ≡ true
+    → AccessesTurn (reads_after_event plan (answer_event side link) w) same_floors nothing_happens same_carried xs xs
+answer_keeps plan xs side link w keeps sends =
     rests_all _ same_floors nothing_happens same_carried xs (λ k. record {
-      reads_rest = λ ws. keeps_reads plan link w k ws keeps sends;
+      reads_rest = λ q ws. keeps_reads plan side link w (port_at q k) ws keeps sends;
       floors_rest = λ ns. refl;
       nothing = λ older. refl;
       carried_rest = λ d ts. refl;
     })
 
-pub answer_takes : (plan : Plan) (xs : List LinkAccesses) (link : ℕ) (a a' : LinkAccesses) (w : Verdict)
-    → slice_get xs link ≡ Some a → a' ≡ record a { reads = drop 1 a.reads } → takes_read w ≡ true
-    → AccessesTurn (waiting_reads_after plan [] (Access (ae.Answer link)) w) same_floors nothing_happens same_carried xs
+-- the first of those that wait at the port alone
+abbrev first_taken : Side → LinkAccesses → LinkAccesses
+first_taken side a = with_reads side (drop 1 (reads_on side a)) a
+
+taken_on : (side q : Side) (link : ℕ) (a : LinkAccesses)
+    → reads_on q (first_taken side a)
+    ≡ (if is_same_port (port_at side link) (port_at q link) then drop 1 (reads_on q a) else reads_on q a)
+taken_on Host Host link a = sym (ap (λ (b : Bool). if b then drop 1 a.host_reads else a.host_reads) (same-true link))
+taken_on Host Device link a = refl
+taken_on Device Host link a = refl
+taken_on Device Device link a =
+    sym (ap (λ (b : Bool). if b then drop 1 a.device_reads else a.device_reads) (same-true link))
+
+not_there : (b c : Bool) (ws : List WaitingRead) → c ≡ false → (if b && c then drop 1 ws else ws) ≡ ws
+not_there true c ws other = ap (λ (b : Bool). if b then drop 1 ws else ws) other
+not_there false c ws other = refl
+
+floors_stay : (side : Side) (a : LinkAccesses) → (first_taken side a).floors ≡ a.floors
+floors_stay Host a = refl
+floors_stay Device a = refl
+
+memory_stays : (side : Side) (a : LinkAccesses) → (first_taken side a).guarded ≡ a.guarded
+memory_stays Host a = refl
+memory_stays Device a = refl
+
+queues_stay : (side : Side) (a : LinkAccesses) → (first_taken side a).carried ≡ a.carried
+queues_stay Host a = refl
+queues_stay Device a = refl
+
+pub answer_takes : (plan : Plan) (xs : List LinkAccesses) (side : Side) (link : ℕ) (a a' : LinkAccesses) (w : Verdict)
+    → slice_get xs link ≡ Some a → a' ≡ with_reads side (drop 1 (reads_on side a)) a → takes_read w ≡ true
+    → AccessesTurn (reads_after_event plan (answer_event side link) w) same_floors nothing_happens same_carried xs
     (slice_set xs link a')
-answer_takes plan xs link a a' w is after takes =
+answer_takes plan xs side link a a' w is after takes =
+    let memory = ap (λ (x : LinkAccesses). x.guarded) after ∙ memory_stays side a in
     turn_at _ same_floors nothing_happens same_carried xs link a a' is
     (record {
-      reads_are = ap (λ (x : LinkAccesses). x.reads) after ∙ sym (takes_reads plan link w link a.reads takes
-          ∙ ap (λ (b : Bool). if b then drop 1 a.reads else a.reads) (same-true link));
-      floors_are = ap (λ (x : LinkAccesses). x.floors) after;
-      sizes_are = ap (λ (x : LinkAccesses). x.guarded.sizes) after;
-      leads = subst (λ (g : GuardedMemory). MmioLeads a.guarded [] g)
-          (sym (ap (λ (x : LinkAccesses). x.guarded) after)) (λ older left. left);
-      carried_are = λ d. ap (λ (x : LinkAccesses). (queue_of x.carried d).tlps) after;
+      reads_are = λ q. ap (reads_on q) after ∙ taken_on side q link a
+          ∙ sym (takes_reads plan side link w (port_at q link) (reads_on q a) takes);
+      floors_are = ap (λ (x : LinkAccesses). x.floors) after ∙ floors_stay side a;
+      sizes_are = ap (λ (g : GuardedMemory). g.sizes) memory;
+      leads = subst (λ (g : GuardedMemory). MmioLeads a.guarded [] g) (sym memory) (λ older left. left);
+      carried_are = λ d. ap (λ (x : LinkAccesses). (queue_of x.carried d).tlps) after
+          ∙ ap (λ (q : HopQueues). (queue_of q d).tlps) (queues_stay side a);
     })
     (λ k other. record {
-      reads_rest = λ ws. takes_reads plan link w k ws takes ∙ ap (λ (b : Bool). if b then drop 1 ws else ws) other;
+      reads_rest = λ q ws. takes_reads plan side link w (port_at q k) ws takes
+          ∙ not_there (sent_direction side == sent_direction q) (link == k) ws other;
       floors_rest = λ ns. refl;
       nothing = λ older. refl;
       carried_rest = λ d ts. refl;
@@ -111,7 +152,8 @@ pub happens_here : (happens : Bool) (o : Option (ℕ × ℕ)) (which : ℕ → H
 happens_here happens o which at xs a a' happens_is named is after sizes leads =
     turn_at same_reads same_floors (happens_at happens o which) same_carried xs at.0 a a' is
     (record {
-      reads_are = ap (λ (x : LinkAccesses). x.reads) after;
+      reads_are = λ side. reads_same side a a' (ap (λ (x : LinkAccesses). x.host_reads) after)
+          (ap (λ (x : LinkAccesses). x.device_reads) after);
       floors_are = ap (λ (x : LinkAccesses). x.floors) after;
       sizes_are = sizes;
       leads = subst (λ (hs : List (Option Happened)). MmioLeads a.guarded hs a'.guarded)
@@ -119,7 +161,7 @@ happens_here happens o which at xs a a' happens_is named is after sizes leads =
       carried_are = λ d. ap (λ (x : LinkAccesses). (queue_of x.carried d).tlps) after;
     })
     (λ k other. record {
-      reads_rest = λ ws. refl;
+      reads_rest = λ side ws. refl;
       floors_rest = λ ns. refl;
       nothing = λ older.
           ap (λ (hs : List (Option Happened)). newest_happened hs older)
@@ -139,7 +181,8 @@ pub floors_here : (s : Links) (i : ℕ) (came : Bool) (at : ℕ × ℕ) (draw : 
 floors_here s i came at draw xs a a' came_is named is draw_is after =
     turn_at same_reads _ nothing_happens same_carried xs at.0 a a' is
     (record {
-      reads_are = ap (λ (x : LinkAccesses). x.reads) after;
+      reads_are = λ side. reads_same side a a' (ap (λ (x : LinkAccesses). x.host_reads) after)
+          (ap (λ (x : LinkAccesses). x.device_reads) after);
       floors_are = ap (λ (x : LinkAccesses). x.floors) after ∙ (ap (λ (n : ℕ). slice_set a.floors at.1 n) draw_is
           ∙ sym (floors_are at.0 a.floors
           ∙ ap (λ (b : Bool). if b then slice_set a.floors at.1 (device_draw s i at.0) else a.floors)
@@ -150,7 +193,7 @@ floors_here s i came at draw xs a a' came_is named is draw_is after =
       carried_are = λ d. ap (λ (x : LinkAccesses). (queue_of x.carried d).tlps) after;
     })
     (λ k other. record {
-      reads_rest = λ ws. refl;
+      reads_rest = λ side ws. refl;
       floors_rest = λ ns. floors_are k ns
           ∙ ap (λ (b : Bool). if b then slice_set ns at.1 (device_draw s i at.0) else ns) other;
       nothing = λ older. refl;
@@ -163,17 +206,22 @@ floors_here s i came at draw xs a a' came_is named is draw_is after =
 
 -- ---- a reset
 
+none_on : (side : Side) (a : LinkAccesses) → a.host_reads ≡ [] → a.device_reads ≡ [] → reads_on side a ≡ []
+none_on Host a host device = host
+none_on Device a host device = device
+
 -- of the link alone
 resets_at : (plan : Plan) (ends : List PortName) (xs : List LinkAccesses) (link : ℕ) (a a' : LinkAccesses)
-    → slice_get xs link ≡ Some a → a' ≡ record a { reads = []; guarded = a'.guarded }
+    → slice_get xs link ≡ Some a → a' ≡ record a { host_reads = []; device_reads = []; guarded = a'.guarded }
     → a'.guarded.sizes ≡ a.guarded.sizes → MmioLeads a.guarded (Some AllReset ∷ []) a'.guarded
-    → AccessesTurn (waiting_reads_after plan [] (Reset link ends) (v.Reset link)) same_floors
+    → AccessesTurn (reads_after_event plan (Reset link ends) (v.Reset link)) same_floors
     (reset_happens (v.Reset link)) same_carried xs (slice_set xs link a')
 resets_at plan ends xs link a a' is after sizes leads =
     turn_at _ same_floors _ same_carried xs link a a' is
     (record {
-      reads_are = ap (λ (x : LinkAccesses). x.reads) after
-          ∙ sym (ap (λ (b : Bool). if b then [] else a.reads) (same-true link));
+      reads_are = λ side. none_on side a' (ap (λ (x : LinkAccesses). x.host_reads) after)
+          (ap (λ (x : LinkAccesses). x.device_reads) after)
+          ∙ sym (ap (λ (b : Bool). if b then [] else reads_on side a) (same-true link));
       floors_are = ap (λ (x : LinkAccesses). x.floors) after;
       sizes_are = sizes;
       leads = subst (λ (hs : List (Option Happened)). MmioLeads a.guarded hs a'.guarded)
@@ -181,7 +229,7 @@ resets_at plan ends xs link a a' is after sizes leads =
       carried_are = λ d. ap (λ (x : LinkAccesses). (queue_of x.carried d).tlps) after;
     })
     (λ k other. record {
-      reads_rest = λ ws. ap (λ (b : Bool). if b then [] else ws) other;
+      reads_rest = λ side ws. ap (λ (b : Bool). if b then [] else ws) other;
       floors_rest = λ ns. refl;
       nothing = λ older.
           ap (λ (b : Bool). newest_happened (if b then Some AllReset ∷ [] else []) older) other;
@@ -212,13 +260,13 @@ all_cleared ends xs k d = by (nat_lt k (length xs)) refl
 
 pub reset_turns : (plan : Plan) (ends : List PortName) (xs zs : List LinkAccesses) (link count : ℕ)
     (a a' : LinkAccesses) (w : Verdict) → w ≡ v.Reset link → count ≡ length xs
-    → slice_get xs link ≡ Some a → a' ≡ record a { reads = []; guarded = a'.guarded }
+    → slice_get xs link ≡ Some a → a' ≡ record a { host_reads = []; device_reads = []; guarded = a'.guarded }
     → a'.guarded.sizes ≡ a.guarded.sizes → MmioLeads a.guarded (Some AllReset ∷ []) a'.guarded
     → AccessesTurn same_reads same_floors nothing_happens (hops_cleared ends count) (slice_set xs link a') zs
-    → AccessesTurn (waiting_reads_after plan [] (Reset link ends) w) same_floors (reset_happens w)
+    → AccessesTurn (reads_after_event plan (Reset link ends) w) same_floors (reset_happens w)
     (carried_after_event (Reset link ends) w) xs zs
 reset_turns plan ends xs zs link count a a' w says many is after sizes leads cleared =
-    subst (λ (x : Verdict). AccessesTurn (waiting_reads_after plan [] (Reset link ends) x) same_floors (reset_happens x)
+    subst (λ (x : Verdict). AccessesTurn (reads_after_event plan (Reset link ends) x) same_floors (reset_happens x)
     (carried_after_event (Reset link ends) x) xs zs) (sym says)
     (let turn = turn_then (resets_at plan ends xs link a a' is after sizes leads) (hops_cleared ends count) zs cleared
     in
@@ -234,13 +282,13 @@ reset_turns plan ends xs zs link count a a' w says many is after sizes leads cle
 
 -- of no link
 pub reset_keeps : (plan : Plan) (ends : List PortName) (xs : List LinkAccesses) (link : ℕ) (w : Verdict) → w ≡ v.Nothing
-    → AccessesTurn (waiting_reads_after plan [] (Reset link ends) w) same_floors (reset_happens w)
+    → AccessesTurn (reads_after_event plan (Reset link ends) w) same_floors (reset_happens w)
     (carried_after_event (Reset link ends) w) xs xs
 reset_keeps plan ends xs link w says =
-    subst (λ (x : Verdict). AccessesTurn (waiting_reads_after plan [] (Reset link ends) x) same_floors (reset_happens x)
+    subst (λ (x : Verdict). AccessesTurn (reads_after_event plan (Reset link ends) x) same_floors (reset_happens x)
     (carried_after_event (Reset link ends) x) xs xs) (sym says)
     (rests_all _ same_floors _ _ xs (λ k. record {
-      reads_rest = λ ws. refl;
+      reads_rest = λ side ws. refl;
       floors_rest = λ ns. refl;
       nothing = λ older. refl;
       carried_rest = λ d ts. refl;
@@ -261,7 +309,7 @@ pub forward_keeps : (xs : List LinkAccesses) (link : ℕ) (way : Direction) (w :
     → AccessesTurn same_reads same_floors nothing_happens (carried_after_event (Forward link way) w) xs xs
 forward_keeps xs link way w stays sends =
     rests_all same_reads same_floors nothing_happens _ xs (λ k. record {
-      reads_rest = λ ws. refl;
+      reads_rest = λ side ws. refl;
       floors_rest = λ ns. refl;
       nothing = λ older. refl;
       carried_rest = λ d ts. keeps_tlps link way w k d ts stays sends;
@@ -287,7 +335,8 @@ pub forward_takes : (xs : List LinkAccesses) (link : ℕ) (way : Direction) (a a
 forward_takes xs link way a a' w is after sealed =
     turn_at same_reads same_floors nothing_happens _ xs link a a' is
     (record {
-      reads_are = ap (λ (x : LinkAccesses). x.reads) after;
+      reads_are = λ side. reads_same side a a' (ap (λ (x : LinkAccesses). x.host_reads) after)
+          (ap (λ (x : LinkAccesses). x.device_reads) after);
       floors_are = ap (λ (x : LinkAccesses). x.floors) after;
       sizes_are = ap (λ (x : LinkAccesses). x.guarded.sizes) after;
       leads = subst (λ (g : GuardedMemory). MmioLeads a.guarded [] g)
@@ -299,7 +348,7 @@ forward_takes xs link way a a' w is after sealed =
           else (queue_of a.carried d).tlps) (same-true link)));
     })
     (λ k other. record {
-      reads_rest = λ ws. refl;
+      reads_rest = λ side ws. refl;
       floors_rest = λ ns. refl;
       nothing = λ older. refl;
       carried_rest = λ d ts. takes_tlps link way w k d ts sealed

@@ -1,14 +1,16 @@
--- An answer to the oldest read of a link, as the machine has it: a verdict ahead of the ports, a refusal for an older
--- draw, or the send of the completion.
+-- An answer to the oldest read that waits at a port, as the machine has it: a verdict ahead of the ports, a refusal for
+-- an older draw, or the send of the completion.
 use Rattle.std.proofs.Common.{◌≡◌, ℕ, zero, suc, ◌+◌, ◌<◌, ◌≤◌, true, false, [], length, refl, ap, sym, subst, ◌∙◌}
 use Rattle.std.proofs.Common.{arith, Bool}
 use Rattle.std.proofs.lemmas.Bool.Decides.{nat_tests}
-use Rattle.std.specs.Prelude.{Option, Some, None, Result, Ok, Err, unwrap_or, slice_get, nat_lt, if◌then◌else◌, ◌||◌}
+use Rattle.std.specs.Prelude.{Option, Some, None, Result, Ok, Err, unwrap_or, slice_get, nat_lt, if◌then◌else◌}
 use Rattle.std.specs.Option.{option_map, option_map_or, option_and_then}
 use Rattle.std.proofs.lemmas.Option.{none-some, slice_get_within}
 use Rattle.spec_keys.specs.Keys.{is_some_below}
 use Rattle.ide_types.specs.declared.memory.OutOfMemory.{OutOfMemory}
-use Rattle.ide_types.specs.declared.port.Side.TheVariants.{Host}
+use Rattle.ide_types.specs.declared.port.PortName.{PortName}
+use Rattle.ide_types.specs.declared.port.Side.{Side}
+use Rattle.ide_types.specs.declared.port.Side.TheVariants.{Host, Device}
 use Rattle.ide_types.specs.declared.sub.SubKind.{SubKind}
 use Rattle.ide_types.specs.declared.sub.SubKind.TheVariants.{Pr, Npr, Cpl}
 use Rattle.ide_types.specs.declared.plan.Plan.{Plan}
@@ -17,50 +19,40 @@ use Rattle.script_events.specs.declared.event.Event.TheVariants.{Access}
 use Rattle.script_events.specs.declared.event.AccessEvent.TheVariants as ae
 use Rattle.event_verdicts.specs.declared.verdict.Verdict.{Verdict}
 use Rattle.event_verdicts.specs.declared.verdict.Verdict.TheVariants as v
-use Rattle.tlp_layout.specs.Outgoing.{outgoing_of}
-use Rattle.spec_links.specs.Plan.{has_link, has_port, streams_of}
+use Rattle.tlp_layout.specs.Reading.{read_of}
 use Rattle.spec_stream.specs.Stream.{StreamState, at_sub}
 use Rattle.spec_stream.specs.Slots.{sealing_draw}
-use Rattle.machine_ports.specs.Replies.{BoundCompletion}
+use Rattle.machine_ports.specs.Replies.{ReadCompletion}
 use Rattle.machine_ports.specs.Machine.{BesidePorts, LinkState, Stepped, port_at, sealing_draw_at, stepped_completion}
-use Rattle.machine_ports.specs.Machine.{stepped_reply, stepped_send}
+use Rattle.machine_ports.specs.Machine.{stepped_reply, stepped_tlp}
 unfoldable use Rattle.machine_ports.specs.Machine.{find, step_of}
-use Rattle.ide_port.specs.{Found, found_stream, sealing_draw_in}
-use Rattle.all_links.specs.{port_in, LinkEnds, EndsView, AreLinks, port_on}
-use Rattle.all_links.proofs.{find_at, port_is, wired}
+use Rattle.ide_port.specs.{Found, PortEnd, found_stream, sealing_draw_in}
+use Rattle.all_links.specs.{LinkEnds, AreLinks, port_on, sealing_draw_on}
+use Rattle.all_links.proofs.{find_at, none_found, port_is, wired}
 use Rattle.all_links.specs.declared.links.Links.{Links}
 use Rattle.all_links.specs.States.{links_state}
-use Rattle.all_links.specs.Links.{Ends, EndsIfSo, EndsSending, EndsSendingOrStays}
-use Rattle.all_links.specs.Accesses.{reads_at, sizes_at, mmio_at}
+use Rattle.all_links.specs.Links.{Ends, EndsIfSo, EndsSealing, EndsSealingOrStays}
+use Rattle.all_links.specs.Accesses.{sizes_at, mmio_at}
 use Rattle.trusted_memory.specs.{bytes_from}
 use Rattle.guarded_memory.specs.Contents.{has_bytes}
 use Rattle.all_links.specs.Besides.{beside_in}
 use Rattle.all_links.proofs.Finds.{nothing_changes}
 use Rattle.whole_links.specs.declared.whole.WholeLinks.{WholeLinks}
-use Rattle.whole_links.specs.Besides.{reply_at_ends, link_reply, draw_below, shown_mmio, place_named, has_shown}
-use Rattle.whole_links.specs.Besides.{bytes_shown}
+use Rattle.whole_links.specs.Besides.{answer_event, reply_at_link, port_reply, draw_below, shown_mmio, place_named}
+use Rattle.whole_links.specs.Besides.{bytes_shown, has_shown}
 use Rattle.whole_links.specs.Whole.{IsBoundedWhole, WholeEnds, WholeEndsOrStays}
 use Rattle.whole_links.proofs.Ends.{ends_if, stays_with}
 
--- ---- the host's end of a link
-
--- it is what stands at the host's port
-pub host_on : (v : EndsView) (link : ℕ) (l : LinkEnds) → length v.links ≤ 8 → slice_get v.links link ≡ Some l
-    → port_on v (port_at Host link) ≡ Some l.host
-host_on v link l few is =
-    let within = slice_get_within v.links link l is in
-    let low : nat_lt link 8 ≡ true = grind (arith, nat_tests, within, few) in
-    rw low (ap (λ (o : Option LinkEnds). option_map (λ (x : LinkEnds). port_in Host x) o) is)
-
 -- ---- the machine's step
 
-answer_step : (plan : Plan) (b : BesidePorts) (st : LinkState) (link : ℕ) (o : Result BoundCompletion Verdict)
-    → b.reply link ≡ o → step_of plan b st (Access (ae.Answer link)) ≡ stepped_reply plan b st (port_at Host link) o
+answer_step : (plan : Plan) (b : BesidePorts) (st : LinkState) (side : Side) (link : ℕ)
+    (o : Result ReadCompletion Verdict) → b.reply (port_at side link) ≡ o
+    → step_of plan b st (answer_event side link) ≡ stepped_reply plan st o
 unfolding step_of
-answer_step plan b st link o is =
-    ap (λ (r : Result BoundCompletion Verdict). stepped_reply plan b st (port_at Host link) r) is
+answer_step plan b st Host link o is = ap (λ (r : Result ReadCompletion Verdict). stepped_reply plan st r) is
+answer_step plan b st Device link o is = ap (λ (r : Result ReadCompletion Verdict). stepped_reply plan st r) is
 
--- the draw that the host's port seals completions under
+-- the draw that an end seals completions under
 found_at : (x : StreamState) (u : SubKind) → sealing_draw_at u (Some x) ≡ sealing_draw (at_sub x.tx u).slots
 found_at x Pr = refl
 found_at x Npr = refl
@@ -71,26 +63,33 @@ found_draw : (o : Option Found) → sealing_draw_at Cpl (option_map (λ (f : Fou
 found_draw None = refl
 found_draw (Some f) = found_at f.state Cpl
 
-draw_same : (s : Links) (plan : Plan) (link : ℕ) (l : LinkEnds) (stream : ℕ) → AreLinks plan s.ends s.keeper.keys
-    → slice_get s.ends.links link ≡ Some l → sealing_draw_at Cpl
-    (find plan (links_state plan s) (port_at Host link) stream) ≡ sealing_draw_in l.host stream Cpl
-draw_same s plan link l stream links is =
-    let w = wired plan s.ends s.keeper.keys links in
-    let on : port_on s.ends (port_at Host link) ≡ Some l.host = host_on s.ends link l w.few is in
-    ap (λ (o : Option StreamState). sealing_draw_at Cpl o)
-    (find_at plan s.ends s.keeper.keys s.packets.packets w (port_at Host link) l.host on stream
-    (port_is plan s.ends s.keeper.keys links (port_at Host link) l.host on))
-    ∙ found_draw (found_stream l.host.plans l.host.states stream)
+draw_same : (s : Links) (plan : Plan) (end : PortName) (stream : ℕ) → AreLinks plan s.ends s.keeper.keys
+    → sealing_draw_at Cpl (find plan (links_state plan s) end stream) ≡ sealing_draw_on s.ends end stream Cpl
+draw_same s plan end stream links = by (port_on s.ends end) refl
+  where
+    by : (o : Option PortEnd) → port_on s.ends end ≡ o
+        → sealing_draw_at Cpl (find plan (links_state plan s) end stream)
+        ≡ option_and_then (λ (e : PortEnd). sealing_draw_in e stream Cpl) o
+    by None is = ap (λ (p : Option StreamState). sealing_draw_at Cpl p)
+        (none_found plan s.ends s.keeper.keys s.packets.packets end stream links is)
+    by (Some e) is =
+        ap (λ (p : Option StreamState). sealing_draw_at Cpl p)
+        (find_at plan s.ends s.keeper.keys s.packets.packets (wired plan s.ends s.keeper.keys links) end e is stream
+        (port_is plan s.ends s.keeper.keys links end e is))
+        ∙ found_draw (found_stream e.plans e.states stream)
 
 -- ---- a verdict ahead of the ports
 
-pub answer_only : {verdict w : Verdict} {old new : WholeLinks} (plan : Plan) (link : ℕ) → link_reply old link ≡ Err w
+pub answer_only : {verdict w : Verdict} {old new : WholeLinks} (plan : Plan) (side : Side) (link : ℕ)
+    → port_reply old (port_at side link) ≡ Err w
     → verdict ≡ w → new.links ≡ record old.links { steps = old.links.steps + 1 } → new.accesses ≡ old.accesses
-    → IsBoundedWhole old → WholeEnds plan verdict old new (Access (ae.Answer link))
-answer_only {verdict} {w} {old} {new} plan link due says is same bounded =
+    → IsBoundedWhole old → WholeEnds plan verdict old new (answer_event side link)
+answer_only {verdict} {w} {old} {new} plan side link due says is same bounded =
     ends_if plan
-    (nothing_changes {IsSo = λ b. b.reply link ≡ Err w} plan (Access (ae.Answer link)) says is bounded.bounded
-    (λ b so h links stands. answer_step plan (beside_in old.links b) (links_state plan old.links) link (Err w) so))
+    (nothing_changes {IsSo = λ b. b.reply (port_at side link) ≡ Err w} plan (answer_event side link) says is
+    bounded.bounded
+    (λ b so h links stands. answer_step plan (beside_in old.links b) (links_state plan old.links) side link (Err w)
+    so))
     bounded.whole (ap length same) (λ answer by regions. due)
 
 -- ---- a refusal for an older draw
@@ -104,93 +103,80 @@ not_below : (o : Option ℕ) (floor : ℕ) → draw_below o floor ≡ None → i
 not_below None floor is = refl
 not_below (Some d) floor is = grind arith
 
-module _ (plan : Plan) (b : BesidePorts) (st : LinkState) (link : ℕ) (r : BoundCompletion) (o : Option ℕ) where
+module _ (plan : Plan) (st : LinkState) (c : ReadCompletion) (o : Option ℕ) where
   abbrev sends : Stepped
-  sends = stepped_send plan b st (port_at Host link) (outgoing_of (streams_of plan link) Host r.bytes) false true
+  sends = stepped_tlp plan st c (read_of c.bytes)
 
-  older : (draw : ℕ) → draw_below o r.bound.floor ≡ Some draw → stepped_completion plan b st (port_at Host link) r o
-      ≡ (v.Interface (iv.RefusedRefreshFirst draw r.bound.floor), st)
+  older : (draw : ℕ) → draw_below o c.floor ≡ Some draw → stepped_completion plan st c o
+      ≡ (v.Interface (iv.RefusedRefreshFirst draw c.floor), st)
   older draw below =
-      let at = below_is o r.bound.floor draw below in
-      (λ i. if at.0 i then (v.Interface (iv.RefusedRefreshFirst (at.1 i) r.bound.floor), st) else sends)
+      let at = below_is o c.floor draw below in
+      (λ i. if at.0 i then (v.Interface (iv.RefusedRefreshFirst (at.1 i) c.floor), st) else sends)
 
-  newer : draw_below o r.bound.floor ≡ None → stepped_completion plan b st (port_at Host link) r o ≡ sends
+  newer : draw_below o c.floor ≡ None → stepped_completion plan st c o ≡ sends
   newer below =
-      let none : is_some_below o r.bound.floor ≡ false = not_below o r.bound.floor below in
-      (λ i. if none i then (v.Interface (iv.RefusedRefreshFirst (unwrap_or o 0) r.bound.floor), st) else sends)
+      let none : is_some_below o c.floor ≡ false = not_below o c.floor below in
+      (λ i. if none i then (v.Interface (iv.RefusedRefreshFirst (unwrap_or o 0) c.floor), st) else sends)
 
-pub answer_older : {verdict : Verdict} {old new : WholeLinks} (plan : Plan) (link : ℕ) (r : BoundCompletion)
-    (l : LinkEnds) (draw : ℕ) → link_reply old link ≡ Ok r → slice_get old.links.ends.links link ≡ Some l
-    → draw_below (sealing_draw_in l.host r.bound.stream Cpl) r.bound.floor ≡ Some draw
-    → verdict ≡ v.Interface (iv.RefusedRefreshFirst draw r.bound.floor)
+pub answer_older : {verdict : Verdict} {old new : WholeLinks} (plan : Plan) (side : Side) (link : ℕ)
+    (c : ReadCompletion) (draw : ℕ) → port_reply old (port_at side link) ≡ Ok c
+    → draw_below (sealing_draw_on old.links.ends c.end c.stream Cpl) c.floor ≡ Some draw
+    → verdict ≡ v.Interface (iv.RefusedRefreshFirst draw c.floor)
     → new.links ≡ record old.links { steps = old.links.steps + 1 } → new.accesses ≡ old.accesses → IsBoundedWhole old
-    → WholeEnds plan verdict old new (Access (ae.Answer link))
-answer_older {verdict} {old} {new} plan link r l draw due l_is below says is same bounded =
+    → WholeEnds plan verdict old new (answer_event side link)
+answer_older {verdict} {old} {new} plan side link c draw due below says is same bounded =
     ends_if plan
-    (nothing_changes {IsSo = λ b. b.reply link ≡ Ok r} plan (Access (ae.Answer link)) says is bounded.bounded
+    (nothing_changes {IsSo = λ b. b.reply (port_at side link) ≡ Ok c} plan (answer_event side link) says is
+    bounded.bounded
     (λ b so h links stands.
     let st : LinkState = links_state plan old.links in
-    let beside : BesidePorts = beside_in old.links b in
-    answer_step plan beside st link (Ok r) so
-    ∙ ap (λ (o : Option ℕ). stepped_completion plan beside st (port_at Host link) r o)
-    (draw_same old.links plan link l r.bound.stream links l_is)
-    ∙ older plan beside st link r (sealing_draw_in l.host r.bound.stream Cpl) draw below))
+    answer_step plan (beside_in old.links b) st side link (Ok c) so
+    ∙ ap (λ (o : Option ℕ). stepped_completion plan st c o) (draw_same old.links plan c.end c.stream links)
+    ∙ older plan st c (sealing_draw_on old.links.ends c.end c.stream Cpl) draw below))
     bounded.whole (ap length same) (λ answer by regions. due)
 
 -- ---- the send
 
--- a link's end is there
-host_there : (plan : Plan) (link : ℕ) → link < length plan.links → has_port plan (port_at Host link) ≡ true
-host_there plan link less =
-    let there : has_link plan link ≡ true = grind (arith, nat_tests, less) in
-    ap (λ (b : Bool). b || nat_lt 0 (length (streams_of plan link))) there
-
-sent_as_answer : {verdict : Verdict} (plan : Plan) (old new : WholeLinks) (link : ℕ) (r : BoundCompletion)
-    (l : LinkEnds) → slice_get old.links.ends.links link ≡ Some l
-    → draw_below (sealing_draw_in l.host r.bound.stream Cpl) r.bound.floor ≡ None
-    → EndsSending plan verdict old.links new.links (port_at Host link) r.bytes false true
-    → EndsIfSo (λ b. b.reply link ≡ Ok r) plan verdict old.links new.links (Access (ae.Answer link))
-sent_as_answer {verdict} plan old new link r l l_is below x = record {
+sent_as_answer : {verdict : Verdict} (plan : Plan) (old new : WholeLinks) (side : Side) (link : ℕ)
+    (c : ReadCompletion) → draw_below (sealing_draw_on old.links.ends c.end c.stream Cpl) c.floor ≡ None
+    → EndsSealing plan verdict old.links new.links c
+    → EndsIfSo (λ b. b.reply (port_at side link) ≡ Ok c) plan verdict old.links new.links (answer_event side link)
+sent_as_answer {verdict} plan old new side link c below x = record {
   counted = x.counted;
   bounded = x.bounded;
   many = x.many;
   regions = x.regions;
   ends = λ b so h links stands.
       let st : LinkState = links_state plan old.links in
-      let beside : BesidePorts = beside_in old.links b in
-      let here : link < length plan.links =
-      subst (λ (n : ℕ). link < n) links.many (slice_get_within old.links.ends.links link l l_is) in
       subst (λ (s : Stepped). Ends plan new.links verdict s)
-      (sym (answer_step plan beside st link (Ok r) so
-      ∙ ap (λ (o : Option ℕ). stepped_completion plan beside st (port_at Host link) r o)
-      (draw_same old.links plan link l r.bound.stream links l_is)
-      ∙ newer plan beside st link r (sealing_draw_in l.host r.bound.stream Cpl) below))
-      (x.ends b (host_there plan link here) h links stands);
+      (sym (answer_step plan (beside_in old.links b) st side link (Ok c) so
+      ∙ ap (λ (o : Option ℕ). stepped_completion plan st c o) (draw_same old.links plan c.end c.stream links)
+      ∙ newer plan st c (sealing_draw_on old.links.ends c.end c.stream Cpl) below))
+      (x.ends b tt h links stands);
 }
 
-pub answer_sent_or : (plan : Plan) (r : Result Verdict OutOfMemory) (old new : WholeLinks) (link : ℕ)
-    (reply : BoundCompletion) (l : LinkEnds) → link_reply old link ≡ Ok reply → slice_get old.links.ends.links link
-    ≡ Some l → draw_below (sealing_draw_in l.host reply.bound.stream Cpl) reply.bound.floor ≡ None
-    → EndsSendingOrStays plan r old.links new.links (port_at Host link) reply.bytes false true → new.accesses
-    ≡ old.accesses
-    → IsBoundedWhole old → WholeEndsOrStays plan r old new (Access (ae.Answer link))
-answer_sent_or plan (Ok verdict) old new link reply l due l_is below x same bounded = ends_if plan
-    (sent_as_answer plan old new link reply l l_is below x) bounded.whole (ap length same) (λ answer by regions. due)
-answer_sent_or plan (Err e) old new link reply l due l_is below x same bounded = stays_with x same
+pub answer_sent_or : (plan : Plan) (r : Result Verdict OutOfMemory) (old new : WholeLinks) (side : Side) (link : ℕ)
+    (c : ReadCompletion) → port_reply old (port_at side link) ≡ Ok c
+    → draw_below (sealing_draw_on old.links.ends c.end c.stream Cpl) c.floor ≡ None
+    → EndsSealingOrStays plan r old.links new.links c → new.accesses ≡ old.accesses
+    → IsBoundedWhole old → WholeEndsOrStays plan r old new (answer_event side link)
+answer_sent_or plan (Ok verdict) old new side link c due below x same bounded = ends_if plan
+    (sent_as_answer plan old new side link c below x) bounded.whole (ap length same) (λ answer by regions. due)
+answer_sent_or plan (Err e) old new side link c due below x same bounded = stays_with x same
 
 -- ---- on no link
 
-pub answer_nowhere : {verdict : Verdict} {old new : WholeLinks} (plan : Plan) (link : ℕ)
+pub answer_nowhere : {verdict : Verdict} {old new : WholeLinks} (plan : Plan) (side : Side) (link : ℕ)
     → false ≡ nat_lt link (length old.links.ends.links) → verdict ≡ v.Nothing
     → new.links ≡ record old.links { steps = old.links.steps + 1 }
-    → new.accesses ≡ old.accesses → IsBoundedWhole old → WholeEnds plan verdict old new (Access (ae.Answer link))
-answer_nowhere {verdict} {old} {new} plan link nowhere says is same bounded =
-    answer_only plan link (by_ends (slice_get old.links.ends.links link) refl) says is same bounded
+    → new.accesses ≡ old.accesses → IsBoundedWhole old → WholeEnds plan verdict old new (answer_event side link)
+answer_nowhere {verdict} {old} {new} plan side link nowhere says is same bounded =
+    answer_only plan side link (by_ends (slice_get old.links.ends.links link) refl) says is same bounded
   where
-    by_ends : (o : Option LinkEnds) → slice_get old.links.ends.links link ≡ o → link_reply old link ≡ Err v.Nothing
+    by_ends : (o : Option LinkEnds) → slice_get old.links.ends.links link ≡ o
+        → port_reply old (port_at side link) ≡ Err v.Nothing
     by_ends None at =
-        ap (λ (p : Option LinkEnds). reply_at_ends old.links.keeper.interfaces p link old.links.trusted.contents
-        (reads_at old.accesses link)) at
+        ap (λ (p : Option LinkEnds). reply_at_link (port_at side link) old p (slice_get old.accesses link)) at
     by_ends (Some l) at =
         let within : link < length old.links.ends.links = slice_get_within old.links.ends.links link l at in
         absurd (grind (arith, nat_tests, nowhere, within))

@@ -228,11 +228,10 @@ module _ (plan : Plan) (old : WholeLinks) (e : Event) (end : PortName) (bytes : 
       turn = λ h links stands.
           let on = lands.stands old.links.keeper.keys old.links.packets.packets h links stands
           (brought.has h links stands) in
+          let statuses = (policy_in old.links.keeper.interfaces old.links.ends old.accesses).statuses in
           subst (λ (a : Option ArrivedBytes). let ps = unit_in plan (links_state plan old.links) a in
-          AccessesTurn (waiting_reads_after plan ps e verdict) same_floors
-          (λ link. happens_by_packets plan (policy_in old.links.keeper.interfaces old.links.ends old.accesses).statuses
-          ps e
-          verdict link)
+          AccessesTurn (waiting_reads_after plan statuses ps e verdict) same_floors
+          (λ link. happens_by_packets plan statuses ps e verdict link)
           (carried_next (unit_tlps plan ps verdict) e verdict) old.accesses ys)
           (sym brought.arrival) (on.turn e brought.quiet);
     }

@@ -5,6 +5,8 @@ use Rattle.std.specs.Option.{option_map_or}
 use Rattle.ide_types.specs.declared.direction.Direction.{Direction}
 use Rattle.ide_types.specs.declared.interface.BarPlan.{BarPlan}
 use Rattle.ide_types.specs.declared.plan.Plan.{Plan}
+use Rattle.ide_types.specs.declared.port.PortName.{PortName}
+use Rattle.trusted_memory.specs.declared.queue.WaitingRead.{WaitingRead}
 use Rattle.script_events.specs.declared.event.Event.{Event}
 use Rattle.script_events.specs.declared.event.Event.TheVariants as event
 use Rattle.script_events.specs.declared.event.AccessEvent.TheVariants as ae
@@ -108,23 +110,28 @@ pub record AccessesArrive (plan : Plan) (arrival : LinkState → Option ArrivedB
   pub many : length ys ≡ length xs
   pub turn : (h : History) → AreLinks plan old.ends old.keeper.keys → PortsStandFor plan (links_state plan old) h
       → let ps = unit_in plan (links_state plan old) (arrival (links_state plan old)) in
-      AccessesTurn (waiting_reads_after plan ps e verdict) same_floors
-      (λ link. happens_by_packets plan (policy_in old.keeper.interfaces old.ends xs).statuses ps e verdict link)
+      let statuses = (policy_in old.keeper.interfaces old.ends xs).statuses in
+      AccessesTurn (waiting_reads_after plan statuses ps e verdict) same_floors
+      (λ link. happens_by_packets plan statuses ps e verdict link)
       (carried_next (unit_tlps plan ps verdict) e verdict) xs ys
 
 abbrev pub AccessesArriveInState : Plan → Event → Verdict → WholeLinks → WholeLinks → Type 0
 AccessesArriveInState plan e verdict old new =
     AccessesArrive plan (arrival_in_state plan e) e verdict old.links old.accesses new.accesses
 
+-- the reads that wait at a port after an event that ends no unit had this verdict
+abbrev pub reads_after_event : Plan → Event → Verdict → PortName → List WaitingRead → List WaitingRead
+reads_after_event plan e verdict port rs = waiting_reads_after plan (λ link. []) [] e verdict port rs
+
 -- an answer to a read
 abbrev pub AccessesAnswer : Plan → Event → Verdict → WholeLinks → WholeLinks → Type 0
 AccessesAnswer plan e verdict old new =
-    AccessesTurn (waiting_reads_after plan [] e verdict) same_floors nothing_happens same_carried old.accesses
+    AccessesTurn (reads_after_event plan e verdict) same_floors nothing_happens same_carried old.accesses
     new.accesses
 
 abbrev pub AccessesReset : Plan → Event → Verdict → WholeLinks → WholeLinks → Type 0
 AccessesReset plan e verdict old new =
-    AccessesTurn (waiting_reads_after plan [] e verdict) same_floors (reset_happens verdict)
+    AccessesTurn (reads_after_event plan e verdict) same_floors (reset_happens verdict)
     (carried_after_event e verdict)
     old.accesses new.accesses
 
@@ -144,5 +151,7 @@ AccessesAfter plan (event.Reset link ends) verdict old new = AccessesReset plan 
 AccessesAfter plan (event.Interface e) verdict old new = AccessesInterface e verdict old new
 AccessesAfter plan (event.Access (ae.Answer link)) verdict old new =
     AccessesAnswer plan (event.Access (ae.Answer link)) verdict old new
+AccessesAfter plan (event.Access (ae.Respond link)) verdict old new =
+    AccessesAnswer plan (event.Access (ae.Respond link)) verdict old new
 AccessesAfter plan (event.Forward link d) verdict old new = AccessesForward (event.Forward link d) verdict old new
 AccessesAfter plan e verdict old new = new.accesses ≡ old.accesses

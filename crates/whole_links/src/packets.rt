@@ -1,4 +1,4 @@
-//! Bytes that arrive: those of an event, and those of packets that were sealed.
+//! Bytes that arrive: those of an event, and those of packets that were sealed (this profile).
 
 ghost use Rattle.std.specs.Prelude.{◌≡◌, ◌<◌, ◌^◌, IfOk, option_map};
 ghost use Rattle.std.specs.Cow.{cow_slice_items};
@@ -14,7 +14,7 @@ use script_events::Event;
 use std::alloc::Global;
 use std::borrow::CowSlice;
 
-/// What becomes of a packet on its way to the other end of its line (this profile).
+/// What becomes of a packet on its way to the other end of its line.
 #[derive(Clone, Copy)]
 pub enum Passage {
     /// It arrives as it was sealed.
@@ -25,7 +25,7 @@ pub enum Passage {
     Cut { length: u64 },
 }
 
-/// Bytes that arrive, and where (this profile).
+/// Bytes that arrive, and where.
 #[derive(Clone, Copy)]
 pub enum Incoming<'a> {
     /// These bytes, at this port.

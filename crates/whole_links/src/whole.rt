@@ -1,4 +1,4 @@
-//! All links with the accesses that stand at each: the first state, resets, and events as a whole.
+//! All links with the accesses that stand at each: the first state, resets, and events as a whole (this profile).
 
 ghost use Rattle.std.specs.Prelude.{◌≡◌, ◌<◌, ◌^◌, IfOk, IfSome};
 ghost use Rattle.script_events.specs.Spells.{IsAllowed};
@@ -9,15 +9,15 @@ ghost use Rattle.all_links.specs.BesideAfter.{BesideStays, BesideOperation, Besi
 use crate::packets::Passage;
 use all_links::Links;
 use event_verdicts::{Operation, Verdict};
-use ide_types::{OutOfMemory, PortName, ValidPlan};
+use ide_types::{OutOfMemory, PortName, Side, ValidPlan};
 use join_ends::clear_hops;
 use link_stores::Accesses;
 use script_events::{AccessEvent, Event, Loss};
 use std::alloc::Global;
 
-/// All links of a topology, the trusted reads of each that wait for their answer, the memory of each device's
-/// interfaces with the least draws that they take trusted writes under, and the TLPs that wait at the switches of hops
-/// (PCI Express Base 6.0 section 6.33 and chapter 11, in this profile).
+/// All links of a topology, the reads that wait at each port for their answer, the memory of each device's interfaces
+/// with the least draws that they take trusted requests under, and the TLPs that wait at the switches of hops
+/// (PCI Express Base 6.0 section 6.33 and chapter 11).
 #[derive(Drop)]
 pub struct WholeLinks {
     pub links: Links,
@@ -73,7 +73,8 @@ impl WholeLinks {
         ensures accesses { IfOk result (λ v. AccessesAfter plan.now (Event.Access event.now) v self.old self.new) }
     {
         match event {
-            AccessEvent::Answer { link } => self.answer_read(alloc, plan, *link),
+            AccessEvent::Answer { link } => self.answer_read(alloc, plan, Side::Host, *link),
+            AccessEvent::Respond { link } => self.answer_read(alloc, plan, Side::Device, *link),
             AccessEvent::Mmio {
                 interface,
                 bar,
@@ -100,7 +101,7 @@ impl WholeLinks {
         self.links.operate(operation, line, stream, loss)
     }
 
-    /// The verdict of an event, and what it makes of the links (this profile). For want of memory nothing changes.
+    /// The verdict of an event, and what it makes of the links. For want of memory nothing changes.
     ///
     /// An operation has no verdict if a reply is bad, or if an exchange is lost none of whose messages is lost, and
     /// none is made up for it. `ends` says that this does not come while the links stand for some history, and, on an

@@ -28,7 +28,7 @@ use Rattle.machine_operations.proofs.{of_numbered}
 use Rattle.machine_operations.proofs.Terms.{at_each}
 use Rattle.machine_whole.specs.Machine.{Whole, arrival_of}
 use Rattle.machine_whole.specs.Stands.{WholeStandsFor}
-use Rattle.why_facts.specs.declared.fact.Fact.{Fact}
+use Rattle.told_facts.specs.declared.fact.Fact.{Fact}
 use Rattle.why_facts.specs.Forms.{arrives_fact, packets_fact, state_fact, unit_facts}
 use Rattle.why_facts.specs.Due.{arrival_facts_due, asks_due, asks_under, held_due, packet_due, received_due, sealed_due}
 use Rattle.why_facts.specs.Kept.{arrival_facts_in, asks_by_state, asks_live, packet_facts, received_by}

@@ -15,8 +15,8 @@ use Rattle.spec_links.specs.Plan.{stream_plan}
 use Rattle.machine_whole.specs.Machine.{Whole, whole_streams}
 use Rattle.machine_whole.specs.Stands.{WholeStandsFor}
 use Rattle.machine_whole.proofs.Streams.{peer_planned, seen_at, streams_are}
-use Rattle.why_facts.specs.declared.fact.Fact.{Fact}
-use Rattle.why_facts.specs.Exchanges.{interface_exchanges}
+use Rattle.told_facts.specs.declared.fact.Fact.{Fact}
+use Rattle.told_facts.specs.Exchanges.{interface_exchanges}
 use Rattle.why_facts.specs.Forms.{asked_besides, asked_facts, bind_facts, face_facts, reported_facts}
 use Rattle.why_facts.specs.Due.{asked_facts_due, asked_site_due}
 use Rattle.why_facts.specs.Kept.{asked_face, asked_facts_in_state}

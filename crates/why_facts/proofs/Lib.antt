@@ -6,4 +6,3 @@ pub mod Operations
 pub mod Asked
 pub mod Beside
 pub mod Stand
-mod Exchanges

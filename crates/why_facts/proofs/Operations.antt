@@ -13,7 +13,7 @@ use Rattle.machine_operations.proofs.Views.{ports_is}
 use Rattle.machine_whole.specs.Machine.{Whole}
 use Rattle.machine_whole.specs.Stands.{WholeStandsFor}
 use Rattle.machine_whole.proofs.Streams.{status_all}
-use Rattle.why_facts.specs.declared.fact.Fact.{Fact}
+use Rattle.told_facts.specs.declared.fact.Fact.{Fact}
 use Rattle.why_facts.specs.Forms.{establish_facts, manager_fact, refresh_facts, stop_facts}
 use Rattle.why_facts.specs.Due.{if_stream}
 use Rattle.why_facts.specs.Kept.{if_found}

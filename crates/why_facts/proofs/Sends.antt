@@ -4,6 +4,8 @@ use Rattle.std.proofs.Common.{if◌then◌else◌, refl, ap, ◌∙◌}
 use Rattle.std.specs.Option.{option_map}
 use Rattle.ide_types.specs.Ports.{host_port}
 use Rattle.ide_types.specs.declared.port.PortName.{PortName}
+use Rattle.ide_types.specs.declared.port.Side.{Side}
+use Rattle.ide_types.specs.declared.port.Side.TheVariants.{Host, Device}
 use Rattle.ide_types.specs.declared.sub.SubKind.{SubKind}
 use Rattle.ide_types.specs.declared.sub.SubKind.TheVariants.{Cpl}
 use Rattle.ide_types.specs.declared.direction.Direction.{Direction}
@@ -18,21 +20,21 @@ use Rattle.spec_interfaces.specs.Sites.{Site, site_of_requester}
 use Rattle.spec_interfaces.specs.Views.{managed_view}
 use Rattle.spec_interfaces.specs.Devices.{interface_at}
 use Rattle.spec_interfaces.specs.Cause.{owners_link}
-use Rattle.spec_links.specs.{WaitingRead, has_hop, leaving_end, waiting_reads, hop_waiting}
+use Rattle.spec_links.specs.{WaitingRead, has_hop, leaving_end, hop_waiting}
 use Rattle.spec_links.specs.Hops.{HopTlp}
 use Rattle.spec_links.specs.Plan.{has_link, lane_out}
 use Rattle.spec_links.specs.Ports.{outgoing_at}
 use Rattle.machine_operations.specs.{find, stream_state_due}
 use Rattle.machine_whole.specs.Machine.{Whole}
 use Rattle.machine_whole.specs.Stands.{WholeStandsFor}
-use Rattle.why_facts.specs.declared.fact.Fact.{Fact}
-use Rattle.why_facts.specs.Forms.{each_looked_at, face_facts, read_fact, sends_fact, state_fact, waiting_fact}
-use Rattle.why_facts.specs.Due.{answer_facts_due, completion_due, first_due, forward_facts_due, oldest_due}
-use Rattle.why_facts.specs.Due.{owner_due, reader_due, send_facts_due, sender_due, senders_due, sets_own_t, site_due}
-use Rattle.why_facts.specs.Kept.{answer_facts_in, completion_facts, first_tlp_facts, forward_facts_in}
-use Rattle.why_facts.specs.Kept.{oldest_read_facts}
-use Rattle.why_facts.specs.Kept.{known_facts, owner_in, reader_in, send_facts_in, senders_in, sent_stream_facts}
-use Rattle.why_facts.proofs.Sites.{known_is, of_owner, requester_is, with_face}
+use Rattle.told_facts.specs.declared.fact.Fact.{Fact}
+use Rattle.why_facts.specs.Forms.{each_looked_at, face_facts, queue_facts, read_fact, response_facts, sends_fact}
+use Rattle.why_facts.specs.Forms.{state_fact, waiting_fact}
+use Rattle.why_facts.specs.Due.{completion_due, first_due, forward_facts_due, owner_due, queue_due, reader_due}
+use Rattle.why_facts.specs.Due.{send_facts_due, sender_due, senders_due, sets_own_t, site_due, waiting_due}
+use Rattle.why_facts.specs.Kept.{completion_facts, first_tlp_facts, forward_facts_in, known_facts, owner_in, queue_in}
+use Rattle.why_facts.specs.Kept.{reader_in, send_facts_in, senders_in, sent_stream_facts, waiting_in}
+use Rattle.why_facts.proofs.Sites.{known_is, of_owner, readings_are, requester_is, with_face}
 use Rattle.why_facts.proofs.Streams.{of_stream, sender_is}
 
 pub if_same : {A : Type 0} (b : Bool) (x y z : A) → x ≡ y → (if b then x else z) ≡ (if b then y else z)
@@ -85,20 +87,20 @@ reader_is plan w h stands (Some x) = ap
     (λ (xs : List Fact). face_facts x (interface_at plan h x) (managed_view h x) ++ xs)
     (completion_is plan w h stands (host_port x.link) x.plan.stream)
 
-oldest_is : (plan : Plan) (w : Whole) (h : History) → WholeStandsFor plan w h → (link : ℕ) (rs : List WaitingRead)
-    → oldest_read_facts plan w link rs ≡ oldest_due plan h link rs
-oldest_is plan w h stands link [] = refl
-oldest_is plan w h stands link (r ∷ rs) = ap (λ (xs : List Fact). read_fact r.draw ∷ xs)
+waiting_is : (plan : Plan) (w : Whole) (h : History) → WholeStandsFor plan w h → (side : Side) (link : ℕ)
+    (r : WaitingRead) → waiting_in plan w side link r ≡ waiting_due plan h side link r
+waiting_is plan w h stands Host link r = ap (λ (xs : List Fact). read_fact r.came.draw ∷ xs)
     (ap (reader_in plan w) (requester_is plan h w.faces stands.faces link r.read.requester)
     ∙ reader_is plan w h stands (site_of_requester plan link r.read.requester))
+waiting_is plan w h stands Device link r = λ i.
+    response_facts plan (readings_are plan w h stands i) link r
+    (completion_is plan w h stands r.came.end r.came.stream i)
 
-pub answer_is : (plan : Plan) (w : Whole) (h : History) → WholeStandsFor plan w h → (link : ℕ)
-    → answer_facts_in plan w link ≡ answer_facts_due plan h link
-answer_is plan w h stands link = if_same (has_link plan link) _ _ _
-    (ap (λ (rs : List WaitingRead). waiting_fact (length rs) ∷ oldest_read_facts plan w link rs)
-    (stands.accesses.waiting link)
-    ∙ ap (λ (xs : List Fact). waiting_fact (length (waiting_reads plan h link)) ∷ xs)
-    (oldest_is plan w h stands link (waiting_reads plan h link)))
+pub queue_is : (plan : Plan) (w : Whole) (h : History) → WholeStandsFor plan w h → (side : Side) (link : ℕ)
+    → queue_in plan w side link ≡ queue_due plan h side link
+queue_is plan w h stands side link = λ i.
+    queue_facts (has_link plan link) (λ r. waiting_is plan w h stands side link r i)
+    (stands.accesses.waiting (record { side = side; line = link }) i)
 
 -- ---- forwards
 

@@ -55,11 +55,18 @@ pub known_is : (plan : Plan) (h : History) (o : Option Site) → known_facts (op
 known_is plan h None = refl
 known_is plan h (Some x) = refl
 
+number_is : (plan : Plan) (h : History) (o : Option Site)
+    → option_map (λ (y : Site × Face). y.0.number) (option_map (with_face plan h) o)
+    ≡ option_map (λ (x : Site). x.number) o
+number_is plan h None = refl
+number_is plan h (Some x) = refl
+
 pub readings_are : (plan : Plan) (w : Whole) (h : History) → WholeStandsFor plan w h
     → readings_of_whole plan w ≡ readings_at plan h
 readings_are plan w h stands = λ i. record {
   known = λ link requester. known_there link requester i;
-  waiting = λ link. length (stands.accesses.waiting link i);
+  numbered = λ link requester. numbered_there link requester i;
+  waiting = λ port. length (stands.accesses.waiting port i);
   statuses = λ link. statuses_are plan h w.faces.list w.accesses.floors stands.faces.faces stands.accesses.floors
       link i;
 }
@@ -68,3 +75,10 @@ readings_are plan w h stands = λ i. record {
         ≡ site_due plan h (site_of_requester plan link requester)
     known_there link requester = ap known_facts (requester_is plan h w.faces stands.faces link requester)
         ∙ known_is plan h (site_of_requester plan link requester)
+
+    numbered_there : (link requester : ℕ)
+        → option_map (λ (y : Site × Face). y.0.number) (with_requester plan w.faces link requester)
+        ≡ option_map (λ (x : Site). x.number) (site_of_requester plan link requester)
+    numbered_there link requester =
+        ap (option_map (λ (y : Site × Face). y.0.number)) (requester_is plan h w.faces stands.faces link requester)
+        ∙ number_is plan h (site_of_requester plan link requester)

@@ -1,5 +1,6 @@
 -- The facts of a state are those of each history that it stands for.
 use Rattle.std.proofs.Common.{[], refl}
+use Rattle.ide_types.specs.declared.port.Side.TheVariants.{Host, Device}
 use Rattle.script_events.specs.declared.event.Event.TheVariants as event
 use Rattle.script_events.specs.declared.event.AccessEvent.TheVariants as ae
 use Rattle.spec_interfaces.specs.Views.{number_in}
@@ -14,7 +15,7 @@ use Rattle.why_facts.proofs.Arrivals.{arriving_is, sealed_is}
 use Rattle.why_facts.proofs.Asked.{asked_is}
 use Rattle.why_facts.proofs.Beside.{reset_is, shown_is}
 use Rattle.why_facts.proofs.Operations.{establish_is, refresh_is, status_is, stop_is}
-use Rattle.why_facts.proofs.Sends.{answer_is, forward_is, if_same, send_is}
+use Rattle.why_facts.proofs.Sends.{forward_is, if_same, queue_is, send_is}
 
 pub facts_stand : FactsStand
 unfolding facts_due facts_in
@@ -33,7 +34,8 @@ facts_stand plan w h (event.Refresh line stream loss) stands = refresh_is plan w
 facts_stand plan w h (event.Stop line stream loss) stands = stop_is plan w h stands line stream
 facts_stand plan w h (event.Status line stream) stands = status_is plan w h stands line stream
 facts_stand plan w h (event.Interface e) stands = asked_is plan w h stands e (number_in e)
-facts_stand plan w h (event.Access (ae.Answer link)) stands = answer_is plan w h stands link
+facts_stand plan w h (event.Access (ae.Answer link)) stands = queue_is plan w h stands Host link
+facts_stand plan w h (event.Access (ae.Respond link)) stands = queue_is plan w h stands Device link
 facts_stand plan w h (event.Access (ae.Mmio interface bar offset len)) stands = shown_is plan w h stands interface bar
 facts_stand plan w h (event.Forward link d) stands = forward_is plan w h stands link d
 facts_stand plan w h (event.Reset link ends) stands = if_same (has_link plan link) _ _ _ (reset_is plan w h stands ends)

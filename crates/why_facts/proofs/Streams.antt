@@ -19,7 +19,7 @@ use Rattle.machine_ports.specs.Stands.{rx_slot, tx_slot, sealing_key, rx_state_d
 use Rattle.machine_operations.specs.{LinkState, StreamsAndPacketsStand, find, stream_state_due, state_due_if_planned}
 use Rattle.machine_operations.specs.{status_if_planned}
 use Rattle.machine_whole.proofs.Streams.{status_all}
-use Rattle.why_facts.specs.declared.fact.SetState.TheVariants as set
+use Rattle.told_facts.specs.declared.fact.SetState.TheVariants as set
 use Rattle.why_facts.specs.Forms.{counts_facts, posted_fact, facts_of_sets}
 use Rattle.why_facts.specs.Due.{received_set, received_sets, receiver_due, counts_due, total_got}
 use Rattle.why_facts.specs.Due.{sent_set, sent_sets, sender_due, total_sent, posted_now}

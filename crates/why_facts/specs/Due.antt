@@ -2,6 +2,7 @@
 -- the history give there.
 use Rattle.std.specs.Prelude.{ℕ, ◌&&◌, ◌||◌, Bool, true, false, not, is_some, if◌then◌else◌}
 use Rattle.std.specs.Prelude.{List, [], ◌∷◌, ◌++◌, length, sum_by, Option, Some, None, Result, Ok, Err}
+use Rattle.std.specs.Option.{option_map}
 use Rattle.ide_types.specs.{is_link_line}
 use Rattle.ide_types.specs.declared.port.PortName.{PortName}
 use Rattle.ide_types.specs.declared.port.Side.{Side}
@@ -41,13 +42,13 @@ use Rattle.spec_links.specs.History.{ArrivedBytes, arrival_of_event, has_failed,
 use Rattle.spec_links.specs.History.{port_keys, on_draw, pending_packets, posted_count, posted_lane, sealed_packets}
 use Rattle.spec_links.specs.History.{sent_packets, total_in, units_got, units_since, waits}
 use Rattle.spec_links.specs.Units.{units, open_unit}
-use Rattle.why_facts.specs.declared.fact.Fact.{Fact}
-use Rattle.why_facts.specs.declared.fact.SetState.{SetState}
-use Rattle.why_facts.specs.declared.fact.SetState.TheVariants as set
+use Rattle.told_facts.specs.declared.fact.Fact.{Fact}
+use Rattle.told_facts.specs.declared.fact.SetState.{SetState}
+use Rattle.told_facts.specs.declared.fact.SetState.TheVariants as set
 use Rattle.why_facts.specs.Forms.{Readings, arrives_fact, asked_facts, at_port, counts_facts, each_looked_at}
 use Rattle.why_facts.specs.Forms.{clears_fact, establish_facts, face_facts, manager_fact, memory_facts, packets_fact}
-use Rattle.why_facts.specs.Forms.{posted_fact, refresh_facts, sends_fact, facts_of_sets, shown_facts, state_fact}
-use Rattle.why_facts.specs.Forms.{stop_facts, total_facts, unit_facts, waiting_fact, read_fact}
+use Rattle.why_facts.specs.Forms.{posted_fact, queue_facts, refresh_facts, response_facts, sends_fact, facts_of_sets}
+use Rattle.why_facts.specs.Forms.{shown_facts, state_fact, stop_facts, total_facts, unit_facts, waiting_fact, read_fact}
 
 -- ---- what is known of interfaces
 
@@ -58,7 +59,8 @@ site_due plan h (Some x) = face_facts x (interface_at plan h x) (managed_view h 
 abbrev pub readings_at : Plan → History → Readings
 readings_at plan h = record {
   known = λ link requester. site_due plan h (site_of_requester plan link requester);
-  waiting = λ link. length (waiting_reads plan h link);
+  numbered = λ link requester. option_map (λ (x : Site). x.number) (site_of_requester plan link requester);
+  waiting = λ port. length (waiting_reads plan h port);
   statuses = history_statuses plan h;
 }
 
@@ -188,7 +190,7 @@ send_facts_due plan h end (OnStream t stream) =
 
 -- ---- answers to reads, and forwards
 
--- of a sender of completions on the stream of an interface, at the host's port of its link
+-- of a sender of completions on a stream of an end
 abbrev pub completion_due : Plan → History → PortName → ℕ → List Fact
 completion_due plan h port stream =
     if has_stream plan port stream
@@ -200,15 +202,17 @@ reader_due plan h None = []
 reader_due plan h (Some x) =
     face_facts x (interface_at plan h x) (managed_view h x) ++ completion_due plan h (host_port x.link) x.plan.stream
 
--- the oldest read
-abbrev pub oldest_due : Plan → History → ℕ → List WaitingRead → List Fact
-oldest_due plan h link [] = []
-oldest_due plan h link (r ∷ rs) = read_fact r.draw ∷ reader_due plan h (site_of_requester plan link r.read.requester)
+-- of a read that waits at a port of a link: at a host's by the interface that asked, at a device's where it came
+abbrev pub waiting_due : Plan → History → Side → ℕ → WaitingRead → List Fact
+waiting_due plan h Host link r =
+    read_fact r.came.draw ∷ reader_due plan h (site_of_requester plan link r.read.requester)
+waiting_due plan h Device link r =
+    response_facts plan (readings_at plan h) link r (completion_due plan h r.came.end r.came.stream)
 
-abbrev pub answer_facts_due : Plan → History → ℕ → List Fact
-answer_facts_due plan h link =
-    if has_link plan link
-    then waiting_fact (length (waiting_reads plan h link)) ∷ oldest_due plan h link (waiting_reads plan h link) else []
+abbrev pub queue_due : Plan → History → Side → ℕ → List Fact
+queue_due plan h side link =
+    queue_facts (has_link plan link) (waiting_due plan h side link)
+    (waiting_reads plan h (record { side = side; line = link }))
 
 -- the first TLP that waits
 abbrev pub first_due : Plan → History → PortName → List HopTlp → List Fact
@@ -282,7 +286,8 @@ facts_due plan h (event.Stop line stream loss) =
     if_stream plan line stream (stop_facts plan (ports_at h) line stream (op_of h line stream) (draws h))
 facts_due plan h (event.Status line stream) = if_stream plan line stream (manager_fact (op_of h line stream) ∷ [])
 facts_due plan h (event.Interface e) = asked_facts_due plan h e (number_in e)
-facts_due plan h (event.Access (ae.Answer link)) = answer_facts_due plan h link
+facts_due plan h (event.Access (ae.Answer link)) = queue_due plan h Host link
+facts_due plan h (event.Access (ae.Respond link)) = queue_due plan h Device link
 facts_due plan h (event.Access (ae.Mmio interface bar offset len)) = bar_facts_due plan h bar (site_at plan interface)
 facts_due plan h (event.Forward link d) = forward_facts_due plan h link d
 facts_due plan h (event.Reset link ends) = if has_link plan link then reset_facts_due plan h ends else []

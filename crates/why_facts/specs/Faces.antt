@@ -2,9 +2,9 @@
 use Rattle.std.specs.Prelude.{Bool, List, [], ◌∷◌, Option, Some, None}
 use Rattle.ide_types.specs.declared.binding.Binding.{Binding}
 use Rattle.interface_host.specs.Views.{grant_by}
-use Rattle.why_facts.specs.declared.fact.Fact.{Fact}
-use Rattle.why_facts.specs.declared.fact.InterfaceFact.TheVariants as face
-use Rattle.why_facts.specs.declared.fact.Fact.TheVariants as fact
+use Rattle.told_facts.specs.declared.fact.Fact.{Fact}
+use Rattle.told_facts.specs.declared.fact.InterfaceFact.TheVariants as face
+use Rattle.told_facts.specs.declared.fact.Fact.TheVariants as fact
 use Rattle.why_facts.specs.Forms.{bound_facts, interface_fact}
 use Rattle.why_facts.specs.declared.appends.faces.FaceSeen.{FaceSeen}
 

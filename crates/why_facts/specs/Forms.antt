@@ -12,6 +12,7 @@ use Rattle.ide_types.specs.declared.sub.SubKind.TheVariants.{Pr, Npr, Cpl}
 use Rattle.ide_types.specs.declared.plan.Plan.{Plan}
 use Rattle.ide_types.specs.declared.plan.LinkPlan.{LinkPlan}
 use Rattle.ide_types.specs.declared.plan.Region.{Region}
+use Rattle.ide_types.specs.Ports.{host_port, device_port}
 use Rattle.ide_types.specs.declared.interface.BarPlan.{BarPlan}
 use Rattle.ide_types.specs.declared.interface.InterfacePlan.{InterfacePlan}
 use Rattle.tlp_layout.specs.declared.head.HeadView.{HeadView}
@@ -36,6 +37,9 @@ use Rattle.trusted_memory.specs.Regions.{holds_all}
 use Rattle.trusted_memory.specs.Spans.{span_byte_count, span_of}
 use Rattle.trusted_memory.specs.declared.span.Span.{Span}
 use Rattle.trusted_memory.specs.Requests.{memory_read}
+use Rattle.trusted_memory.specs.declared.read.MemReadView.{MemReadView}
+use Rattle.trusted_memory.specs.declared.queue.ReadTarget.{ReadTarget}
+use Rattle.trusted_memory.specs.declared.queue.WaitingRead.{WaitingRead}
 use Rattle.guarded_memory.specs.{claim_of, is_open_range}
 use Rattle.guarded_memory.specs.declared.claims.Claim.{Claim}
 use Rattle.guarded_memory.specs.declared.status.InterfaceStatus.{InterfaceStatus}
@@ -46,15 +50,15 @@ use Rattle.spec_interfaces.specs.Terms.{View, Locked}
 use Rattle.spec_interfaces.specs.Views.{Managed, bound_if}
 use Rattle.spec_interfaces.specs.Due.{AskedState}
 use Rattle.spec_links.specs.Ports.{port_of, at_switch}
-use Rattle.why_facts.specs.Exchanges.{interface_exchanges, key_exchanges}
-use Rattle.why_facts.specs.declared.fact.Fact.{Fact}
-use Rattle.why_facts.specs.declared.fact.SetState.{SetState}
-use Rattle.why_facts.specs.declared.fact.ManagerState.{ManagerState}
-use Rattle.why_facts.specs.declared.fact.ManagerState.TheVariants as manager
-use Rattle.why_facts.specs.declared.fact.StreamFact.TheVariants as sf
-use Rattle.why_facts.specs.declared.fact.OperationFact.TheVariants as of
-use Rattle.why_facts.specs.declared.fact.InterfaceFact.TheVariants as face
-use Rattle.why_facts.specs.declared.fact.Fact.TheVariants as fact
+use Rattle.told_facts.specs.Exchanges.{interface_exchanges, key_exchanges}
+use Rattle.told_facts.specs.declared.fact.Fact.{Fact}
+use Rattle.told_facts.specs.declared.fact.SetState.{SetState}
+use Rattle.told_facts.specs.declared.fact.ManagerState.{ManagerState}
+use Rattle.told_facts.specs.declared.fact.ManagerState.TheVariants as manager
+use Rattle.told_facts.specs.declared.fact.StreamFact.TheVariants as sf
+use Rattle.told_facts.specs.declared.fact.OperationFact.TheVariants as of
+use Rattle.told_facts.specs.declared.fact.InterfaceFact.TheVariants as face
+use Rattle.told_facts.specs.declared.fact.Fact.TheVariants as fact
 
 -- ---- packets and streams
 
@@ -215,7 +219,7 @@ abbrev pub reported_facts : View → Bool → List Fact
 reported_facts Locked reported = fact.Interface (face.Reported reported) ∷ []
 reported_facts view reported = []
 
--- the streams that a device takes trusted writes to an interface on
+-- the streams that a device takes trusted requests to an interface on
 abbrev pub takes_facts : List Binding → List Fact
 takes_facts [] = []
 takes_facts (b ∷ bs) = fact.Interface (face.Takes b.stream b.floor) ∷ takes_facts bs
@@ -280,13 +284,25 @@ abbrev pub memory_facts : Plan → InterfaceEvent → List Fact
 memory_facts plan (ie.Memory at len) = region_facts plan.memory at len
 memory_facts plan e = []
 
+-- ---- reads that wait
+
+-- of the oldest of these reads, if there is one
+abbrev pub oldest_facts : (WaitingRead → List Fact) → List WaitingRead → List Fact
+oldest_facts told [] = []
+oldest_facts told (r ∷ rs) = told r
+
+-- of those that wait at a port of a link, if there is such a link
+abbrev pub queue_facts : Bool → (WaitingRead → List Fact) → List WaitingRead → List Fact
+queue_facts known told rs = if known then waiting_fact (length rs) ∷ oldest_facts told rs else []
+
 -- ---- what a packet asks of memory
 
--- what is read of what stands beside the ports: what is known of the interface of a link with a requester ID, how many
--- reads wait there, and how the interfaces of its device stand
+-- what is read of what stands beside the ports: what is known of the interface of a link with a requester ID, and its
+-- number; how many reads wait at a port, and how the interfaces of a link's device stand
 pub record Readings : Type 0 where
   pub known : ℕ → ℕ → List Fact
-  pub waiting : ℕ → ℕ
+  pub numbered : ℕ → ℕ → Option ℕ
+  pub waiting : PortName → ℕ
   pub statuses : ℕ → List InterfaceStatus
 
 abbrev pub known_to : Readings → ℕ → Option ℕ → List Fact
@@ -315,7 +331,7 @@ host_facts plan r link place t (Err f) = []
 host_facts plan r link place t (Ok head) =
     if is_request_head t head
     then packet_fact place t ∷ (span_facts plan (span_of head) ++ known_to r link (owner_id head)
-    ++ waiting_facts (is_some (memory_read head)) (r.waiting link))
+    ++ waiting_facts (is_some (memory_read head)) (r.waiting (host_port link)))
     else []
 
 -- the requester ID of the interface at a place of a link
@@ -328,16 +344,35 @@ claim_facts plan r link None = []
 claim_facts plan r link (Some c) =
     known_to r link (requester_at plan link c.interface) ++ bar_fact c.bar c.range ∷ takes_facts c.status.bound
 
+-- of these bytes, and of what claims them
+abbrev pub claimed_facts : Plan → Readings → ℕ → Span → Option Claim → List Fact
+claimed_facts plan r link s claim = bytes_fact s.address (span_byte_count s) ∷ claim_facts plan r link claim
+
 -- of a write over these bytes
 abbrev pub write_facts : Plan → Readings → ℕ → ℕ → Bool → Option Span → List Fact
 write_facts plan r link place t None = []
 write_facts plan r link place t (Some s) =
-    packet_fact place t ∷ bytes_fact s.address (span_byte_count s)
-    ∷ claim_facts plan r link (claim_of (r.statuses link) s)
+    packet_fact place t ∷ claimed_facts plan r link s (claim_of (r.statuses link) s)
+
+-- of a read of these bytes that is claimed by this, if the device answers reads of it
+abbrev pub claimed_read_facts : Plan → Readings → ℕ → ℕ → Bool → Span → Option Claim → List Fact
+claimed_read_facts plan r link place t s None = []
+claimed_read_facts plan r link place t s (Some c) =
+    if c.status.reads
+    then packet_fact place t
+    ∷ (claimed_facts plan r link s (Some c) ++ waiting_fact (r.waiting (device_port link)) ∷ [])
+    else []
+
+-- of a TLP that is this memory read, or of one that is none
+abbrev pub device_read_facts : Plan → Readings → ℕ → ℕ → Bool → Option MemReadView → List Fact → List Fact
+device_read_facts plan r link place t None other = other
+device_read_facts plan r link place t (Some read) other =
+    claimed_read_facts plan r link place t read.span (claim_of (r.statuses link) read.span)
 
 abbrev pub device_facts : Plan → Readings → ℕ → ℕ → Bool → Result HeadView TlpFault → List Fact
 device_facts plan r link place t (Err f) = []
-device_facts plan r link place t (Ok head) = write_facts plan r link place t (write_span head)
+device_facts plan r link place t (Ok head) =
+    device_read_facts plan r link place t (memory_read head) (write_facts plan r link place t (write_span head))
 
 abbrev pub side_facts : Plan → Readings → Side → ℕ → ℕ → Bool → Result HeadView TlpFault → List Fact
 side_facts plan r Host link place t head = host_facts plan r link place t head
@@ -356,6 +391,26 @@ abbrev pub requests_facts : Plan → Readings → PortName → ℕ → List Pack
 requests_facts plan r port place [] = []
 requests_facts plan r port place (p ∷ ps) =
     request_facts plan r port place p ++ requests_facts plan r port (place + 1) ps
+
+-- what claimed a read when it was queued: a BAR of an interface of this number
+abbrev pub interface_asked : Bool → ℕ → Option ℕ → List Fact
+interface_asked t bar None = []
+interface_asked t bar (Some number) = fact.Interface (face.Asks number bar t) ∷ []
+
+-- at the device of a link
+abbrev pub target_facts : Plan → Readings → ℕ → Bool → Option ReadTarget → List Fact
+target_facts plan r link t None = []
+target_facts plan r link t (Some target) =
+    interface_asked t target.bar (option_and_then (r.numbered link) (requester_at plan link target.interface))
+
+-- of a read that waits at the device of a link, with what claims it now; `completion` are the facts of the sender of
+-- its completion
+abbrev pub response_facts : Plan → Readings → ℕ → WaitingRead → List Fact → List Fact
+response_facts plan r link w completion =
+    read_fact w.came.draw
+    ∷ (target_facts plan r link w.came.trusted w.target
+    ++ claimed_facts plan r link w.read.span (claim_of (r.statuses link) w.read.span)
+    ++ sends_fact plan w.came.end w.came.stream Cpl ∷ completion)
 
 -- no rule of order speaks of posted packets
 abbrev pub adds_facts : SubKind → ℕ → List Fact

@@ -1,10 +1,11 @@
 -- What a verdict came from, by the state of the whole machine.
 use Rattle.std.specs.Prelude.{ℕ, ◌==◌, Bool, if◌then◌else◌}
 use Rattle.std.specs.Prelude.{List, [], ◌∷◌, ◌++◌, length, Option, Some, None, Result, Ok, Err}
-use Rattle.std.specs.Option.{option_and_then}
+use Rattle.std.specs.Option.{option_and_then, option_map}
 use Rattle.ide_types.specs.{is_link_line}
 use Rattle.ide_types.specs.declared.port.PortName.{PortName}
-use Rattle.ide_types.specs.declared.port.Side.TheVariants.{Host}
+use Rattle.ide_types.specs.declared.port.Side.{Side}
+use Rattle.ide_types.specs.declared.port.Side.TheVariants.{Host, Device}
 use Rattle.ide_types.specs.declared.sub.SubKind.{SubKind}
 use Rattle.ide_types.specs.declared.sub.SubKind.TheVariants.{Cpl}
 use Rattle.ide_types.specs.Ports.{host_port}
@@ -38,12 +39,13 @@ use Rattle.spec_links.specs.History.{ArrivedBytes}
 use Rattle.machine_operations.specs.{find, find_op, ports_of, machine_status}
 use Rattle.machine_whole.specs.Accesses.{face_statuses}
 use Rattle.machine_whole.specs.Machine.{Whole, arrival_of, whole_streams}
-use Rattle.why_facts.specs.declared.fact.Fact.{Fact}
-use Rattle.why_facts.specs.declared.fact.SetState.{SetState}
-use Rattle.why_facts.specs.declared.fact.SetState.TheVariants as set
+use Rattle.told_facts.specs.declared.fact.Fact.{Fact}
+use Rattle.told_facts.specs.declared.fact.SetState.{SetState}
+use Rattle.told_facts.specs.declared.fact.SetState.TheVariants as set
 use Rattle.why_facts.specs.Forms.{Readings, arrives_fact, asked_facts, at_port, counts_facts, each_looked_at}
 use Rattle.why_facts.specs.Forms.{clears_fact, establish_facts, face_facts, manager_fact, memory_facts, packets_fact}
-use Rattle.why_facts.specs.Forms.{posted_fact, read_fact, refresh_facts, sends_fact, facts_of_sets, shown_facts}
+use Rattle.why_facts.specs.Forms.{posted_fact, queue_facts, read_fact, refresh_facts, response_facts, sends_fact}
+use Rattle.why_facts.specs.Forms.{facts_of_sets, shown_facts}
 use Rattle.why_facts.specs.Forms.{state_fact, stop_facts, total_facts, unit_facts, waiting_fact}
 use Rattle.why_facts.specs.Due.{sets_own_t}
 
@@ -59,7 +61,9 @@ owner_found plan fs link head = option_and_then (with_requester plan fs link) (o
 abbrev pub readings_of_whole : Plan → Whole → Readings
 readings_of_whole plan w = record {
   known = λ link requester. known_facts (with_requester plan w.faces link requester);
-  waiting = λ link. length (w.accesses.waiting link);
+  numbered = λ link requester.
+      option_map (λ (y : Site × Face). y.0.number) (with_requester plan w.faces link requester);
+  waiting = λ port. length (w.accesses.waiting port);
   statuses = λ link. face_statuses link (sites plan) w.faces.list w.accesses.floors;
 }
 
@@ -155,16 +159,17 @@ reader_in plan w (Some y) =
     ++ completion_facts plan (host_port y.0.link) y.0.plan.stream
     (find plan w.links (host_port y.0.link) y.0.plan.stream)
 
-abbrev pub oldest_read_facts : Plan → Whole → ℕ → List WaitingRead → List Fact
-oldest_read_facts plan w link [] = []
-oldest_read_facts plan w link (r ∷ rs) =
-    read_fact r.draw ∷ reader_in plan w (with_requester plan w.faces link r.read.requester)
+abbrev pub waiting_in : Plan → Whole → Side → ℕ → WaitingRead → List Fact
+waiting_in plan w Host link r =
+    read_fact r.came.draw ∷ reader_in plan w (with_requester plan w.faces link r.read.requester)
+waiting_in plan w Device link r =
+    response_facts plan (readings_of_whole plan w) link r
+    (completion_facts plan r.came.end r.came.stream (find plan w.links r.came.end r.came.stream))
 
-abbrev pub answer_facts_in : Plan → Whole → ℕ → List Fact
-answer_facts_in plan w link =
-    if has_link plan link
-    then waiting_fact (length (w.accesses.waiting link)) ∷ oldest_read_facts plan w link (w.accesses.waiting link) else
-    []
+abbrev pub queue_in : Plan → Whole → Side → ℕ → List Fact
+queue_in plan w side link =
+    queue_facts (has_link plan link) (waiting_in plan w side link)
+    (w.accesses.waiting (record { side = side; line = link }))
 
 abbrev pub first_tlp_facts : Plan → Whole → PortName → List HopTlp → List Fact
 first_tlp_facts plan w end [] = []
@@ -241,7 +246,8 @@ facts_in plan w (event.Stop line stream loss) =
     (λ q. stop_facts plan (ports_of plan w.links) line stream q w.links.draws)
 facts_in plan w (event.Status line stream) = if_found (find_op plan w.links line stream) (λ q. manager_fact q ∷ [])
 facts_in plan w (event.Interface e) = asked_facts_in_state plan w e (number_in e)
-facts_in plan w (event.Access (ae.Answer link)) = answer_facts_in plan w link
+facts_in plan w (event.Access (ae.Answer link)) = queue_in plan w Host link
+facts_in plan w (event.Access (ae.Respond link)) = queue_in plan w Device link
 facts_in plan w (event.Access (ae.Mmio interface bar offset len)) =
     shown_in bar (find_face (λ x. x.number == interface) (sites plan) w.faces.list)
 facts_in plan w (event.Forward link d) = forward_facts_in plan w link d

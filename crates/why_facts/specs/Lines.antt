@@ -7,8 +7,8 @@ use Rattle.script_events.specs.declared.event.Event.{Event}
 use Rattle.event_verdicts.specs.declared.verdict.Verdict.{Verdict}
 use Rattle.event_verdicts.specs.declared.verdict.Effect.{Effect}
 use Rattle.event_verdicts.specs.declared.verdict.Verdict.TheVariants as v
-use Rattle.why_facts.specs.Terms.{Fact}
-use Rattle.why_facts.specs.Told.{fact_lines}
+use Rattle.told_facts.specs.declared.fact.Fact.{Fact}
+use Rattle.told_facts.specs.Told.{fact_lines}
 use Rattle.why_facts.specs.Rules.{rule_of, effect_rule_of}
 
 abbrev pub rule_line : Text → Text

@@ -3,6 +3,7 @@ use Rattle.std.specs.Prelude.{ℕ, nat_lt, not, Bool, true, false, if◌then◌e
 use Rattle.ide_types.specs.declared.port.Side.{Side}
 use Rattle.ide_types.specs.declared.sub.SubKind.{SubKind}
 use Rattle.spec_keys.specs.Places.{KeyPlace, is_host}
+use Rattle.sub_stream.specs.declared.facts.SetFacts.{SetFacts}
 use Rattle.sub_stream.specs.declared.facts.SlotFacts.{SlotFacts}
 use Rattle.sub_stream.specs.declared.facts.SlotFacts.TheVariants as slot
 use Rattle.why_facts.specs.declared.appends.places.Place.{Place}
@@ -27,3 +28,7 @@ is_last_beside draw other = true
 abbrev pub is_last_seen : SlotFacts → SlotFacts → Bool
 is_last_seen (slot.Live draw units packets) other = is_last_beside draw other
 is_last_seen s other = false
+
+-- a KEY_PROG of a set is refused where both hold this
+abbrev pub refuses_seen : Bool → SetFacts → Bool
+refuses_seen set sets = if set then is_last_seen sets.one sets.zero else is_last_seen sets.zero sets.one

@@ -24,9 +24,9 @@ use Rattle.event_verdicts.specs.declared.access.AccessVerdict.TheVariants as av
 use Rattle.event_verdicts.specs.declared.verdict.Verdict.TheVariants as v
 use Rattle.event_verdicts.specs.declared.verdict.BlockCause.TheVariants as cause
 use Rattle.event_verdicts.specs.declared.verdict.Effect.TheVariants as effect
-use Rattle.why_facts.specs.Terms.{Fact}
-use Rattle.why_facts.specs.Terms.sf
-use Rattle.why_facts.specs.Terms.fact
+use Rattle.told_facts.specs.declared.fact.Fact.{Fact}
+use Rattle.told_facts.specs.declared.fact.StreamFact.TheVariants as sf
+use Rattle.told_facts.specs.declared.fact.Fact.TheVariants as fact
 
 -- the line names what does not exist
 abbrev pub rule_of_none : Text
@@ -126,35 +126,55 @@ interface_rule e (v.LostReply n) = codes "views.lost"
 interface_rule e (v.RefusedDevice n code) = codes "views.device"
 interface_rule e w = asked_rule e
 
--- ---- answers to reads
+-- ---- answers to reads that wait, at a host's port or at a device's
 
-abbrev pub dropped_rule : BlockCause → Text
-dropped_rule cause.NotRunning = codes "answers.running"
-dropped_rule cause.WrongStream = codes "answers.stream"
-dropped_rule cause.Stale = codes "answers.floor"
-dropped_rule cause.NotTrusted = codes "answers.floor"
-dropped_rule cause.Outside = codes "answers.floor"
-dropped_rule cause.Crosses = codes "answers.floor"
-dropped_rule cause.Full = codes "answers.floor"
+abbrev pub by_side : Side → (host device : Text) → Text
+by_side Host host device = host
+by_side Device host device = device
 
-abbrev pub unanswered_rule : AccessVerdict → Text
-unanswered_rule (av.Empty link) = codes "answers.empty"
-unanswered_rule (av.Dropped interface c) = dropped_rule c
-unanswered_rule (av.Mmio bytes) = codes "answers.refused"
+abbrev pub host_dropped_rule : BlockCause → Text
+host_dropped_rule cause.NotRunning = codes "answers.running"
+host_dropped_rule cause.WrongStream = codes "answers.stream"
+host_dropped_rule cause.Stale = codes "answers.floor"
+host_dropped_rule cause.NotTrusted = codes "answers.floor"
+host_dropped_rule cause.Outside = codes "answers.floor"
+host_dropped_rule cause.Crosses = codes "answers.floor"
+host_dropped_rule cause.Full = codes "answers.floor"
+host_dropped_rule cause.Moved = codes "answers.floor"
 
-abbrev pub refreshed_rule : InterfaceVerdict → Text
-refreshed_rule (iv.RefusedRefreshFirst draw needed) = codes "answers.refresh"
-refreshed_rule w = codes "answers.refused"
+abbrev pub device_dropped_rule : BlockCause → Text
+device_dropped_rule cause.NotTrusted = codes "responses.trusted"
+device_dropped_rule cause.NotRunning = codes "responses.running"
+device_dropped_rule cause.WrongStream = codes "responses.stream"
+device_dropped_rule cause.Stale = codes "responses.floor"
+device_dropped_rule cause.Moved = codes "responses.moved"
+device_dropped_rule cause.Outside = codes "responses.floor"
+device_dropped_rule cause.Crosses = codes "responses.floor"
+device_dropped_rule cause.Full = codes "responses.floor"
 
-abbrev pub answer_rule : Verdict → Text
-answer_rule v.Nothing = codes "answers.link"
-answer_rule (v.Access w) = unanswered_rule w
-answer_rule (v.Interface w) = refreshed_rule w
-answer_rule (v.Sealed ds) = codes "answers.sealed"
-answer_rule w = codes "answers.refused"
+abbrev pub refused_rule : Side → Text
+refused_rule side = by_side side (codes "answers.refused") (codes "responses.refused")
+
+abbrev pub unanswered_rule : Side → AccessVerdict → Text
+unanswered_rule side (av.Empty link) = by_side side (codes "answers.empty") (codes "responses.empty")
+unanswered_rule side (av.Dropped interface c) = by_side side (host_dropped_rule c) (device_dropped_rule c)
+unanswered_rule side (av.Mmio bytes) = refused_rule side
+
+abbrev pub refreshed_rule : Side → InterfaceVerdict → Text
+refreshed_rule side (iv.RefusedRefreshFirst draw needed) =
+    by_side side (codes "answers.refresh") (codes "responses.refresh")
+refreshed_rule side w = refused_rule side
+
+abbrev pub answer_rule : Side → Verdict → Text
+answer_rule side v.Nothing = by_side side (codes "answers.link") (codes "responses.link")
+answer_rule side (v.Access w) = unanswered_rule side w
+answer_rule side (v.Interface w) = refreshed_rule side w
+answer_rule side (v.Sealed ds) = by_side side (codes "answers.sealed") (codes "responses.sealed")
+answer_rule side w = refused_rule side
 
 abbrev pub access_rule : AccessEvent → Verdict → Text
-access_rule (ae.Answer link) w = answer_rule w
+access_rule (ae.Answer link) w = answer_rule Host w
+access_rule (ae.Respond link) w = answer_rule Device w
 access_rule (ae.Mmio interface bar offset len) w = codes "mmio.shown"
 
 -- ---- all events
@@ -206,6 +226,7 @@ write_cause_rule cause.Stale = codes "memory.floor"
 write_cause_rule cause.Outside = codes "memory.region"
 write_cause_rule cause.Crosses = codes "memory.page"
 write_cause_rule cause.Full = codes "reads.full"
+write_cause_rule cause.Moved = codes "memory.page"
 
 abbrev pub read_cause_rule : BlockCause → Text
 read_cause_rule cause.Outside = codes "reads.placed"
@@ -215,6 +236,7 @@ read_cause_rule cause.NotTrusted = codes "reads.granted"
 read_cause_rule cause.NotRunning = codes "reads.granted"
 read_cause_rule cause.WrongStream = codes "reads.granted"
 read_cause_rule cause.Stale = codes "reads.granted"
+read_cause_rule cause.Moved = codes "reads.granted"
 
 abbrev pub mmio_cause_rule : BlockCause → Text
 mmio_cause_rule cause.NotTrusted = codes "mmio.trusted"
@@ -223,7 +245,8 @@ mmio_cause_rule cause.WrongStream = codes "mmio.stream"
 mmio_cause_rule cause.Stale = codes "mmio.floor"
 mmio_cause_rule cause.Crosses = codes "mmio.page"
 mmio_cause_rule cause.Outside = codes "mmio.page"
-mmio_cause_rule cause.Full = codes "mmio.page"
+mmio_cause_rule cause.Full = codes "reads.full"
+mmio_cause_rule cause.Moved = codes "mmio.page"
 
 -- a host's port: the near end of a link, or of a segment towards the host
 abbrev pub is_host_end : PortName → Bool

@@ -1,7 +1,6 @@
 //! What of values is appended to the facts that a verdict comes from: of streams, interfaces, ranges of memory,
-//! operations, exchanges and packets as they are seen (PCI Express Base 6.0 section 6.33 and chapter 11, in this profile).
+//! operations and packets as they are seen (PCI Express Base 6.0 section 6.33 and chapter 11, in this profile).
 
-pub mod exchanges;
 pub mod faces;
 pub mod memory;
 pub mod operations;

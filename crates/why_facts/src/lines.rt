@@ -3,15 +3,14 @@
 ghost use Rattle.std.specs.Prelude.{◌≡◌, ◌++◌, List, IfOk, OnOk, string_bytes};
 ghost use Rattle.ide_types.specs.{Text};
 ghost use Rattle.why_facts.specs.Lines.{effect_lines, facts_text, rule_line, rules_text, why_text_of};
-ghost use Rattle.why_facts.specs.Told.{fact_lines};
+ghost use Rattle.told_facts.specs.Told.{fact_lines};
 
-use crate::fact::Fact;
 use crate::rules::{effect_rule, rule};
-use crate::told::push_exchange;
 use event_verdicts::{Effect, Verdict};
 use ide_types::{OutOfMemory, PortName, SubKind};
 use script_events::Event;
 use std::alloc::{AllocError, Global};
+use told_facts::{Fact, push_exchange};
 
 // Room for most texts.
 const TEXT_ROOM: usize = 256;

@@ -1,17 +1,18 @@
 //! The rule that answers an event, by the names of docs/RULES.md (this profile).
 
 ghost use Rattle.std.specs.Prelude.{◌≡◌, ◌<◌, ◌^◌};
-ghost use Rattle.why_facts.specs.Rules.{access_rule, answer_rule, arriving_rule, asked_rule, cause_rule};
-ghost use Rattle.why_facts.specs.Rules.{class_of_first, class_of_second, class_of_fact, dropped_rule, effect_rule_of};
-ghost use Rattle.why_facts.specs.Rules.{fail_rule, host_cause_rule, interface_rule, is_host_end, key_rule, line_rule};
+ghost use Rattle.why_facts.specs.Rules.{access_rule, answer_rule, arriving_rule, asked_rule, by_side, cause_rule};
+ghost use Rattle.why_facts.specs.Rules.{class_of_first, class_of_second, class_of_fact, device_dropped_rule};
+ghost use Rattle.why_facts.specs.Rules.{effect_rule_of, fail_rule, host_cause_rule, host_dropped_rule, interface_rule};
+ghost use Rattle.why_facts.specs.Rules.{is_host_end, key_rule, line_rule, refused_rule};
 ghost use Rattle.why_facts.specs.Rules.{mmio_cause_rule, operation_rule, read_cause_rule, rule_of, rule_of_none};
 ghost use Rattle.why_facts.specs.Rules.{refreshed_rule, sending_rule, unanswered_rule, unless_none, unnamed_rule};
 ghost use Rattle.why_facts.specs.Rules.{write_cause_rule};
 
-use crate::fact::{Fact, StreamFact};
 use event_verdicts::{AccessVerdict, BlockCause, Effect, Verdict};
 use ide_types::{FailCause, InterfaceVerdict, PortName, Side, SubKind};
 use script_events::{AccessEvent, Event, InterfaceEvent};
+use told_facts::{Fact, StreamFact};
 
 fn key_rule(class: Option<SubKind>, sub: SubKind) -> &'static str
     ensures { result.now ≡ key_rule class sub }
@@ -233,8 +234,19 @@ fn interface_rule(event: &InterfaceEvent, verdict: &Verdict) -> &'static str
     }
 }
 
-fn dropped_rule(cause: BlockCause) -> &'static str
-    ensures { result.now ≡ dropped_rule cause }
+// ---- answers to reads that wait, at a host's port or at a device's
+
+fn by_side(side: Side, host: &'static str, device: &'static str) -> &'static str
+    ensures { result.now ≡ by_side side host.now device.now }
+{
+    match side {
+        Side::Host => host,
+        Side::Device => device,
+    }
+}
+
+fn host_dropped_rule(cause: BlockCause) -> &'static str
+    ensures { result.now ≡ host_dropped_rule cause }
 {
     match cause {
         BlockCause::NotRunning => "answers.running",
@@ -243,25 +255,50 @@ fn dropped_rule(cause: BlockCause) -> &'static str
         | BlockCause::NotTrusted
         | BlockCause::Outside
         | BlockCause::Crosses
-        | BlockCause::Full => "answers.floor",
+        | BlockCause::Full
+        | BlockCause::Moved => "answers.floor",
     }
 }
 
-fn unanswered_rule(verdict: &AccessVerdict) -> &'static str
-    ensures { result.now ≡ unanswered_rule verdict.now }
+fn device_dropped_rule(cause: BlockCause) -> &'static str
+    ensures { result.now ≡ device_dropped_rule cause }
 {
-    match verdict {
-        AccessVerdict::Empty { .. } => "answers.empty",
-        AccessVerdict::Dropped { cause, .. } => dropped_rule(*cause),
-        AccessVerdict::Mmio { .. } => "answers.refused",
+    match cause {
+        BlockCause::NotTrusted => "responses.trusted",
+        BlockCause::NotRunning => "responses.running",
+        BlockCause::WrongStream => "responses.stream",
+        BlockCause::Moved => "responses.moved",
+        BlockCause::Stale | BlockCause::Outside | BlockCause::Crosses | BlockCause::Full => {
+            "responses.floor"
+        }
     }
 }
 
-fn refreshed_rule(verdict: &InterfaceVerdict) -> &'static str
-    ensures { result.now ≡ refreshed_rule verdict.now }
+fn refused_rule(side: Side) -> &'static str
+    ensures { result.now ≡ refused_rule side }
+{
+    by_side(side, "answers.refused", "responses.refused")
+}
+
+fn unanswered_rule(side: Side, verdict: &AccessVerdict) -> &'static str
+    ensures { result.now ≡ unanswered_rule side verdict.now }
 {
     match verdict {
-        InterfaceVerdict::RefusedRefreshFirst { .. } => "answers.refresh",
+        AccessVerdict::Empty { .. } => by_side(side, "answers.empty", "responses.empty"),
+        AccessVerdict::Dropped { cause, .. } => {
+            by_side(side, host_dropped_rule(*cause), device_dropped_rule(*cause))
+        }
+        AccessVerdict::Mmio { .. } => refused_rule(side),
+    }
+}
+
+fn refreshed_rule(side: Side, verdict: &InterfaceVerdict) -> &'static str
+    ensures { result.now ≡ refreshed_rule side verdict.now }
+{
+    match verdict {
+        InterfaceVerdict::RefusedRefreshFirst { .. } => {
+            by_side(side, "answers.refresh", "responses.refresh")
+        }
         InterfaceVerdict::Locked { .. }
         | InterfaceVerdict::Reported { .. }
         | InterfaceVerdict::Started { .. }
@@ -275,18 +312,18 @@ fn refreshed_rule(verdict: &InterfaceVerdict) -> &'static str
         | InterfaceVerdict::Firmware { .. }
         | InterfaceVerdict::Memory { .. }
         | InterfaceVerdict::RefusedWrongState { .. }
-        | InterfaceVerdict::RefusedNotReported => "answers.refused",
+        | InterfaceVerdict::RefusedNotReported => refused_rule(side),
     }
 }
 
-fn answer_rule(verdict: &Verdict) -> &'static str
-    ensures { result.now ≡ answer_rule verdict.now }
+fn answer_rule(side: Side, verdict: &Verdict) -> &'static str
+    ensures { result.now ≡ answer_rule side verdict.now }
 {
     match verdict {
-        Verdict::Nothing => "answers.link",
-        Verdict::Access { verdict } => unanswered_rule(verdict),
-        Verdict::Interface { verdict } => refreshed_rule(verdict),
-        Verdict::Sealed { .. } => "answers.sealed",
+        Verdict::Nothing => by_side(side, "answers.link", "responses.link"),
+        Verdict::Access { verdict } => unanswered_rule(side, verdict),
+        Verdict::Interface { verdict } => refreshed_rule(side, verdict),
+        Verdict::Sealed { .. } => by_side(side, "answers.sealed", "responses.sealed"),
         Verdict::Malformed { .. }
         | Verdict::Plain { .. }
         | Verdict::RefusedInsecure
@@ -313,7 +350,7 @@ fn answer_rule(verdict: &Verdict) -> &'static str
         | Verdict::RefusedUnitOpen { .. }
         | Verdict::Packet { .. }
         | Verdict::Reset { .. }
-        | Verdict::Status { .. } => "answers.refused",
+        | Verdict::Status { .. } => refused_rule(side),
     }
 }
 
@@ -321,7 +358,8 @@ fn access_rule(event: &AccessEvent, verdict: &Verdict) -> &'static str
     ensures { result.now ≡ access_rule event.now verdict.now }
 {
     match event {
-        AccessEvent::Answer { .. } => answer_rule(verdict),
+        AccessEvent::Answer { .. } => answer_rule(Side::Host, verdict),
+        AccessEvent::Respond { .. } => answer_rule(Side::Device, verdict),
         AccessEvent::Mmio { .. } => "mmio.shown",
     }
 }
@@ -400,7 +438,7 @@ fn write_cause_rule(cause: BlockCause) -> &'static str
         BlockCause::WrongStream => "memory.stream",
         BlockCause::Stale => "memory.floor",
         BlockCause::Outside => "memory.region",
-        BlockCause::Crosses => "memory.page",
+        BlockCause::Crosses | BlockCause::Moved => "memory.page",
         BlockCause::Full => "reads.full",
     }
 }
@@ -414,7 +452,8 @@ fn read_cause_rule(cause: BlockCause) -> &'static str
         BlockCause::NotTrusted
         | BlockCause::NotRunning
         | BlockCause::WrongStream
-        | BlockCause::Stale => "reads.granted",
+        | BlockCause::Stale
+        | BlockCause::Moved => "reads.granted",
     }
 }
 
@@ -426,7 +465,8 @@ fn mmio_cause_rule(cause: BlockCause) -> &'static str
         BlockCause::NotRunning => "mmio.running",
         BlockCause::WrongStream => "mmio.stream",
         BlockCause::Stale => "mmio.floor",
-        BlockCause::Crosses | BlockCause::Outside | BlockCause::Full => "mmio.page",
+        BlockCause::Full => "reads.full",
+        BlockCause::Crosses | BlockCause::Outside | BlockCause::Moved => "mmio.page",
     }
 }
 

@@ -13,6 +13,8 @@ use Rattle.ide_types.specs.declared.direction.Direction.TheVariants.{Downstream,
 use Rattle.ide_types.specs.declared.plan.Plan.{Plan}
 use Rattle.ide_types.specs.declared.plan.LinkPlan.{LinkPlan}
 use Rattle.ide_types.specs.declared.interface.InterfacePlan.{InterfacePlan}
+use Rattle.ide_types.specs.declared.port.Side.{Side}
+use Rattle.ide_types.specs.declared.port.Side.TheVariants.{Host, Device}
 use Rattle.ide_types.specs.declared.plan.Region.{Region}
 use Rattle.ide_types.specs.Fits.{FitsPlan, IsKey}
 use Rattle.spec_interfaces.specs.Floors.{interfaces_before}
@@ -164,10 +166,12 @@ zeros_at [] link = refl
 zeros_at (l ∷ ls) zero = refl
 zeros_at (l ∷ ls) (suc link) = zeros_at ls link
 
-none_read : (ls : List LinkPlan) (link : ℕ) → reads_at (new_accesses ls) link ≡ []
-none_read [] link = refl
-none_read (l ∷ ls) zero = refl
-none_read (l ∷ ls) (suc link) = none_read ls link
+none_read : (ls : List LinkPlan) (side : Side) (link : ℕ)
+    → reads_at (new_accesses ls) (record { side = side; line = link }) ≡ []
+none_read [] side link = refl
+none_read (l ∷ ls) Host zero = refl
+none_read (l ∷ ls) Device zero = refl
+none_read (l ∷ ls) side (suc link) = none_read ls side link
 
 none_carried : (ls : List LinkPlan) (link : ℕ) (d : Direction) → carried_on_link (new_accesses ls) link d ≡ []
 none_carried [] link d = refl
@@ -189,7 +193,7 @@ sizes_of (l ∷ ls) (suc link) p is = sizes_of ls link p is
 accesses_first : (plan : Plan) → AreAccesses plan (link_seen (new_accesses plan.links)) (first_accesses plan)
 accesses_first plan = record {
   floored = length-map (sites plan) first_floor;
-  reads = λ link. none_read plan.links link;
+  reads = λ port. none_read plan.links port.side port.line;
   bytes = λ link i b offset. none_written plan.links link i b offset ∙ sym (byte_last_written-none offset);
   sizes = λ link p is. sizes_of plan.links link p is;
   floors = λ link. zeros_at plan.links link ∙ sym (zeros_on link (sites plan)

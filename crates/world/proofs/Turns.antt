@@ -21,7 +21,8 @@ use Rattle.interface_host.specs.declared.operation.InterfaceOperation.{Interface
 use Rattle.script_events.specs.declared.event.Loss.{Loss}
 use Rattle.std.specs.Prelude.{Option}
 use Rattle.machine_whole.specs.Interfaces.{grant_of}
-use Rattle.join_accesses.proofs.{grant_is, AreBoth, answer_beside, mmio_beside, send_beside, dump_beside, status_beside}
+use Rattle.join_accesses.proofs.{grant_is, AreBoth, answer_beside, response_beside, mmio_beside, send_beside}
+use Rattle.join_accesses.proofs.{dump_beside, status_beside}
 use Rattle.join_accesses.proofs.{view_beside, memory_beside, forward_beside, nothing_beside}
 use Rattle.world.proofs.Arrives.{arrives_beside}
 use Rattle.world.proofs.Calls.{write_beside, flr_beside, firmware_beside}
@@ -98,6 +99,8 @@ module _ (plan : Plan) (old new : Links) (w : Whole) (verdict : Verdict) (join :
   beside_after (event.Interface e) t sides = interface_after e t sides
   beside_after (event.Access (ae.Answer link)) t sides =
       answer_beside plan old new w verdict (beside_of plan w) t.both sides link t.step
+  beside_after (event.Access (ae.Respond link)) t sides =
+      response_beside plan old new w verdict (beside_of plan w) t.both sides link t.step
   beside_after (event.Access (ae.Mmio interface bar offset len)) t sides =
       mmio_beside plan old new w verdict (beside_of plan w) t.both sides interface bar offset len t.step
   beside_after (event.Forward link d) t sides =

@@ -158,7 +158,7 @@ module _ (plan : Plan) (old new : WholeLinks) (e : Event) (given : Given) (w : I
 module _ (plan : Plan) (old new : WholeLinks) (w : IsWorld plan old) (stays : WholeStays old new) where
   seen_same : link_seen new.accesses ≡ link_seen old.accesses
   seen_same = λ j link. record {
-    reads = stays.accesses.reads link j;
+    reads = λ side. stays.accesses.reads (record { side = side; line = link }) j;
     floors = stays.accesses.floors link j;
     sizes = stays.accesses.sizes link j;
     bytes = λ i b offset.

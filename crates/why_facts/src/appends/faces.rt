@@ -1,13 +1,14 @@
 //! Facts of a device interface.
 
 ghost use Rattle.std.specs.Prelude.{◌≡◌, ◌∷◌, ◌++◌, [], IfOk};
+ghost use Rattle.spec_interfaces.specs.Views.{number_in};
 ghost use Rattle.why_facts.specs.Faces.{face_seen, grant_seen, reported_seen};
 ghost use Rattle.why_facts.specs.Forms.{bound_facts, draw_fact, live_facts};
 
-use crate::appends::streams::push;
-use crate::{Fact, InterfaceFact};
 use ide_types::OutOfMemory;
 use interface_host::InterfaceFacts;
+use script_events::InterfaceEvent;
+use told_facts::{Fact, InterfaceFact, push};
 
 /// An interface: its number, its state at its device, and what the manager keeps of it.
 #[derive(Clone, Copy)]
@@ -82,5 +83,25 @@ pub fn push_live(facts: &mut Vec<Fact>, live: Option<u32>) -> Result<(), OutOfMe
     match live {
         None => Ok(()),
         Some(draw) => push_of_interface(facts, InterfaceFact::Live { draw }),
+    }
+}
+
+/// The number of the interface that an event is on.
+pub fn number_in(event: &InterfaceEvent) -> Option<u64>
+    ensures { result ≡ number_in event.now }
+{
+    match event {
+        InterfaceEvent::Lock { interface, .. }
+        | InterfaceEvent::Report { interface, .. }
+        | InterfaceEvent::Start { interface, .. }
+        | InterfaceEvent::Halt { interface, .. }
+        | InterfaceEvent::State { interface, .. }
+        | InterfaceEvent::Bind { interface, .. }
+        | InterfaceEvent::Unbind { interface, .. }
+        | InterfaceEvent::View { interface }
+        | InterfaceEvent::Write { interface, .. }
+        | InterfaceEvent::Flr { interface }
+        | InterfaceEvent::Firmware { interface } => Some(*interface),
+        InterfaceEvent::Memory { .. } => None,
     }
 }

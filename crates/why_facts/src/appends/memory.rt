@@ -4,13 +4,13 @@ ghost use Rattle.std.specs.Prelude.{◌≡◌, ◌∷◌, ◌++◌, [], find, If
 ghost use Rattle.trusted_memory.specs.Regions.{holds_all};
 ghost use Rattle.trusted_memory.specs.Spans.{span_byte_count};
 ghost use Rattle.why_facts.specs.Forms.{bar_fact, bar_facts, bytes_fact, memory_facts, region_facts, span_facts};
-ghost use Rattle.why_facts.specs.Forms.{takes_facts};
+ghost use Rattle.why_facts.specs.Forms.{requester_at, shown_facts, takes_facts};
 
 use crate::appends::faces::push_of_interface;
-use crate::{Fact, InterfaceFact};
 use ide_types::{BarPlan, OutOfMemory, Region, ValidPlan};
-use interface_state::Binding;
+use interface_state::{Binding, Interface};
 use script_events::InterfaceEvent;
+use told_facts::{Fact, InterfaceFact};
 use trusted_memory::Span;
 
 // Whether a region has all n bytes from an address on.
@@ -101,12 +101,8 @@ fn range_of(bars: &[BarPlan], bar: u64) -> Option<BarPlan>
     }
 }
 
-/// Appends the range of one of these BARs, if the interface has it.
-pub fn push_bar_if_there(
-    facts: &mut Vec<Fact>,
-    bars: &[BarPlan],
-    bar: u64,
-) -> Result<(), OutOfMemory>
+// Appends the range of one of these BARs, if the interface has it.
+fn push_bar_if_there(facts: &mut Vec<Fact>, bars: &[BarPlan], bar: u64) -> Result<(), OutOfMemory>
     ensures { IfOk result (λ _. facts.new.items ≡ facts.old.items ++ bar_facts bar (slice_get bars.now bar)) }
 {
     match range_of(bars, bar) {
@@ -121,7 +117,39 @@ pub fn push_bar_if_there(
     }
 }
 
-/// Appends the streams that a device takes trusted writes to an interface on.
+/// Appends the state of an interface at its device, and the range of one of its BARs.
+pub fn push_shown(
+    facts: &mut Vec<Fact>,
+    number: u8,
+    interface: &Interface,
+    bar: u64,
+) -> Result<(), OutOfMemory>
+    ensures { IfOk result (λ _. facts.new.items ≡ facts.old.items ++ shown_facts number interface.now bar) }
+{
+    push_of_interface(
+        facts,
+        InterfaceFact::Interface {
+            interface: number,
+            state: interface.state(),
+        },
+    )?;
+    push_bar_if_there(facts, &interface.bars(), bar)
+}
+
+/// The requester ID of the interface at a place of a link.
+pub fn requester_at(plan: &ValidPlan, link: u8, place: usize) -> Option<u16>
+    ensures { result ≡ requester_at plan.now link place }
+{
+    match plan.plan().links.as_slice().get(link as usize) {
+        None => None,
+        Some(link) => match link.interfaces.as_slice().get(place) {
+            None => None,
+            Some(interface) => Some(interface.requester),
+        },
+    }
+}
+
+/// Appends the streams that a device takes trusted requests to an interface on.
 pub fn push_takes(facts: &mut Vec<Fact>, bindings: &[Binding]) -> Result<(), OutOfMemory>
     ensures { IfOk result (λ _. facts.new.items ≡ facts.old.items ++ takes_facts bindings.now) }
 {

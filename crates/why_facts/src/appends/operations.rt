@@ -4,15 +4,16 @@ ghost use Rattle.std.specs.Prelude.{◌≡◌, ◌∷◌, ◌++◌, [], IfOk, So
 ghost use Rattle.ide_types.specs.{is_hosted};
 ghost use Rattle.spec_keys.specs.Operations.{last_exchange_of, work_of};
 ghost use Rattle.key_host.specs.Facts.{op_seen};
-ghost use Rattle.why_facts.specs.Forms.{manager_fact, manager_state, may_go};
-ghost use Rattle.why_facts.specs.Streams.{open_seen};
+ghost use Rattle.why_facts.specs.Forms.{clears_fact, draws_fact, manager_fact, manager_state, may_go, pool_of};
+ghost use Rattle.why_facts.specs.Streams.{open_seen, opens_seen};
 
-use crate::appends::streams::{is_live, push};
-use crate::{Fact, ManagerState, OperationFact};
+use crate::appends::streams::is_live;
 use event_verdicts::Operation;
-use ide_types::{OutOfMemory, SubKind};
+use ide_types::{OutOfMemory, PortName, StreamStatus, SubKind, ValidPlan};
 use key_host::StageFacts;
+use line_routes::port_of;
 use sub_stream::StreamFacts;
+use told_facts::{Fact, ManagerState, OperationFact, push};
 
 /// What the manager knows of a stream.
 pub fn manager_state(stage: StageFacts) -> ManagerState
@@ -105,8 +106,8 @@ pub fn last_exchange(operation: Operation, line: u8) -> u64
     }
 }
 
-/// Appends the sender of a sub-stream, if it is in use in a key set.
-pub fn push_open(
+// Appends the sender of a sub-stream, if it is in use in a key set.
+fn push_open(
     facts: &mut Vec<Fact>,
     seen: &StreamFacts,
     set: bool,
@@ -118,5 +119,36 @@ pub fn push_open(
         push_of_operation(facts, OperationFact::Open { sub })
     } else {
         Ok(())
+    }
+}
+
+/// Appends the senders that are in use in a key set.
+pub fn push_opens(facts: &mut Vec<Fact>, seen: &StreamFacts, set: bool) -> Result<(), OutOfMemory>
+    ensures { IfOk result (λ _. facts.new.items ≡ facts.old.items ++ opens_seen (Some seen.now) set) }
+{
+    push_open(facts, seen, set, SubKind::Pr)?;
+    push_open(facts, seen, set, SubKind::Npr)?;
+    push_open(facts, seen, set, SubKind::Cpl)
+}
+
+/// Appends how many of the pool's draws were made.
+pub fn push_draws(facts: &mut Vec<Fact>, plan: &ValidPlan, made: u32) -> Result<(), OutOfMemory>
+    ensures { IfOk result (λ _. facts.new.items ≡ facts.old.items ++ draws_fact made (pool_of plan.now) ∷ []) }
+{
+    let pool = plan.plan().pool.as_slice().len() as u64 / 6;
+    let made = u64::from(made);
+    push_of_operation(facts, OperationFact::Draws { made, pool })
+}
+
+/// The fact of a stream at an end that a reset clears.
+pub fn clears_fact(plan: &ValidPlan, end: PortName, stream: u8, status: StreamStatus) -> Fact
+    ensures { result ≡ clears_fact plan.now end stream status }
+{
+    Fact::Operation {
+        fact: OperationFact::Clears {
+            port: port_of(plan, end),
+            stream,
+            status,
+        },
     }
 }

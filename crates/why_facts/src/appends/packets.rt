@@ -1,14 +1,14 @@
 //! Facts of packets that arrive.
 
-ghost use Rattle.std.specs.Prelude.{◌≡◌, ◌++◌, IfOk};
+ghost use Rattle.std.specs.Prelude.{◌≡◌, ◌<◌, ◌++◌, IfOk, bit_xor, length, slice_index, slice_set};
 ghost use Rattle.ide_prefix.specs.Cut.{packet_of_view};
 ghost use Rattle.why_facts.specs.Forms.{adds_facts, arrives_fact, packet_fact};
 
-use crate::appends::streams::push;
-use crate::{Fact, InterfaceFact, StreamFact};
 use ide_prefix::PacketView;
 use ide_types::{OutOfMemory, PortName, SubKind, ValidPlan};
 use line_routes::port_of;
+use std::alloc::Global;
+use told_facts::{Fact, InterfaceFact, StreamFact, push};
 
 /// The fact of a packet at a place of its unit.
 pub fn packet_fact(place: u64, t: bool) -> Fact
@@ -46,4 +46,14 @@ pub fn push_adds(facts: &mut Vec<Fact>, sub: SubKind, posted: u64) -> Result<(),
             },
         ),
     }
+}
+
+/// A copy of the bytes, with the one at `at` combined with `mask`.
+pub fn altered(alloc: Global, bytes: &[u8], at: usize, mask: u8) -> Result<Vec<u8>, OutOfMemory>
+    requires { at < length bytes.now }
+    ensures { IfOk result (λ copy. copy.items ≡ slice_set bytes.now at (bit_xor (slice_index bytes.now at) mask)) }
+{
+    let mut copy = Vec::from_slice(alloc, bytes)?;
+    copy[at] ^= mask;
+    Ok(copy)
 }

@@ -5,10 +5,9 @@ ghost use Rattle.spec_interfaces.specs.Cause.{is_peer, owners_link};
 ghost use Rattle.why_facts.specs.Due.{sets_own_t};
 ghost use Rattle.why_facts.specs.Forms.{at_port, sends_fact};
 
-use crate::appends::streams::push;
-use crate::{Fact, StreamFact};
 use ide_types::{OutOfMemory, PortName, Side, SubKind, ValidPlan, port_at};
 use line_routes::{at_switch, port_of};
+use told_facts::{Fact, StreamFact, push};
 
 /// Appends the port of an end.
 pub fn push_port(facts: &mut Vec<Fact>, plan: &ValidPlan, end: PortName) -> Result<(), OutOfMemory>

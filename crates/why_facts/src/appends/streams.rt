@@ -2,20 +2,12 @@
 
 ghost use Rattle.std.specs.Prelude.{◌≡◌, ◌∷◌, ◌++◌, [], IfOk};
 ghost use Rattle.why_facts.specs.Forms.{counts_facts, posted_fact, facts_of_sets, state_fact, total_facts};
-ghost use Rattle.why_facts.specs.Streams.{is_live_seen, receiver_seen, sender_seen, senders_seen, set_seen};
-ghost use Rattle.why_facts.specs.Streams.{sets_seen, state_seen};
+ghost use Rattle.why_facts.specs.Streams.{completion_seen, is_live_seen, receiver_seen, sender_seen, senders_seen};
+ghost use Rattle.why_facts.specs.Streams.{set_seen, sets_seen, state_seen};
 
-use crate::{Fact, SetState, StreamFact};
 use ide_types::{OutOfMemory, StreamStatus, SubKind};
 use sub_stream::{SetFacts, SlotFacts, StreamFacts};
-
-/// Appends a fact.
-pub fn push(facts: &mut Vec<Fact>, fact: Fact) -> Result<(), OutOfMemory>
-    ensures { IfOk result (λ _. facts.new.items ≡ facts.old.items ++ fact ∷ []) }
-{
-    facts.push(fact)?;
-    Ok(())
-}
+use told_facts::{Fact, SetState, StreamFact, push};
 
 // What a key set holds.
 fn set_state(slot: SlotFacts) -> SetState
@@ -125,12 +117,8 @@ pub fn push_receiver(
     push_total(facts, seen.closed, receiver.total)
 }
 
-/// Appends what a sender keeps.
-pub fn push_sender(
-    facts: &mut Vec<Fact>,
-    seen: &StreamFacts,
-    sub: SubKind,
-) -> Result<(), OutOfMemory>
+// Appends what a sender keeps.
+fn push_sender(facts: &mut Vec<Fact>, seen: &StreamFacts, sub: SubKind) -> Result<(), OutOfMemory>
     ensures { IfOk result (λ _. facts.new.items ≡ facts.old.items ++ sender_seen seen.now sub) }
 {
     let sender = seen.at(sub).sender;
@@ -162,4 +150,12 @@ pub fn push_senders(
         }
         SubKind::Npr | SubKind::Cpl => push_sender(facts, seen, SubKind::Pr),
     }
+}
+
+/// Appends the stream's status and what the sender of completions keeps.
+pub fn push_completion(facts: &mut Vec<Fact>, seen: &StreamFacts) -> Result<(), OutOfMemory>
+    ensures { IfOk result (λ _. facts.new.items ≡ facts.old.items ++ completion_seen seen.now) }
+{
+    push_status(facts, seen.status)?;
+    push_sender(facts, seen, SubKind::Cpl)
 }

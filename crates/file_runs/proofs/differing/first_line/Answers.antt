@@ -1,7 +1,7 @@
 use Rattle.std.proofs.Common.{sym, ap, drop, List}
 use Rattle.std.specs.Prelude.{slice_get}
 use Rattle.file_runs.specs.Differing.{Line}
-use Rattle.file_runs.proofs.Differences.{ends_first, is_none, is_open}
+use Rattle.file_runs.proofs.Differences.{ends_first}
 use Rattle.file_runs.proofs.differing.first_line.Goals as goal
 
 pub returns-in-Some-clause-first : goal.returns-in-Some-clause-first

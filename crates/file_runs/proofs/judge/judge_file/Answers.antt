@@ -10,7 +10,8 @@ use Rattle.file_runs.proofs.judge.judge_file.Goals as goal
 pub returns-in-Err-clause-files : goal.returns-in-Err-clause-files
 returns-in-Err-clause-files g c =
     let read = c.in-Err.ensures in
-    judged_cut c.args.all c.args.due.now c.args.name.now (g.S.Shelf.seen c.args.shelf.now) (g.S.Shelf.seen c.read_front.new.shelf)
+    judged_cut c.args.all c.args.due.now c.args.name.now (g.S.Shelf.seen c.args.shelf.now)
+    (g.S.Shelf.seen c.read_front.new.shelf)
     (g.O.Sink.seen c.args.out.now) c.in-Err.e
     (record { within = read.within; names = read.file_names; limit = read.read_limit; pieces = read.read_pieces })
     read.cause

@@ -78,6 +78,14 @@ returns c plan h is =
         one_lock_per_stored_key = c.one_lock_per_stored_key.ensures plan fits h cause;
         mmio_origin_law = c.mmio_origin_law.ensures plan fits h cause;
       };
+      device_reads = record {
+        device_read_law = c.device_read_law.ensures plan fits h cause;
+        device_effect_law = c.device_effect_law.ensures plan fits h cause;
+        respond_law = c.respond_law.ensures plan fits h cause;
+        exposure_law = c.exposure_law.ensures plan fits h cause;
+        device_read_origin_law = c.device_read_origin_law.ensures plan fits h cause;
+        response_origin_law = c.response_origin_law.ensures plan fits h cause;
+      };
       device_streams = record {
         bind_law = c.bind_law.ensures.law plan h;
         bindings_are_asked = c.bindings_are_asked.ensures plan fits h cause;

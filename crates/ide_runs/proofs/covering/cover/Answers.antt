@@ -1,9 +1,9 @@
 use Rattle.std.proofs.Common.{Ok, refl}
 use Rattle.file_runs.specs.declared.ends.End.TheVariants.{TooLong}
 use Rattle.file_runs.proofs.WholeFiles.{gained_nothing}
-use Rattle.ide_runs.specs.declared.topologies.Loaded.TheVariants.{Faulty, Long}
+use Rattle.script_runs.specs.declared.topologies.Loaded.TheVariants.{Faulty, Long}
 use Rattle.ide_runs.specs.Cover.{cover_due, covered_so_far}
-use Rattle.ide_runs.proofs.Loads.{no_plan_ran, script_cut, script_ran, sound_is_short}
+use Rattle.script_runs.proofs.Loads.{no_plan_ran, script_cut, script_ran, sound_is_short}
 use Rattle.ide_runs.proofs.covering.cover.Goals as goal
 
 pub returns-in-Err : goal.returns-in-Err

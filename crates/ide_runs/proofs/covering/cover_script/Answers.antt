@@ -3,10 +3,10 @@ use Rattle.file_runs.specs.Gathering.{GoesOn, ended_text}
 use Rattle.file_runs.specs.Lines.{file_due}
 use Rattle.file_runs.proofs.FileRuns.{same_lines, without_memory}
 use Rattle.ide_runs.specs.Cover.{CoverPast, FollowsCover, cover_closing, cover_due, cover_line, covered_so_far}
-use Rattle.ide_runs.specs.Reads.{ScriptGoesOn}
-use Rattle.ide_runs.specs.Tasks.{on_plan_task}
+use Rattle.script_runs.specs.Reads.{ScriptGoesOn}
+use Rattle.script_runs.specs.Tasks.{on_plan_task}
 use Rattle.ide_runs.proofs.Covers.{covered_goes_on, covers_nothing, ended_covered, file_covered}
-use Rattle.ide_runs.proofs.Loads.{script_starts}
+use Rattle.script_runs.proofs.Loads.{script_starts}
 use Rattle.ide_runs.proofs.covering.cover_script.Goals as goal
 
 pub returns-in_default : goal.returns-in_default

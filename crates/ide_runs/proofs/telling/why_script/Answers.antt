@@ -2,10 +2,10 @@ use Rattle.std.proofs.Common.{[], refl}
 use Rattle.file_runs.specs.Gathering.{GoesOn, ended_text}
 use Rattle.file_runs.specs.Lines.{file_due}
 use Rattle.file_runs.proofs.FileRuns.{same_lines, without_memory}
-use Rattle.ide_runs.specs.Reads.{ScriptGoesOn}
-use Rattle.ide_runs.specs.Tasks.{on_plan_task}
+use Rattle.script_runs.specs.Reads.{ScriptGoesOn}
+use Rattle.script_runs.specs.Tasks.{on_plan_task}
 use Rattle.ide_runs.specs.Why.{FollowsWhy, WhyPast, told_due, told_so_far, why_closing, why_line}
-use Rattle.ide_runs.proofs.Loads.{script_starts}
+use Rattle.script_runs.proofs.Loads.{script_starts}
 use Rattle.ide_runs.proofs.Whys.{ended_told, file_told, tells_nothing, told_goes_on}
 use Rattle.ide_runs.proofs.telling.why_script.Goals as goal
 

@@ -1,6 +1,6 @@
 use Rattle.std.proofs.Common.{List, ◌++◌, ap, subst, ◌∙◌}
 use Rattle.ide_types.specs.declared.plan.Plan.{Plan}
-use Rattle.why_facts.specs.declared.fact.Fact.{Fact}
+use Rattle.told_facts.specs.declared.fact.Fact.{Fact}
 use Rattle.world.specs.{WorldStandsFor, WorldView, world_of}
 use Rattle.ide_why.specs.Facts.{facts_read}
 use Rattle.ide_why.proofs.Read.{read_is}

@@ -6,5 +6,5 @@ use Rattle.trusted_memory.proofs.read_laws.completions_show_enabled_bytes.Goals 
 
 pub returns : goal.returns
 unfolding completion_bytes
-returns c byte other read same =
-    ap (λ (s : List ℕ). head_bytes (completion_head read) ++ s) (read_bytes-same byte other read.span same)
+returns c completer byte other read same =
+    ap (λ (s : List ℕ). head_bytes (completion_head completer read) ++ s) (read_bytes-same byte other read.span same)

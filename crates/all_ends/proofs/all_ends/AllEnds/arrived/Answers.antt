@@ -2,7 +2,8 @@ use Rattle.all_ends.proofs.Terms.{◌≡◌, ◌∙◌, ◌++◌, ap, sym, subst
 use Rattle.all_ends.proofs.Terms.{same_Some, EndsView, LinkEnds, PortEnd}
 use Rattle.guarded_memory.specs.{Happened, MmioLeads}
 use Rattle.trusted_memory.specs.{Leads, Write}
-use Rattle.arrival_verdicts.specs.{reads_by}
+use Rattle.link_stores.specs.{reads_on}
+use Rattle.arrival_verdicts.specs.{reads_by, targets_at}
 use Rattle.arrival_verdicts.specs.Verdicts.{arrival_verdict, effects_from, grants_in, packet_stored, packet_write}
 use Rattle.arrival_verdicts.specs.Verdicts.{of_unit, unit_writes}
 use Rattle.all_ends.specs.AllEnds.{link_statuses}
@@ -27,16 +28,18 @@ returns-clause-comes c = λ e l is at.
     let stand : link_statuses x a ≡ link_statuses l a = ap (λ (z : LinkEnds). link_statuses z a) same in
     record {
       verdict_is = c.taken_verdict.ensures.verdict ∙ (λ j. arrival_verdict end port answer
-          (λ unit. effects_from regions grants (stand j) (length a.reads) port unit (seen j)));
+          (λ unit. effects_from regions grants (stand j) (length (reads_on port.side a)) port unit (seen j)));
       written = subst (λ (os : List (Option Write)). Leads c.args.memory.now.contents os
           c.taken_verdict.new.memory.contents)
           (λ j. unit_writes answer (λ unit. map (packet_write regions grants port unit) (seen j)))
           c.taken_verdict.ensures.leads;
-      reads_are = c.taken_verdict.ensures.reads ∙ (λ j. a.reads ++ of_unit answer (λ unit. reads_by unit.draw
-          (effects_from regions grants (stand j) (length a.reads) port unit (seen j)) (seen j)));
+      reads_are = c.taken_verdict.ensures.reads ∙ (λ j. reads_on port.side a ++ of_unit answer
+          (λ unit. reads_by (targets_at port.side (stand j)) end unit
+          (effects_from regions grants (stand j) (length (reads_on port.side a)) port unit (seen j)) (seen j)));
       stored = subst (λ (hs : List (Option Happened)). MmioLeads a.guarded hs c.taken_verdict.new.access.guarded)
           (λ j. of_unit answer (λ unit. map (packet_stored (stand j) port unit) (seen j)))
           c.taken_verdict.ensures.stored;
+      others_stay = c.taken_verdict.ensures.others;
       floors_stay = c.taken_verdict.ensures.floors;
       sizes_stay = c.taken_verdict.ensures.sizes;
       carried_stay = c.taken_verdict.ensures.carried;

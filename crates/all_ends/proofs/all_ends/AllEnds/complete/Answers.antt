@@ -1,38 +1,79 @@
-use Rattle.all_ends.proofs.Terms.{ℕ, ◌<◌, arith, length, refl, subst, sym, slice_set, EndsView, LinkEnds}
-use Rattle.std.specs.Prelude.{◌^◌, true, false}
-use Rattle.ide_types.specs.Ports.{host_port}
-use Rattle.all_ends.specs.AllEnds.{SendsAtEnd}
-use Rattle.all_ends.proofs.Lent.{send_link, link_few, host_place, host_there, taken_there}
+use Rattle.all_ends.proofs.Terms.{arith, subst, slice_set, EndsView}
+use Rattle.all_ends.specs.AllEnds.{SealsAtEnd, step_on_stream}
+use Rattle.std.specs.Prelude.{◌^◌}
+use Rattle.all_ends.proofs.Lent.{step_link, step_near, step_pair, link_few, near_few, pair_few, near_within}
+use Rattle.all_ends.proofs.Lent.{pair_within}
 use Rattle.all_ends.proofs.all_ends.AllEnds.complete.Goals as goal
 
-pub index_mut-requires : goal.index_mut-requires
-index_mut-requires c =
-    let within = subst (λ (v : EndsView). c.args.link < length v.links) (sym c.self.view_is) c.requires.here in
-    omega (arith, within, c.self.inside.links.ok.0)
+pub seal_hosted-requires : goal.seal_hosted-requires
+seal_hosted-requires c = link_few c.args.end (2 ^ 40) c.in-Link.i c.self.view_is c.requires.here
+    c.index_mut.result.now c.requires.few c.in-Link.ensures c.index_mut.ensures.value
 
-pub send_chosen-requires-clause-few : goal.send_chosen-requires-clause-few
-send_chosen-requires-clause-few c =
-    let low : c.args.link < 8 = omega (arith, c.requires.here, c.requires.links) in
-    link_few (host_port c.args.link) (2 ^ 40) c.args.link c.self.view_is
-    (host_there c.args.self.now c.args.link c.requires.here c.requires.links) c.index_mut.result.now c.requires.few
-    (host_place c.args.link low) c.index_mut.ensures.value
+pub index_mut-requires-in-Near : goal.index_mut-requires-in-Near
+index_mut-requires-in-Near c = omega (
+  arith,
+  near_within c.args.end (2 ^ 40) c.in-Near.i c.self.view_is c.requires.here c.in-Near.ensures,
+  c.self.inside.near.ok.0,
+)
 
-pub send_chosen-requires-clause-taken : goal.send_chosen-requires-clause-taken
-send_chosen-requires-clause-taken c = taken_there c.args.link c.args.tlp.now c.args.stream c.index_mut.result.now
-    c.self.view_is c.requires.here c.requires.taken c.index_mut.ensures.value
+pub seal_hosted-requires-in-Near : goal.seal_hosted-requires-in-Near
+seal_hosted-requires-in-Near c = near_few c.args.end (2 ^ 40) c.in-Near.i c.self.view_is c.requires.here
+    c.index_mut-in-Near.result.now c.requires.few c.in-Near.ensures c.index_mut-in-Near.ensures.value
 
-pub returns : goal.returns
-returns c =
-    let low : c.args.link < 8 = omega (arith, c.requires.here, c.requires.links) in
+pub index_mut-requires-in-Pair : goal.index_mut-requires-in-Pair
+index_mut-requires-in-Pair c = omega (
+  arith,
+  pair_within c.args.end (2 ^ 40) c.in-Pair.i c.self.view_is c.requires.here c.in-Pair.ensures,
+  c.self.inside.pairs.ok.0,
+)
+
+pub seal_pair-requires : goal.seal_pair-requires
+seal_pair-requires c = pair_few c.args.end (2 ^ 40) c.in-Pair.i c.self.view_is c.requires.here
+    c.index_mut-in-Pair.result.now c.requires.few c.in-Pair.ensures c.index_mut-in-Pair.ensures.value
+
+pub returns-in-Link : goal.returns-in-Link
+returns-in-Link c =
     let old : EndsView = record {
       links = c.self.inside.links.items;
       near = c.self.inside.near.items;
       pairs = c.self.inside.pairs.items;
       peers = c.self.inside.peers.items;
     } in
-    let x : LinkEnds = c.index_mut.result.now in
-    let y : LinkEnds = record x { host = c.send_chosen.new.self } in
-    subst (λ (v : EndsView). SendsAtEnd v (host_port c.args.link) c.args.tlp.now false true c.send_chosen.result
-    (record old { links = slice_set old.links c.args.link y }) c.send_chosen.new.out) c.self.view_is
-    (send_link old (host_port c.args.link) c.args.tlp.now false true c.send_chosen.result c.send_chosen.new.out
-    c.args.link x y (host_place c.args.link low) c.index_mut.ensures.value c.send_chosen.ensures refl)
+    subst (λ (v : EndsView). SealsAtEnd v c.args.end c.args.tlp.now c.args.stream c.args.trusted c.seal_hosted.result
+    (record old { links = slice_set old.links c.in-Link.i c.seal_hosted.new.ends }) c.seal_hosted.new.out)
+    c.self.view_is
+    (step_link old c.args.end (step_on_stream c.args.tlp.now c.args.stream c.args.trusted) c.seal_hosted.result
+    c.seal_hosted.new.out c.in-Link.i c.index_mut.result.now c.seal_hosted.new.ends c.in-Link.ensures
+    c.index_mut.ensures.value c.seal_hosted.ensures.sent c.seal_hosted.ensures.ends)
+
+pub returns-in-Near : goal.returns-in-Near
+returns-in-Near c =
+    let old : EndsView = record {
+      links = c.self.inside.links.items;
+      near = c.self.inside.near.items;
+      pairs = c.self.inside.pairs.items;
+      peers = c.self.inside.peers.items;
+    } in
+    subst (λ (v : EndsView). SealsAtEnd v c.args.end c.args.tlp.now c.args.stream c.args.trusted
+    c.seal_hosted-in-Near.result
+    (record old { near = slice_set old.near c.in-Near.i c.seal_hosted-in-Near.new.ends })
+    c.seal_hosted-in-Near.new.out) c.self.view_is
+    (step_near old c.args.end (step_on_stream c.args.tlp.now c.args.stream c.args.trusted)
+    c.seal_hosted-in-Near.result c.seal_hosted-in-Near.new.out c.in-Near.i c.index_mut-in-Near.result.now
+    c.seal_hosted-in-Near.new.ends c.in-Near.ensures c.index_mut-in-Near.ensures.value
+    c.seal_hosted-in-Near.ensures.sent c.seal_hosted-in-Near.ensures.ends)
+
+pub returns-in-Pair : goal.returns-in-Pair
+returns-in-Pair c =
+    let old : EndsView = record {
+      links = c.self.inside.links.items;
+      near = c.self.inside.near.items;
+      pairs = c.self.inside.pairs.items;
+      peers = c.self.inside.peers.items;
+    } in
+    subst (λ (v : EndsView). SealsAtEnd v c.args.end c.args.tlp.now c.args.stream c.args.trusted c.seal_pair.result
+    (record old { pairs = slice_set old.pairs c.in-Pair.i c.seal_pair.new.ends }) c.seal_pair.new.out)
+    c.self.view_is
+    (step_pair old c.args.end (step_on_stream c.args.tlp.now c.args.stream c.args.trusted) c.seal_pair.result
+    c.seal_pair.new.out c.in-Pair.i c.index_mut-in-Pair.result.now c.seal_pair.new.ends c.in-Pair.ensures
+    c.index_mut-in-Pair.ensures.value c.seal_pair.ensures.sent c.seal_pair.ensures.ends)

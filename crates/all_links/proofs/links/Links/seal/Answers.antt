@@ -1,6 +1,6 @@
 use Rattle.all_links.proofs.Terms.{ap, sym, subst, Links, SendsAtEnd, EndsView, lengths_sent, Sent}
 use Rattle.all_links.proofs.Finds.{few_units}
-use Rattle.all_links.proofs.Sends.{seals, sealed_length, sent_keeps}
+use Rattle.all_links.proofs.Sends.{by_line, seals, sealed_length, sent_keeps}
 use Rattle.all_links.proofs.links.Links.seal.Goals as goal
 
 pub send-sent-requires-clause-few : goal.send-sent-requires-clause-few
@@ -9,8 +9,8 @@ send-sent-requires-clause-few c = few_units c.args.self.now.ends c.args.self.now
 
 pub keep_sent-requires-clause-lengths : goal.keep_sent-requires-clause-lengths
 keep_sent-requires-clause-lengths c = λ ps is.
-    sealed_length c.args.self.now.ends c.send-sent.new.self c.args.end c.args.tlp.now c.args.more c.args.trusted
-    c.send-sent.result c.send-sent.new.out ps c.requires.here c.send-sent.ensures
+    sealed_length c.args.self.now.ends c.send-sent.new.self c.args.end
+    (by_line c.args.self.now.ends c.args.end c.args.tlp.now c.args.more c.args.trusted) c.send-sent.result c.send-sent.new.out ps c.requires.here c.send-sent.ensures
     (ap (λ (a : Sent). lengths_sent a) (sym is))
 
 pub returns-clause-ends : goal.returns-clause-ends
@@ -31,7 +31,8 @@ pub returns-clause-sides : goal.returns-clause-sides
 returns-clause-sides c =
     let old : Links = c.args.self.now in
     let is = c.keep_sent.ensures.links in
-    sent_keeps old c.keep_sent.new.self c.args.end c.args.tlp.now c.args.more c.args.trusted c.send-sent.result
+    sent_keeps old c.keep_sent.new.self c.args.end
+    (by_line old.ends c.args.end c.args.tlp.now c.args.more c.args.trusted) c.send-sent.result
     c.send-sent.new.out c.requires.here
     (subst (λ (w : EndsView). SendsAtEnd old.ends c.args.end c.args.tlp.now c.args.more c.args.trusted
     c.send-sent.result w

@@ -18,6 +18,6 @@ returns-in-Some-clause-leads g c =
 pub returns-in-Some-clause-guarded : goal.returns-in-Some-clause-guarded
 returns-in-Some-clause-guarded g c = λ i b a x there guarded other.
     c.deliver_write.ensures.bytes i b a
-    ∙ stays (g.S.Statuses.stand c.args.statuses.now) c.args.trusted c.args.unit.stream c.args.unit.draw
+    ∙ stays (g.S.Statuses.stand c.args.statuses.now) c.args.came.trusted c.args.came.stream c.args.came.draw
     (Some (write_of c.in-Some.write))
     (mmio_byte c.args.self.now) i b a x there guarded other

@@ -22,9 +22,11 @@ returns-clause-came c past follows =
     c.world-2.ensures c.draws-after.ensures in
     let came = c.in_ok-verdict.ensures.came past.script here.follows in
     let told = map (λ s. s.now) c.in_ok-told.told.items in
-    let short : length past.script.history < 2 ^ 32 = omega (arith, c.requires.early.steps, c.requires.number, follows.follows.steps_are) in
+    let short : length past.script.history < 2 ^ 32 = omega
+    (arith, c.requires.early.steps, c.requires.number, follows.follows.steps_are) in
     let counted = c.in_ok-count.ensures
-    ∙ (λ i. coverage_with inside.coverage e c.in_ok-verdict.verdict c.in_ok-before.before (map (λ s. s.now) (c.deref.ensures.value i))
+    ∙ (λ i. coverage_with inside.coverage e c.in_ok-verdict.verdict c.in_ok-before.before
+    (map (λ s. s.now) (c.deref.ensures.value i))
     c.draws-after.result) in
     if_ok c.event_text.result
     (λ text is. event_came past e old c.step.new.self c.in_ok-verdict.verdict c.in_ok-before.before told

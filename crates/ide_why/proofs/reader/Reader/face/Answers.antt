@@ -12,4 +12,4 @@ pub returns-in-Some : goal.returns-in-Some
 returns-in-Some c =
     face_made c.args.self.now.links.now c.args.number c.in-Some.link c.in-Some.place c.state.result c.link.result.now
     c.facts.result (sym c.in-Some.ensures.place) c.link.ensures c.state.ensures
-    (rw c.manager.ensures at c.facts.ensures)
+    (rw c.manager-manager.ensures at c.facts.ensures)

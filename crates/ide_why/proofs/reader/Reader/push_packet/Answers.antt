@@ -3,7 +3,7 @@ use Rattle.std.proofs.lemmas.List.{append_assoc}
 use Rattle.std.specs.Prelude.{IfOk}
 use Rattle.ide_prefix.specs.Cut.{packet_of_view}
 use Rattle.sub_stream.specs.declared.facts.StreamFacts.{StreamFacts}
-use Rattle.why_facts.specs.declared.fact.Fact.{Fact}
+use Rattle.told_facts.specs.declared.fact.Fact.{Fact}
 use Rattle.why_facts.specs.Forms.{arrives_fact}
 use Rattle.ide_why.specs.Facts.{received_read}
 use Rattle.ide_why.specs.Reading.{held_read}

@@ -2,7 +2,7 @@ use Rattle.std.proofs.Common.{◌≡◌, List, ◌++◌, subst, sym}
 use Rattle.std.specs.Prelude.{IfOk}
 use Rattle.tlp_layout.specs.{viewed_tlp}
 use Rattle.tlp_layout.specs.declared.head.HeadView.{HeadView}
-use Rattle.why_facts.specs.declared.fact.Fact.{Fact}
+use Rattle.told_facts.specs.declared.fact.Fact.{Fact}
 use Rattle.ide_why.specs.Facts.{stream_sends}
 use Rattle.ide_why.specs.Reading.{stream_read}
 use Rattle.ide_why.proofs.Taken.{sent_no_tlp, sent_on}

@@ -71,13 +71,15 @@ loop-i-preserved c =
     elim c.if-has_under.branch [
       | then-has_under+then-left-gt0+then-packet w ↦ (
         (λ k. is_unit_after lane a.draw (w.left-is k) (drop (w.place-is k) unit) (drop (i + 1) ds) (drop (i + 1) kept))
-            ∙ (sym (ended_before lane a.draw left ps ds kept i d q at also (sym c.has_under.ensures ∙ w.if-has_under.true)
+            ∙ (sym (ended_before lane a.draw left ps ds kept i d q at also
+            (sym c.has_under.ensures ∙ w.if-has_under.true)
             (lt-ltb 0 left w.if-left-gt0.true) w.if-packet.true) ∙ c.loop-i.invariant.0),
         omega (arith, w.place-is, c.loop-i.invariant.1),
       )
       | then-has_under+then-left-gt0+else-packet w ↦ (
         (λ k. is_unit_after lane a.draw (w.left-is k) (drop (w.place-is k) unit) (drop (i + 1) ds) (drop (i + 1) kept))
-            ∙ (sym (went_before lane a.draw left ps ds kept i d q at also (sym c.has_under.ensures ∙ w.if-has_under.true)
+            ∙ (sym (went_before lane a.draw left ps ds kept i d q at also
+            (sym c.has_under.ensures ∙ w.if-has_under.true)
             (lt-ltb 0 left w.if-left-gt0.true) w.if-packet.false) ∙ c.loop-i.invariant.0),
         omega (arith, w.place-is, c.loop-i.invariant.1),
       )
@@ -87,14 +89,16 @@ loop-i-preserved c =
                 (drop (i + 1) kept))
                 ∙ ((λ k. is_unit_after lane a.draw (none k) (sym (dropped_more unit c.loop-i.place) k) (drop (i + 1) ds)
                 (drop (i + 1) kept))
-                ∙ (sym (went_on lane a.draw left ps ds kept i d q at also (sym c.has_under.ensures ∙ w.if-has_under.true)
+                ∙ (sym (went_on lane a.draw left ps ds kept i d q at also
+                (sym c.has_under.ensures ∙ w.if-has_under.true)
                 (le-ltb 0 left w.if-left-gt0.false) (sym w.is_at.ensures ∙ w.if-not-is_at.false) w.if-packet-2.false)
                 ∙ c.loop-i.invariant.0)),
             omega (arith, w.place-is, c.loop-i.invariant.1),
           )
       | else-has_under w ↦ (
         (λ k. is_unit_after lane a.draw (w.left-is k) (drop (w.place-is k) unit) (drop (i + 1) ds) (drop (i + 1) kept))
-            ∙ (sym (passed_over lane a.draw left ps ds kept i d q at also (sym c.has_under.ensures ∙ w.if-has_under.false))
+            ∙ (sym (passed_over lane a.draw left ps ds kept i d q at also
+            (sym c.has_under.ensures ∙ w.if-has_under.false))
             ∙ c.loop-i.invariant.0),
         omega (arith, w.place-is, c.loop-i.invariant.1),
       )

@@ -1,0 +1,12 @@
+mod Tables
+mod Cases
+mod Effects
+mod Oldest
+mod Responses
+mod Readable
+mod Exact
+mod InRun
+mod Exposed
+mod Asked
+mod Brought
+mod AllLaws

@@ -1,0 +1,5 @@
+use Rattle.law_device_reads.proofs.AllLaws.{response_origin_law as holds}
+use Rattle.law_device_reads.proofs.laws.response_origin_law.Goals as goal
+
+pub returns : goal.returns
+returns c = holds

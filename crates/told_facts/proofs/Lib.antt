@@ -1,0 +1,3 @@
+mod Exchanges
+mod Portions
+pub mod Planned
