@@ -29,8 +29,8 @@ def inert_law(past: Past, pair: Pair) -> Instances:
 def reset_law(past: Past, pair: Pair) -> Instances:
     """A reset of a link leaves no key, no failure and nothing held at the ends of the link and of its hop, and at its
     device at those of streams between devices; the link's streams and its hop's are idle, the others are to be stopped.
-    No read waits on it, and nothing at its switch. Its interfaces are as they were first, and each view of them is
-    Unlocked or Broken. All other ends are as they were."""
+    No read waits at its two ports, and nothing at its switch. Its interfaces are as they were first, and each view of
+    them is Unlocked or Broken. All other ends are as they were, and the reads that wait at the ports of other links."""
     if pair.verdict[0] != "reset":
         return
     world, link = past.world, pair.first
@@ -47,7 +47,9 @@ def reset_law(past: Past, pair: Pair) -> Instances:
         is_left = (line.operation.name, line.operation.exchange) == left if is_cut else was[0] == now[0]
         yield f"a stream of {KINDS[line.letter]}", is_left
     waiting = [world.waiting.get((link, direction), []) for direction in (0, 1)]
-    yield "what waits", not world.reads[link] and not any(waiting)
+    yield "what waits", not world.reads[link] and not world.device_reads[link] and not any(waiting)
+    beside = [[{**ports, link: []} for ports in kept.reads] for kept in (pair.was, pair.now)]
+    yield "what waits elsewhere", beside[0] == beside[1]
     for handle in world.on_link(link):
         one = handle.interface
         is_new = one.state == UNLOCKED and not one.bindings and one.registers == first_registers(one.plan)
@@ -71,11 +73,11 @@ def exact_through_law(past: Past, pair: Pair) -> Instances:
 
 
 def hop_trust_law(past: Past, pair: Pair) -> Instances:
-    """No packet that came on a segment of a hop is applied to trusted memory or queued, or stored with T; no answer is
+    """No packet that came on a segment of a hop is applied to trusted memory, or queued or stored with T; no answer is
     sealed there, and a device seals no packet with T there."""
     if pair.unit and pair.unit.end.line.letter == "h" and not pair.unit.end.is_at_switch:
         for one in pair.unit.packets:
-            is_trusted = one.effect in ("applied", "queued") or one.effect == "stored" and bool(one.packet.t)
+            is_trusted = one.effect == "applied" or one.effect in ("queued", "stored") and bool(one.packet.t)
             yield f"a packet behind a switch{' with T' if one.packet.t else ''}", not is_trusted
     for one in pair.sealed:
         if pair.words[0] == "answer":

@@ -12,7 +12,7 @@ class Unjudged(Watched):
     """A world that is not judged, so that how all stood before an event need not be kept."""
 
     def kept(self) -> Kept:
-        return Kept({}, ())
+        return Kept({}, (), [])
 
     def judge(self, pair: Pair):
         self.past.meet(pair)

@@ -22,7 +22,9 @@ RULES = """
     memory.trusted memory.running memory.stream memory.floor memory.region memory.page memory.bytes memory.shown
     reads.queued reads.granted reads.placed reads.full answers.link answers.empty answers.running answers.stream
     answers.floor answers.refresh answers.refused answers.sealed mmio.page mmio.trusted mmio.running mmio.stream
-    mmio.floor mmio.bytes mmio.shown peers.operations hops.operations hops.through hops.waiting hops.forward
+    mmio.floor mmio.bytes mmio.shown responses.link responses.empty responses.moved responses.trusted responses.running
+    responses.stream responses.floor responses.refresh responses.refused responses.sealed peers.operations
+    hops.operations hops.through hops.waiting hops.forward
 """.split()
 MEMORY_CAUSES = {
     "nottrusted": "trusted", "notrunning": "running", "wrongstream": "stream", "stale": "floor", "outside": "region",
@@ -84,12 +86,24 @@ def answer_rule(words: List[str]) -> str:
     return rules.get(words[0], "answers.refused")
 
 
+def response_rule(words: List[str]) -> str:
+    if words[0] == "dropped":
+        causes = {"nottrusted": "trusted", "notrunning": "running", "wrongstream": "stream", "stale": "floor"}
+        return f"responses.{causes.get(words[2], words[2])}"
+    if words[:2] == ["refused", "refreshfirst"]:
+        return "responses.refresh"
+    rules = {"none": "responses.link", "empty": "responses.empty", "sealed": "responses.sealed"}
+    return rules.get(words[0], "responses.refused")
+
+
 def rule(event: str, verdict: str, sub: Optional[str]) -> str:
     words = verdict.split()
     if event in ("memory", "mmio"):
         return f"{event}.shown" if event == "mmio" or words[0] != "none" else "memory.shown"
     if event == "answer":
         return answer_rule(words)
+    if event == "respond":
+        return response_rule(words)
     if event in ARRIVALS:
         return arriving_rule(words)
     if event.lstrip("ph") in ("establish", "refresh", "stop"):
@@ -111,7 +125,7 @@ def effect_rule(port: str, sub: str, effect: str) -> str:
         return plain.get(effect, "arriving.effects")
     cause = effect.split(":")[1]
     if port[0] != "h":
-        return f"mmio.{MMIO_CAUSES[cause]}"
+        return "reads.full" if cause == "full" else f"mmio.{MMIO_CAUSES[cause]}"
     if sub == "npr":
         return {"outside": "reads.placed", "crosses": "reads.placed", "full": "reads.full"}.get(cause, "reads.granted")
     return f"memory.{MEMORY_CAUSES[cause]}"
@@ -214,6 +228,18 @@ class Facts:
             facts += self.face(owner) + [f"stream {end.status()}"] + self.sender(end, CPL)
         return facts
 
+    def respond(self, link: int) -> List[str]:
+        if link not in self.world.device_reads:
+            return []
+        waiting = self.world.device_reads[link]
+        facts = [f"waiting {len(waiting)}"]
+        if waiting:
+            read, end = waiting[0], waiting[0].end
+            facts += [f"read draw {read.draw}", f"asks {read.target.number} bar {read.bar} t{int(read.t)}"]
+            facts += [f"bytes {read.address} {read.length}"] + self.claim(link, read.address, read.length)
+            facts += [f"sends {end.port} {end.plan.id} cpl", f"stream {end.status()}"] + self.sender(end, CPL)
+        return facts
+
     # -- arrivals
 
     def arrival(self, port: str, data: bytes) -> List[str]:
@@ -251,22 +277,28 @@ class Facts:
             return []
         kind, address = kind_of(packet.header[0]).name, int.from_bytes(packet.header[8:], "big")
         length = 4 * (((packet.header[2] & 3) << 8 | packet.header[3]) or 1024)
-        if kind != "memwrite" and not (kind == "memread" and packet.t and end.is_at_host):
+        if kind != "memwrite" and not (kind == "memread" and self.may_wait(end, packet, address, length)):
             return []
         facts = [f"packet {place} t{packet.t}", f"bytes {address} {length}"]
         if end.is_at_device:
-            return facts + self.claim(end.link, address, length)
+            facts += self.claim(end.link, address, length)
+            return facts + ([f"waiting {len(self.world.device_reads[end.link])}"] if kind == "memread" else [])
         facts += self.region(address, length)
         owner = self.owner(end.link, packet.header)
         facts += self.face(owner) if owner else []
         return facts + ([f"waiting {len(self.world.reads[end.link])}"] if kind == "memread" else [])
 
+    def may_wait(self, end: End, packet, address: int, length: int) -> bool:
+        """A read with T at a host's port, or one that an interface answers at a device's."""
+        claim = self.world.claim(end.link, address, length) if end.is_at_device else None
+        return claim[0].plan.reads if claim else bool(packet.t) and end.is_at_host
+
     def claim(self, link: int, address: int, length: int) -> List[str]:
-        for handle in self.world.on_link(link):
-            bar = handle.interface.claims(address, length)
-            if bar is not None:
-                return self.face(handle) + self.bar(handle.interface, bar) + self.takes(handle.interface)
-        return []
+        claim = self.world.claim(link, address, length)
+        if claim is None:
+            return []
+        handle, bar = claim
+        return self.face(handle) + self.bar(handle.interface, bar) + self.takes(handle.interface)
 
     # -- ranges of memory
 
@@ -382,6 +414,8 @@ class Facts:
             return self.forward(*map(number, rest))
         if event == "answer":
             return self.answer(number(rest[0]))
+        if event == "respond":
+            return self.respond(number(rest[0]))
         if event in ARRIVALS + ["dump"]:
             return self.of_packet(event, rest)
         if event in OPERATIONS + BINDINGS + CHANGES + ["view"]:

@@ -105,7 +105,7 @@ def unlocked_is_scrubbed(past: Past, pair: Pair) -> Instances:
 
 def trusted_packets_fit_view(past: Past, pair: Pair) -> Instances:
     """While the view is Unlocked or Locked, or no START was asked since LOCK was last asked, the interface is not in
-    RUN, and each packet with T that it sealed on its stream has a draw below the one that it needs. While the view is
+    RUN, and each packet with T that it sent on its stream has a draw below the one that it needs. While the view is
     Running, START was asked, and each such packet of a draw from the floor on was sealed in RUN under this lock."""
     for place, (was, now) in each(pair):
         if was is now and not pair.sealed:
@@ -135,7 +135,7 @@ def views_are_true(past: Past, pair: Pair) -> Instances:
 def one_lock_per_key(past: Past, pair: Pair) -> Instances:
     """Two packets of one interface that are applied or queued under one draw are so under one lock."""
     for one in pair.unit.packets if pair.unit else []:
-        if one.effect in ("applied", "queued"):
+        if one.effect in ("applied", "queued") and pair.unit.end.is_at_host:
             owner = past.owner(pair.unit.end, one.requester)
             if (owner, pair.unit.draw) in past.admitted and owner is not None:
                 locks = pair.before[owner].locks
@@ -166,7 +166,8 @@ def effect_law(past: Past, pair: Pair) -> Instances:
     region and in one page, while fewer than 64 wait on the link; while 64 wait, exactly those are blocked as `full`.
     Exactly those packets are stored that a BAR claims, that cross no page, and that have T in RUN, on a stream that the
     interface is bound to, under a draw from its floor there on; or have no T, and the BAR is open or the interface in
-    CONFIG_UNLOCKED. Exactly those wait that come to a switch, but for sync packets."""
+    CONFIG_UNLOCKED. Exactly those wait that come to a switch, but for sync packets. Of reads at a device's port
+    device_effect_law speaks."""
     if not pair.unit:
         return
     end, kind = pair.unit.end, KINDS[pair.unit.end.line.letter]
@@ -176,6 +177,8 @@ def effect_law(past: Past, pair: Pair) -> Instances:
         if end.is_at_host and asks(past, pair, one):
             due = "queued" if waiting < MOST_WAITING_BY_RULE else "blocked:full"
             waiting += 1
+        elif end.is_at_device and one.kind == "memread":
+            continue
         elif end.is_at_device and takes(past, pair, one):
             due = "stored"
         elif end.is_at_switch and one.kind != "sync":
@@ -257,7 +260,7 @@ def read_law(past: Past, pair: Pair) -> Instances:
         else:
             yield "a read that is answered", is_answered(past, pair, first)
     for link in [pair.unit.end.link] if pair.unit else []:
-        more = sum(one.effect == "queued" for one in pair.unit.packets)
+        more = sum(one.effect == "queued" for one in pair.unit.packets) if pair.unit.end.is_at_host else 0
         if more:
             yield "reads that wait", len(past.reads[link]) + more <= MOST_WAITING_BY_RULE
 
@@ -274,7 +277,11 @@ def is_answered(past: Past, pair: Pair, first: QueuedRead) -> bool:
         for one in pair.sealed
     ]
     is_running = now.view == "running" and now.floor <= pair.oldest.draw
-    return is_running and all(packets) and pair.sealed[-1].tlp == first.read.completion(past)
+    return is_running and all(packets) and pair.sealed[-1].tlp == completed(past, first)
+
+
+def completed(past: Past, first: QueuedRead) -> bytes:
+    return first.read.completion(past.read(first.read.address, first.read.length))
 
 
 def answer_law(past: Past, pair: Pair) -> Instances:
@@ -284,7 +291,7 @@ def answer_law(past: Past, pair: Pair) -> Instances:
     if pair.words[0] != "answer" or not pair.is_sealed:
         return
     last, first = pair.sealed[-1], past.reads[pair.first][0] if past.reads[pair.first] else None
-    completion = first.read.completion(past) if first else b""
+    completion = completed(past, first) if first else b""
     under, key = past.sub(last.lane).unders[last.draw], past.key(last.lane, last.draw)
     offset = sum(len(other.packet.body) for other in under.opened)
     body = masked(key, nonce(last.sub, last.unit), offset, completion[12:])
@@ -311,7 +318,7 @@ def read_origin_law(past: Past, pair: Pair) -> Instances:
     there, before which the interface of its requester ID was in RUN, under as many locks as now."""
     if is_unforged(past, pair):
         for one in pair.unit.packets:
-            if one.effect == "queued":
+            if one.effect == "queued" and pair.unit.end.is_at_host:
                 yield "a read", is_from(past, pair, one)
 
 
@@ -383,9 +390,9 @@ def is_in_no_other_run(was: Standing, now: Standing) -> bool:
 
 
 def was_bound(past: Past, one: Arrived) -> bool:
-    """A send at the end of a stream between devices sealed a packet, while the owner of its TLP was in RUN and bound to
-    the stream."""
-    owner = past.owner(one.sealed.end, one.requester) if one.sealed.words[0] == "psend" else None
+    """A send at the end of a stream between devices, or a response there, sealed a packet, while the owner of its TLP
+    was in RUN and bound to the stream. A request is of a send."""
+    owner = past.owner(one.sealed.end, one.requester) if one.sealed.words[0] in ("psend", "respond") else None
     if owner is None:
         return False
     before = one.sealed.before[owner]

@@ -170,15 +170,19 @@ class Interface:
         return None
 
     def not_admitted(self, bar: int, t: bool, stream: int, draw: int) -> Optional[str]:
-        """Why a write to this BAR changes nothing."""
+        """Why a write to this BAR changes nothing, and a read of it is not answered."""
         if not t:
             return None if self.guarded.is_open(bar) or self.state == UNLOCKED else "nottrusted"
         if self.state != RUN:
             return "notrunning"
-        floors = {**self.bindings, self.stream: self.floor}
-        if stream not in floors:
+        if stream not in self.floors:
             return "wrongstream"
-        return "stale" if draw < floors[stream] else None
+        return "stale" if draw < self.floors[stream] else None
+
+    @property
+    def floors(self) -> Dict[Optional[int], int]:
+        """Of each stream that it is bound to."""
+        return {**self.bindings, self.stream: self.floor}
 
 
 # ---- the manager's end

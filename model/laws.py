@@ -14,6 +14,7 @@ import change_laws as change
 import interface_laws as interface
 import key_laws as key
 import outcome_laws as outcome
+import read_laws as read
 import sending_laws as sending
 import state_laws as states
 import stream_laws as stream
@@ -75,7 +76,8 @@ LAWS: Dict[Callable[[Past, Pair], Instances], List[str]] = {
     key.key_limits: ["a unit of a key", "the last unit of a key", "a unit that is accepted", "a packet that is held"]
     + ["a key that seals again"],
     key.forgeries_are_of_cipher: ["a tag", "a forgery"],
-    stream.failed_law: [f"an arrival{on}" for on in ON] + ["a send", "a psend", "a forward", "an answer"],
+    stream.failed_law: [f"an arrival{on}" for on in ON]
+    + ["a send", "a psend", "a forward", "an answer", "a respond"],
     stream.numbers_fresh: [f"a number{on}" for on in ON] + ["a key and an IV again"],
     stream.keystream_fresh: ["no payload", "a payload", "a payload behind another one"]
     + ["a payload behind another one, past 256 blocks"],
@@ -87,7 +89,7 @@ LAWS: Dict[Callable[[Past, Pair], Instances], List[str]] = {
         f"{what}{on}" for what in ("a unit", "the first unit") for on in ON + [f"{ON[0]} that is closed"]
     ],
     stream.hop_law: ["a TLP that is forwarded", "a TLP that is forwarded with T", "a TLP behind a switch"],
-    sending.choice_law: ["an answer", "a forward"]
+    sending.choice_law: ["an answer", "a respond", "a forward"]
     + [f"a TLP that is taken by {way}" for way in ("range", "default", "class", "the hop", "its name", "none")],
     sending.cover_law: [f"a TLP in clear at a {where}" for where in ("host", "device")],
     sending.exact_trust_law: [
@@ -95,13 +97,15 @@ LAWS: Dict[Callable[[Past, Pair], Instances], List[str]] = {
         for t in ("T", "no T")
         for where in (f"host{ON[0]}", f"host{ON[1]}", f"device{ON[0]}", f"device{ON[2]}", "switch")
     ]
-    + ["a sync packet", f"no T at a device{ON[1]}"],
+    + ["a sync packet", f"no T at a device{ON[1]}", f"T of a response{ON[0]}", f"T of a response{ON[2]}"]
+    + [f"no T of a response{on}" for on in ON],
     sending.send_law: ["bytes that are no TLP"]
     + [f"a {event} that is {end}" for event in ("send", "psend", "forward") for end in ("sealed", "refused")]
     + ["a forward that is empty"]
-    + [f"an answer that is {end}" for end in ("empty", "dropped", "sealed", "refused")],
+    + [f"an answer that is {end}" for end in ("empty", "dropped", "sealed", "refused")]
+    + [f"a response that is {end}" for end in ("empty", "sealed", "refused")],
     sending.sealed_comes_from: [f"a TLP of a {event}" for event in ("send", "psend", "forward")]
-    + ["a completion", "a sync packet"],
+    + ["a completion", "a completion of a device", "a sync packet"],
     interface.run_law: ["a report", "registers at a lock", "registers that were written"]
     + [f"a {event} that a lock forbids" for event in ("write", "flr", "firmware")],
     interface.reports_are_shown: ["a RUN", "a later RUN"],
@@ -144,6 +148,17 @@ LAWS: Dict[Callable[[Past, Pair], Instances], List[str]] = {
     interface.read_origin_law: ["a read"],
     interface.byte_origin: ["a byte"],
     binding.streams_stand_alone: [f"what {law.__name__} says" for law in binding.OF_A_STREAM] + ["a byte"],
+    read.device_read_law: [f"a response without T{on}" for on in ON]
+    + ["a response with T on a link", "a response with T on a stream between devices", "a read that is dropped"]
+    + ["reads that wait"],
+    read.device_effect_law: [f"{effect}{on}" for effect in ("queued", "delivered", "blocked:crosses") for on in ON]
+    + [f"blocked:{cause}{on}" for cause in ("nottrusted", "notrunning", "wrongstream") for on in ON]
+    + [f"blocked:{cause}{ON[0]}" for cause in ("stale", "full")] + ["no read"],
+    read.respond_law: ["none", "empty", "sealed", "refused as a send", "refused refreshfirst"]
+    + [f"dropped {cause}" for cause in ("moved", "nottrusted", "notrunning", "wrongstream", "stale")],
+    read.exposure_law: ["a packet", "a packet of a later lock"],
+    read.device_read_origin_law: ["a read of the host", "a read of another device", "a response"],
+    read.response_origin_law: ["a completion with bytes", "a completion of zeros"],
     interface.mmio_origin_law: [
         f"a write of {who}{when}" for who in ("the host", "another device") for when in ("", " from before the lock")
     ],
@@ -168,7 +183,7 @@ LAWS: Dict[Callable[[Past, Pair], Instances], List[str]] = {
     binding.peer_store_law: ["a write"],
     change.inert_law: sorted(set(change.KINDS_OF_INERT.values())),
     change.reset_law: [f"{what} of {kind}" for what in ("an end", "another end", "a stream") for kind in KINDS.values()]
-    + ["what waits", "an interface"],
+    + ["what waits", "what waits elsewhere", "an interface"],
     change.exact_through_law: ["bytes at a host or a device", "bytes at a switch", "bytes at a switch that go through"],
     change.hop_trust_law: ["a packet behind a switch", "a packet behind a switch with T", "an answer"]
     + ["a packet that a device sends on a hop"],
@@ -189,6 +204,7 @@ LAWS: Dict[Callable[[Past, Pair], Instances], List[str]] = {
     + [f"memwrite at a host: {cause}" for cause in BLOCKS]
     + [f"memread at a host: {cause}" for cause in BLOCKS[1:] + ["full"]]
     + [f"memwrite at a device: {cause}" for cause in ["not blocked", "crosses"] + BLOCKS[:4]]
+    + [f"memread at a device: {cause}" for cause in ["not blocked", "crosses", "full"] + BLOCKS[:4]]
     + [f"an answer: {cause}" for cause in ["not dropped"] + BLOCKS[1:4]],
     outcome.operation_law: [f"{letter}stop" for letter in KINDS]
     + [f"{letter}establish that {how}" for letter in KINDS for how in ("begins", "goes on")]
@@ -201,7 +217,7 @@ LAWS: Dict[Callable[[Past, Pair], Instances], List[str]] = {
 # those that speak of accepted units alone
 OF_UNITS = {stream.draws_never_fall, stream.count_law, stream.prefix_law, stream.delivery_law, stream.order_law}
 OF_UNITS |= {interface.one_lock_per_key, interface.effect_law, interface.origin_law, interface.read_origin_law}
-OF_UNITS |= {interface.mmio_origin_law}
+OF_UNITS |= {interface.mmio_origin_law, read.device_effect_law, read.response_origin_law}
 OF_UNITS |= {binding.one_lock_per_stored_key, binding.peer_origin_law, binding.peer_store_law}
 OF_UNITS |= {binding.peers_are_never_stale, change.hop_order_law, change.hop_posted_law}
 
@@ -210,6 +226,7 @@ OF_UNITS |= {binding.peers_are_never_stale, change.hop_order_law, change.hop_pos
 OF_UNFORGED = {stream.prefix_law, stream.delivery_law, stream.order_law, interface.origin_law}
 OF_UNFORGED |= {interface.read_origin_law, interface.byte_origin, interface.mmio_origin_law}
 OF_UNFORGED |= {binding.streams_stand_alone, binding.peer_origin_law, binding.peer_store_law}
+OF_UNFORGED |= {read.device_read_origin_law, read.response_origin_law}
 OF_UNFORGED |= {stream.hop_law, change.hop_order_law, change.hop_posted_law}
 BESIDE = "what comes after a forgery elsewhere"
 
@@ -316,17 +333,18 @@ class Watched(World):
                        [dict(contents) for contents in one.guarded.contents], len(one.nonces))
                       for one in self.interfaces]
         waiting = {way: list(tlps) for way, tlps in self.waiting.items()}
-        reads = {link: [(one.header, one.draw) for one in ones] for link, ones in self.reads.items()}
-        return Kept(lines, (self.draws, len(self.packets), waiting, reads, handles, interfaces))
+        reads = [{link: [(one.header, one.draw) for one in ones] for link, ones in kept.items()}
+                 for kept in (self.reads, self.device_reads)]
+        return Kept(lines, (self.draws, len(self.packets), waiting, handles, interfaces), reads)
 
     def operate(self, name: str, line: Line, lost: Loss) -> str:
         status = [end.status() for end in line.ends] if name == "refresh" else []
         self.work = Work(name, line, replace(line.operation), self.draws, status)
         return super().operate(name, line, lost)
 
-    def send_on(self, end: End, data: bytes, more: bool, trusted: bool) -> str:
+    def send_on(self, end: End, data: bytes, more: bool, trusted: bool, is_response: bool = False) -> str:
         self.tlp = data
-        return super().send_on(end, data, more, trusted)
+        return super().send_on(end, data, more, trusted, is_response)
 
     # -- an event
 
@@ -355,7 +373,7 @@ class Watched(World):
 
     def keys_out(self, words: List[str]) -> Dict[Tuple[str, int], List[List[Keyed]]]:
         """Before an event that may seal the keys of the sub-streams that each end seals, by its port and stream."""
-        if words[0] not in ("send", "psend", "forward", "answer"):
+        if words[0] not in ("send", "psend", "forward", "answer", "respond"):
             return {}
         ends = [end for line in self.lines() for end in line.ends]
         return {(end.port, end.plan.id): [keys_of(end, end.side, sub) for sub in range(3)] for end in ends}

@@ -477,8 +477,8 @@ class Links:
             return f"plain {port}"
         return self.send_on(self.end_at(port, stream), data, more, trusted)
 
-    def send_on(self, end: End, data: bytes, more: bool, trusted: bool) -> str:
-        """On the end's own stream, whatever the TLP is."""
+    def send_on(self, end: End, data: bytes, more: bool, trusted: bool, is_response: bool = False) -> str:
+        """On the end's own stream, whatever the TLP is. T of a response is as its read had it."""
         try:
             kind, header, payload = read_tlp(data)
         except Malformed as fault:
@@ -486,8 +486,9 @@ class Links:
         refusal, syncs = self.refusal(end, kind.sub)
         if refusal:
             return f"refused {refusal}"
+        t = trusted if is_response else self.sets_t(end, header, trusted)
         rows = [self.seal(end, sub, bytes([0x34]) + bytes(11), b"", False, False, True) for sub in syncs]
-        rows.append(self.seal(end, kind.sub, header, payload, more, self.sets_t(end, header, trusted), False))
+        rows.append(self.seal(end, kind.sub, header, payload, more, t, False))
         self.totals["sealed"] += len(rows)
         return "sealed " + " ; ".join(rows)
 

@@ -43,7 +43,7 @@ class Memory:
 
 @dataclass
 class WaitingRead:
-    """A trusted read that the host's port accepted, by its header, and the draw it came under."""
+    """A read that a port accepted, by its header, and the draw it came under."""
 
     header: bytes
     draw: int
@@ -55,14 +55,14 @@ class WaitingRead:
     def is_enabled(self, place: int) -> bool:
         return enabled(place, self.length, self.header[7] & 15, self.header[7] >> 4)
 
-    def completion(self, memory: Memory) -> bytes:
-        """One completion with all of the data (section 2.2.9), as memory is now."""
+    def completion(self, contents: bytes, completer: int = 0) -> bytes:
+        """One completion with all of the data (section 2.2.9), of which these are all bytes that the read names."""
         places = [place for place in range(self.length) if self.is_enabled(place)]
         first, last = (places[0], places[-1]) if places else (0, 0)
         count = (last - first + 1) % 4096
-        header = bytes([0x4A, self.header[1], self.header[2] & 0x33, self.header[3], 0, 0, count >> 8, count & 255])
+        header = bytes([0x4A, self.header[1], self.header[2] & 0x33, self.header[3]]) + completer.to_bytes(2, "big")
+        header += count.to_bytes(2, "big")
         header += self.header[4:7] + bytes([(self.address + first) & 127])
-        contents = memory.read(self.address, self.length)
         return header + bytes(byte if self.is_enabled(place) else 0 for place, byte in enumerate(contents))
 
 

@@ -120,6 +120,8 @@ class Kept:
 
     lines: Dict[Line, Tuple[tuple, List[tuple]]]
     rest: tuple
+    # by link, at hosts' ports and at devices'
+    reads: List[dict]
 
 
 @dataclass
@@ -260,6 +262,31 @@ class QueuedRead:
 
 
 @dataclass
+class QueuedAtDevice:
+    """A read that was queued at a device's port: its T, the end that it came to, the interface and BAR that claimed it,
+    how that interface stood then, and if no tag was forged there, how it stood before the read was sent."""
+
+    read: WaitingRead
+    t: bool
+    lane: Tuple[Line, int]
+    target: int
+    bar: int
+    standing: Standing
+    sent: Optional[Standing]
+
+    locks = property(lambda self: self.standing.locks)
+
+
+@dataclass
+class Response:
+    """What a response to a read showed of a BAR: the bytes that stood there, and how the interface stood."""
+
+    of: QueuedAtDevice
+    contents: bytes
+    standing: Standing
+
+
+@dataclass
 class Written:
     """A byte of trusted memory that a write left: of which interface, under which of its locks, as it was sealed,
     whether a tag of its sub-stream and draw had been forged, and on which line it came."""
@@ -324,6 +351,9 @@ class Past:
         self.kept: Dict[Line, set] = collections.defaultdict(set)
         self.memory: Dict[int, Written] = {}
         self.reads: Dict[int, List[QueuedRead]] = collections.defaultdict(list)
+        self.device_reads: Dict[int, List[QueuedAtDevice]] = collections.defaultdict(list)
+        # by the place of a sealed completion the response that it is
+        self.responses: Dict[int, Response] = {}
         # the bytes behind the BARs of each interface, as the stored writes left them
         self.stored: Dict[Tuple[int, int], Dict[int, int]] = collections.defaultdict(dict)
         # by line of a hop and side: the TLPs that were accepted there and that were sealed there, since the link's last
@@ -472,7 +502,7 @@ class Past:
 
     def sealed_for(self, pair: Pair, one: Sealed) -> Optional[int]:
         """The interface that owns the TLP of a packet with T which its device sealed, on any stream."""
-        is_sent = pair.words[0] in ("send", "psend") and one.end.is_at_device
+        is_sent = pair.words[0] in ("send", "psend", "respond") and one.end.is_at_device
         if not one.t or not is_sent or one.end.line.letter == "h":
             return None
         return self.owner(one.end, one.packet.header[4] << 8 | one.packet.header[5])
@@ -508,6 +538,8 @@ class Past:
             under.held = under.held + [pair.arrival.packet]
         if pair.words[0] == "answer" and pair.verdict[0] in ("sealed", "dropped") and self.reads[pair.first]:
             self.reads[pair.first].pop(0)
+        if pair.words[0] == "respond":
+            self.note_response(pair)
         if pair.verdict[0] == "reset":
             self.note_reset(pair.first)
         for place in zeroed(self, pair):
@@ -601,10 +633,12 @@ class Past:
             if one.effect == "applied":
                 for address, byte in one.written():
                     self.memory[address] = Written(byte, owner, locks, one.sealed, is_forged, unit.end.line)
-            if one.effect == "queued":
+            if one.effect == "queued" and unit.end.is_at_device:
+                self.note_device_read(pair, one)
+            elif one.effect == "queued":
                 read = WaitingRead(one.header, unit.draw)
                 self.reads[unit.end.link].append(QueuedRead(read, owner, locks))
-            if one.effect in ("applied", "queued"):
+            if one.effect in ("applied", "queued") and unit.end.is_at_host:
                 self.admitted.setdefault((owner, unit.draw), locks)
         for place, offset, byte, _ in stored_bytes(self, pair):
             self.stored[place][offset] = byte
@@ -612,8 +646,27 @@ class Past:
             if one.packet.t:
                 self.stored_under.setdefault((interface, unit.draw), pair.before[interface].locks)
 
+    def note_device_read(self, pair: Pair, one: Arrived):
+        unit, read = pair.unit, WaitingRead(one.header, pair.unit.draw)
+        claim = claim_at(self, pair.before, unit.end.link, read.address, read.length)
+        if claim:
+            is_known = one.sealed and not self.is_forged_under(unit.lane, unit.draw)
+            sent = one.sealed.before[claim[0]] if is_known else None
+            lane, standing = (unit.end.line, unit.end.side), pair.before[claim[0]]
+            queued = QueuedAtDevice(read, bool(one.packet.t), lane, *claim, standing, sent)
+            self.device_reads[unit.end.link].append(queued)
+
+    def note_response(self, pair: Pair):
+        first = self.device_reads[pair.first][:1]
+        if pair.verdict[0] not in ("sealed", "dropped") or not first:
+            return
+        self.device_reads[pair.first].pop(0)
+        if pair.is_sealed:
+            contents = shown_to(self, pair.before, first[0])
+            self.responses[pair.sealed[-1].place] = Response(first[0], contents, pair.before[first[0].target])
+
     def note_reset(self, link: int):
-        self.reads[link] = []
+        self.reads[link], self.device_reads[link] = [], []
         for segment in (0, 1):
             line = self.world.segments.get((link, segment))
             if line:
@@ -729,15 +782,38 @@ def asks(past: Past, pair: Pair, one: Arrived) -> bool:
 
 def claim_of(past: Past, pair: Pair, one: Arrived) -> Optional[Tuple[int, int]]:
     """The least interface of a device, and its least BAR, that has all bytes of a write."""
+    return claim_at(past, pair.before, pair.unit.end.link, one.address, one.length)
+
+
+def claim_at(past: Past, standings: List[Standing], link: int, address: int, length: int) -> Optional[Tuple[int, int]]:
     for handle in past.world.handles:
-        registers = pair.before[handle.number].registers
-        if handle.link != pair.unit.end.link or not registers["command"] & MEMORY_SPACE:
+        registers = standings[handle.number].registers
+        if handle.link != link or not registers["command"] & MEMORY_SPACE:
             continue
         for bar, plan in enumerate(handle.plan.bars):
-            offset = one.address - registers[f"bar{bar}"]
-            if 0 <= offset and offset + one.length <= PAGE * plan.pages:
+            offset = address - registers[f"bar{bar}"]
+            if 0 <= offset and offset + length <= PAGE * plan.pages:
                 return handle.number, bar
     return None
+
+
+def shown_to(past: Past, standings: List[Standing], queued: QueuedAtDevice) -> bytes:
+    """What stands behind the BAR of a read that waits, as the stored writes left it."""
+    contents = past.stored[queued.target, queued.bar]
+    offset = queued.read.address - standings[queued.target].registers[f"bar{queued.bar}"]
+    return bytes(contents.get(offset + at, 0) for at in range(queued.read.length))
+
+
+def access_cause(past: Past, pair: Pair, claim: Tuple[int, int], t: bool, stream: int, draw: int) -> Optional[str]:
+    """Why a device does not let a request of this stream and draw reach the BAR that claims it."""
+    standing = pair.before[claim[0]]
+    if not t:
+        return None if is_open(past, *claim) or standing.state == UNLOCKED else "nottrusted"
+    if standing.state != RUN:
+        return "notrunning"
+    if stream not in standing.floors:
+        return "wrongstream"
+    return "stale" if draw < standing.floors[stream] else None
 
 
 def is_open(past: Past, interface: int, bar: int) -> bool:

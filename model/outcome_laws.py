@@ -6,7 +6,7 @@ from typing import Iterator, List, Optional, Tuple
 from interfaces import ERROR_STATE, LOCKED, RUN, UNLOCKED, report_bytes
 from links import DEVICE, HOST, PR, SUB_NAMES, End, number
 from memory import PAGE, WaitingRead
-from notes import KINDS, Arrived, Pair, Past, Standing, claim_of, is_open
+from notes import KINDS, Arrived, Pair, Past, Standing, claim_at, is_open
 from plan import InterfacePlan
 from stream_laws import Instances
 from world import World
@@ -126,7 +126,8 @@ def block_law(past: Past, pair: Pair) -> Instances:
     """Of each packet of an accepted unit the effect is blocked exactly if a cause holds, and by the first that does;
     exactly a sync packet has the effect `sync`. An answer drops the oldest read exactly if a cause holds, of the
     interface of its requester ID, by the first."""
-    waiting = len(past.reads[pair.unit.end.link]) if pair.unit else 0
+    reads = past.device_reads if pair.unit and pair.unit.end.is_at_device else past.reads
+    waiting = len(reads[pair.unit.end.link]) if pair.unit else 0
     for one in pair.unit.packets if pair.unit else []:
         cause = cause_of_block(past, pair, one, waiting)
         waiting += one.effect == "queued"
@@ -151,17 +152,21 @@ def cause_of_block(past: Past, pair: Pair, one: Arrived, waiting: int) -> Option
         read = WaitingRead(one.header, pair.unit.draw)
         full = [("full", waiting >= MOST_WAITING_BY_RULE)]
         return first_of(granting(past, pair, one) + placing(past, read.address, read.length) + full)
-    claim = claim_of(past, pair, one) if end.is_at_device and one.kind == "memwrite" else None
-    if claim is None:
+    if not end.is_at_device or one.kind not in ("memwrite", "memread"):
+        return None
+    length = one.length if one.kind == "memwrite" else WaitingRead(one.header, pair.unit.draw).length
+    claim = claim_at(past, pair.before, end.link, one.address, length)
+    if claim is None or one.kind == "memread" and not past.world.handles[claim[0]].plan.reads:
         return None
     was = pair.before[claim[0]]
     floor = was.floors.get(end.plan.id)
     return first_of([
-        ("crosses", one.address // PAGE != (one.address + one.length - 1) // PAGE),
+        ("crosses", one.address // PAGE != (one.address + length - 1) // PAGE),
         ("nottrusted", not t and not is_open(past, *claim) and was.state != UNLOCKED),
         ("notrunning", t and was.state != RUN),
         ("wrongstream", t and floor is None),
         ("stale", t and floor is not None and pair.unit.draw < floor),
+        ("full", one.kind == "memread" and waiting >= MOST_WAITING_BY_RULE),
     ])
 
 

@@ -48,6 +48,7 @@ class InterfacePlan:
     tph: int = 0
     pasid: int = 0
     ats: int = 0
+    reads: bool = False
     info: bytes = b""
     bars: List[BarPlan] = field(default_factory=list)
 
@@ -55,6 +56,7 @@ class InterfacePlan:
         rows = ["[[link.interface]]"] + pairs(rid=self.rid, stream=self.stream)
         names = ["flags", "offset", "command", "msix", "lnr", "cacheline", "tph", "pasid", "ats"]
         rows += pairs(**{name: getattr(self, name) for name in names if getattr(self, name)})
+        rows += ["reads = true"] if self.reads else []
         if self.info:
             rows += pairs(info=self.info.hex())
         bars = [f"{{ {', '.join(pairs(base=b.base, pages=b.pages, attributes=b.attributes))} }}" for b in self.bars]
@@ -98,7 +100,7 @@ class Plan:
     def version(self) -> int:
         interfaces = [interface for link in self.links for interface in link.interfaces]
         has_hop = any(link.hop is not None for link in self.links)
-        return 2 if self.p2p or has_hop or any(table.pasid or table.ats for table in interfaces) else 1
+        return 2 if self.p2p or has_hop or any(table.pasid or table.ats or table.reads for table in interfaces) else 1
 
     def toml(self) -> str:
         rows = pairs(version=self.version(), portion=self.portion, units_per_key=self.units_per_key)

@@ -9,7 +9,7 @@ import random
 from typing import Callable, List, Optional, Tuple
 
 from interfaces import BINDS_PEERS, MEMORY_SPACE, UNLOCKED, Handle, Interface, first_registers
-from links import DEVICE, HOST, PR, End, Line, Packet, Slot, kind_of, link_of, masked, nonce
+from links import DEVICE, HOST, PR, End, Line, Packet, Slot, kind_of, link_of, masked, nonce, read_tlp
 from memory import MOST_WAITING
 from plan import BarPlan, InterfacePlan, LinkPlan, PeerPlan, Plan, RegionPlan, StreamPlan
 from words import WIDTHS
@@ -136,7 +136,16 @@ def random_memory(r: random.Random) -> List[RegionPlan]:
     return regions
 
 
-def random_plan(r: random.Random) -> Plan:
+def random_plan(r: random.Random, with_reads: bool = False) -> Plan:
+    """`with_reads` lets devices answer reads of most interfaces."""
+    plan = random_links(r)
+    for interface in [one for link in plan.links for one in link.interfaces] if with_reads else []:
+        interface.reads = r.random() < 0.8
+        interface.command |= MEMORY_SPACE
+    return plan
+
+
+def random_links(r: random.Random) -> Plan:
     links = [random_link(r) for _ in range(r.choice([1, 1, 2, 2, 3] * 4 + [8]))]
     for _ in range(r.choice([0, 1, 1, 2, 3, 4])):
         link = r.choice(links)
@@ -236,6 +245,16 @@ def bar_write(r: random.Random, requester: int, interface: Interface) -> Optiona
     return head + r.randbytes(4 * words)
 
 
+def bar_read(r: random.Random, requester: int, interface: Interface) -> Optional[bytes]:
+    """Of a BAR, mostly where something was written."""
+    data = bar_write(r, requester, interface)
+    written = [(bar, offset) for bar, bytes_there in enumerate(interface.guarded.contents) for offset in bytes_there]
+    if data is None or not written or r.random() < 0.3:
+        return data and bytes([data[0] & 0x20]) + data[1: 16 if data[0] & 0x20 else 12]
+    bar, offset = r.choice(written)
+    return memory_request(r, requester, (interface.registers[f"bar{bar}"] + offset) % 2**64, [1, 1, 2, 3], 0)[0]
+
+
 def broken(r: random.Random, data: bytes) -> bytes:
     data = bytearray(data)
     for _ in range(r.choice([1, 1, 2])):
@@ -278,6 +297,10 @@ Text = Callable[[], str]
 EXCHANGE_COUNTS = dict(lock=3, report=8, start=1, halt=1, state=1, bind=1, unbind=1)
 
 
+# so many lines that wait are not interrupted by others
+LONG = 40
+
+
 class Script:
     def __init__(self, r: random.Random, plan: Plan, world: World):
         self.r, self.plan, self.world = r, plan, world
@@ -295,6 +318,9 @@ class Script:
         self.is_flooding = r.random() < 0.1
         self.beside = r.choice([0.05, 0.3, 0.6]) if not self.is_posting else 0.0
         self.binding = r.choice([0.02, 0.2, 0.4])
+        # interfaces whose device answers reads
+        self.readable = [handle for handle in world.handles if handle.plan.reads]
+        self.responding = r.choice([0.05, 0.3, 0.5]) if self.readable and not self.is_posting else 0.0
         self.queue: List[Text] = []
         self.waiting: List[Tuple[int, int]] = []
         self.sealed = 0
@@ -308,7 +334,9 @@ class Script:
             if self.is_dead() and self.r.random() < 0.1:
                 return
             self.notice_sealed()
-            if self.queue and self.r.random() < 0.95:
+            if self.readable and len(self.queue) < LONG and self.r.random() < self.responding:
+                yield self.device_reading()
+            elif self.queue and self.r.random() < 0.95:
                 yield self.queue.pop(0)()
             else:
                 yield self.line()
@@ -455,6 +483,116 @@ class Script:
         if self.world.peers and r.random() < 0.5:
             return self.peer_send(r.choice(self.world.peers))
         return self.forward(link) if self.world.waiting and r.random() < 0.4 else self.hop_send(link)
+
+    # -- reads of devices
+
+    def device_reading(self) -> str:
+        """A read of a BAR, the next packet, or a response; seldom something that changes how a read is answered."""
+        r, handle = self.r, self.r.choice(self.readable)
+        what, waiting = r.random(), self.world.device_reads[handle.link]
+        if handle.view != "running" and not self.queue and r.random() < 0.1:
+            lines = [line for line in self.world.peers if handle.link in map(link_of, line.ports)]
+            self.queue = self.bind_both(r.choice(lines)) if lines and r.random() < 0.5 else self.comes_into_run(handle)
+            return f"respond {handle.link}"
+        if waiting and what < 0.3:
+            return f"respond {handle.link}"
+        if what < 0.6:
+            return self.device_read(handle)
+        if what < 0.85:
+            return self.next_packet()
+        if waiting and what < 0.95:
+            return self.before_response(waiting[0])
+        if what < 0.96 and not self.queue:
+            self.queue = r.choice([self.read_flood, self.under_older_key, self.read_and_unbind])(handle)
+        return f"respond {r.choice([handle.link] * 4 + [r.randrange(9)])}"
+
+    def good_device_read(self, handle: Handle, requester: int) -> bytes:
+        """Of the first BAR, in one page."""
+        base = handle.interface.registers.get("bar0", 0)
+        return memory_request(self.r, requester, (base + 8 * self.r.randrange(8)) % 2**64, [1, 2], 0)[0]
+
+    def read_flood(self, handle: Handle) -> List[Text]:
+        """More reads than may wait, of an interface that may answer them."""
+        takes_reads = [one for one in self.readable if self.may_answer(one)]
+        if not takes_reads or self.plan.units_per_key <= 2 * MOST_WAITING:
+            return []
+        handle = self.r.choice(takes_reads)
+        trusted = " trusted" if handle.view == "running" else ""
+        read = self.marking(lambda: f"send h{handle.link} {self.good_device_read(handle, 0).hex()}{trusted}")
+        return [read, self.pass_marked] * (66 + LONG // 2) + [lambda: f"respond {handle.link}"] * 5
+
+    def may_answer(self, handle: Handle) -> bool:
+        """Whether a read of the host's comes to its first BAR on the stream of its lock, and is not blocked."""
+        kind, header, _ = read_tlp(self.good_device_read(handle, 0))
+        is_secure = all(end.status() == "secure" for end in handle.line.ends)
+        is_claimed = handle.interface.claims(int.from_bytes(header[8:], "big"), 4) == 0
+        is_taken = self.world.chosen(f"h{handle.link}", kind, header) == handle.plan.stream
+        return is_secure and is_claimed and is_taken and handle.view in ("unlocked", "running")
+
+    def under_older_key(self, handle: Handle) -> List[Text]:
+        """The device has a unit of completions open over a refresh, so that it still seals under the older key."""
+        names = [self.of_handle(handle, name) for name in ("halt", "lock", "report", "refresh", "start")]
+        rid = handle.plan.rid.to_bytes(2, "big").hex()
+        opens = lambda: f"send d{handle.link} 0a000000{rid}00040000{COMPLETION[10:].hex()} more"
+        read = self.marking(lambda: f"send h{handle.link} {self.good_device_read(handle, 0).hex()} trusted")
+        return names[:1] + [opens] + names[1:] + [read, self.pass_marked] + [lambda: f"respond {handle.link}"] * 2
+
+    def read_and_unbind(self, handle: Handle) -> List[Text]:
+        """An interface reads memory of another one over a stream that both are bound to; sometimes the other is unbound
+        before it answers."""
+        r, lines = self.r, [line for line in self.world.peers if handle.link in map(link_of, line.ports)]
+        line = r.choice(lines) if lines else None
+        pair = [self.bindable(end.link) for end in line.ends] if line else [None]
+        if None in pair:
+            return []
+        runs = [event for one in pair for event in self.comes_into_run(one)]
+        runs += [lambda: f"pstop {line.name}", lambda: f"pestablish {line.name}"]
+        runs += [lambda: f"bind {pair[0].number} {line.name}", lambda: f"bind {pair[1].number} {line.name}"]
+        side = 0 if line.ends[1].link == handle.link else 1
+        target = pair[1 - side]
+        read = lambda: f"psend {line.name} {'ab'[side]} {self.good_device_read(target, pair[side].plan.rid).hex()}"
+        unbind = [lambda: f"unbind {target.number} {line.name}"] * (r.random() < 0.5)
+        answer = self.marking(lambda: f"respond {target.link}")
+        return runs + [self.marking(read), self.pass_marked] + unbind + [answer, self.pass_marked]
+
+    def device_read(self, handle: Handle) -> str:
+        """By the host on a stream or over a hop, or by another device."""
+        r, more = self.r, self.r.choice(["", "", " more"])
+        lines = [line for line in self.world.peers if handle.link in map(link_of, line.ports)]
+        bound = [line for line in lines if line.plan.id in handle.interface.bindings]
+        if lines and r.random() < 0.4:
+            line = r.choice(bound or lines)
+            side = 0 if line.ends[1].link == handle.link else 1
+            data = bar_read(r, self.requester(line.ends[side].link), handle.interface) or COMPLETION
+            return f"psend {line.name} {'ab'[side]} {data.hex()}{more}"
+        data = bytearray(bar_read(r, r.choice([0, self.requester(handle.link)]), handle.interface) or COMPLETION)
+        classes = self.plan.links[handle.link].hop_tcs
+        if classes and r.random() < 0.3:
+            data[1] = data[1] & 0x8F | r.choice(classes) << 4
+        return f"send h{handle.link} {data.hex()}{more}{r.choice(['', ' trusted'])}"
+
+    def before_response(self, read) -> str:
+        """What changes how a read is answered that waits."""
+        r, handle = self.r, read.target
+        into_run = [self.of_handle(handle, name) for name in ("lock", "report", "start")]
+        responds = [lambda: f"respond {handle.link}"] * 2
+        if handle.view == "unlocked" and r.random() < 0.6:
+            self.queue = into_run[r.randrange(1, 3):] + responds
+            return into_run[0]()
+        if handle.view == "running" and r.random() < 0.5:
+            again = self.run_again(handle)
+            self.queue = again[1:] + responds
+            return again[0]()
+        if handle.view == "running" and r.random() < 0.4:
+            opens = f"send d{handle.link} {COMPLETION.hex()} more"
+            more = [lambda: self.device_read(handle), self.next_packet] * 2
+            self.queue = [self.of_handle(handle, "refresh")] + more + responds
+            return opens
+        if r.random() < 0.2 and read.line.letter == "p":
+            return f"unbind {handle.number} {read.line.name}"
+        return r.choice([f"write {handle.number} command {handle.interface.registers['command'] ^ MEMORY_SPACE}",
+                         f"write {handle.number} bar{read.bar} {r.randrange(2**32) * 4096 % 2**62}",
+                         f"flr {handle.number}", self.of_handle(handle, "halt")()])
 
     def peer_send(self, line: Line, handle: Optional[Handle] = None) -> str:
         """Mostly a write into a BAR of the other device."""

@@ -6,9 +6,10 @@ holds.
 
 from typing import List, Optional, Tuple
 
+from interface_laws import completed
 from interfaces import RUN
 from links import CPL, NPR, PR, SUB_NAMES, End, Kind, Malformed, masked, nonce, number, read_tlp
-from notes import KINDS, Pair, Past, Sealed, given, on
+from notes import KINDS, Pair, Past, Sealed, claim_at, given, on, shown_to
 from stream_laws import Instances
 
 SYNC_HEADER = bytes([0x34]) + bytes(11)
@@ -76,8 +77,8 @@ def is_send_of_tlp(pair: Pair) -> bool:
 
 def choice_law(past: Past, pair: Pair) -> Instances:
     """A TLP that is sent is `plain` exactly if no stream of the link takes it, nor its hop; each packet that is sealed
-    for it is of the stream that takes it, at that port. An answer and a forward are never plain."""
-    if pair.words[0] in ("answer", "forward"):
+    for it is of the stream that takes it, at that port. An answer, a response and a forward are never plain."""
+    if pair.words[0] in ("answer", "respond", "forward"):
         yield f"{'an' if pair.words[0] == 'answer' else 'a'} {pair.words[0]}", pair.verdict[0] != "plain"
     if is_send_of_tlp(pair):
         how, end = goes_on(past, pair)
@@ -105,8 +106,8 @@ def cover_law(past: Past, pair: Pair) -> Instances:
 def exact_trust_law(past: Past, pair: Pair) -> Instances:
     """A packet that carries a TLP has T exactly so: at a host's port if a trusted `send` or an answer sealed it, at a
     device's port of a link if its owner is in RUN and its lock names the stream, on a stream between devices if the
-    owner is in RUN and bound to it, at a device's port of a hop never, at a switch if it came with T. A sync packet has
-    none."""
+    owner is in RUN and bound to it, at a device's port of a hop never, at a switch if it came with T. A response has it
+    exactly if the oldest read that waits at the device had it, on any line. A sync packet has none."""
     for one in pair.sealed:
         if one.sync:
             yield "a sync packet", not one.t
@@ -117,6 +118,9 @@ def exact_trust_law(past: Past, pair: Pair) -> Instances:
 
 def due_t(past: Past, pair: Pair, one: Sealed) -> Tuple[str, bool]:
     end, on_line = one.end, f" on {KINDS[one.end.line.letter]}"
+    if pair.words[0] == "respond":
+        first = next(iter(past.device_reads[pair.first]), None)
+        return f" of a response{on_line}", first is not None and first.t
     if end.is_at_host:
         return f" at a host{on_line}", pair.words[0] == "answer" or "trusted" in pair.words[3:]
     if end.is_at_switch:
@@ -205,7 +209,9 @@ def send_law(past: Past, pair: Pair) -> Instances:
     there, each sub-stream in which it seals has a Live key, it overtakes no unfinished posted unit, and no unit that
     would begin is one too many; else the first of these refuses it. A forward is empty exactly if all that came was
     sealed behind the switch, else it sends the first that waits. An answer is empty exactly if no read waits; else it
-    is dropped exactly if the interface may not have the completion, which is sent if it may."""
+    is dropped exactly if the interface may not have the completion, which is sent if it may. A response is empty
+    exactly if no read waits at the device; what is neither dropped nor refused until a refresh is sent at the end on
+    which the read came."""
     event = pair.words[0]
     if event in ("send", "psend") and pair.verdict[0] != "none":
         tlp = read(given_bytes(pair))
@@ -223,6 +229,16 @@ def send_law(past: Past, pair: Pair) -> Instances:
             yield f"a forward that is {pair.verdict[0]}", is_answered(past, pair, leaving, first[0])
     if event == "answer" and pair.verdict[0] != "none":
         yield f"an answer that is {pair.verdict[0]}", is_answer_due(past, pair)
+    if event == "respond" and pair.verdict[0] not in ("none", "dropped") and pair.verdict[1:2] != ["refreshfirst"]:
+        yield f"a response that is {pair.verdict[0]}", is_response_due(past, pair)
+
+
+def is_response_due(past: Past, pair: Pair) -> bool:
+    first = next(iter(past.device_reads[pair.first]), None)
+    if first is None or pair.verdict[0] == "empty":
+        return first is None and pair.verdict == ["empty", pair.words[1]]
+    line, side = first.lane
+    return is_answered(past, pair, line.ends[side], CPL)
 
 
 def is_answer_due(past: Past, pair: Pair) -> bool:
@@ -230,7 +246,7 @@ def is_answer_due(past: Past, pair: Pair) -> bool:
         return not past.reads[pair.first] and pair.verdict[0] == "empty"
     first = past.reads[pair.first][0]
     standing, plan = pair.before[first.owner], past.world.handles[first.owner].plan
-    kind, header, _ = read(first.read.completion(past))
+    kind, header, _ = read(completed(past, first))
     _, stream = taken_by(past, f"h{pair.first}", kind, header)
     if standing.view != "running" or stream != plan.stream or first.read.draw < standing.floor:
         return pair.verdict[0] == "dropped"
@@ -247,7 +263,9 @@ def is_answer_due(past: Past, pair: Pair) -> bool:
 def sealed_comes_from(past: Past, pair: Pair) -> Instances:
     """Each packet that is sealed is a sync packet, or carries one TLP, its header in clear and its payload masked: that
     which a `send` or a `psend` was given, the first that waits at a switch, or the completion of the oldest read that
-    waits, of an interface whose view is Running, on its bound stream, both under draws from its floor on."""
+    waits. That is, of an answer, for an interface whose view is Running, on its bound stream, both under draws from its
+    floor on; of a response, at the end and on the stream on which the read came, of an interface whose BAR claims it,
+    and with T of one in RUN that is bound there, both under draws from its floor there on."""
     opened: dict = {}
     for one in pair.sealed:
         under = past.sub(one.lane).unders[one.draw]
@@ -275,10 +293,25 @@ def source(past: Past, pair: Pair, one: Sealed) -> Tuple[str, Optional[bytes]]:
         way = number(pair.words[2])
         first, end = first_waiting(past, pair), past.world.segments[pair.first, 1 - way].ends[way]
         return "a TLP of a forward", first[1] if first and one.end is end else None
+    if event == "respond" and past.device_reads[pair.first]:
+        return "a completion of a device", completion_of_device(past, pair, one)
     if event != "answer" or not past.reads[pair.first]:
         return "a TLP of another event", None
     first = past.reads[pair.first][0]
     standing, plan = pair.before[first.owner], past.world.handles[first.owner].plan
     may = standing.view == "running" and standing.floor <= min(first.read.draw, one.draw)
     may = may and one.t and one.end is past.world.end_at(f"h{pair.first}", plan.stream)
-    return "a completion", first.read.completion(past) if may else None
+    return "a completion", completed(past, first) if may else None
+
+
+def completion_of_device(past: Past, pair: Pair, one: Sealed) -> Optional[bytes]:
+    """That of the oldest read that waits at the device, with what its BAR shows, if it may go out there."""
+    first = past.device_reads[pair.first][0]
+    standing, line = pair.before[first.target], first.lane[0]
+    claim = claim_at(past, pair.before, pair.first, first.read.address, first.read.length)
+    may = claim == (first.target, first.bar) and one.end is line.ends[first.lane[1]] and one.t == first.t
+    if first.t:
+        floor = standing.floors.get(line.plan.id)
+        may = may and standing.state == RUN and floor is not None and floor <= min(first.read.draw, one.draw)
+    completer = past.world.handles[first.target].plan.rid
+    return first.read.completion(shown_to(past, pair.before, first), completer) if may else None

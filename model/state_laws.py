@@ -198,7 +198,7 @@ def error_law(past: Past, pair: Pair) -> Instances:
             yield "no binding", not was.bindings
             if now.state != ERROR:
                 yield "an end of ERROR", unlocks(past, pair, place)
-    if pair.words[0] in ("send", "psend"):
+    if pair.words[0] in ("send", "psend", "respond"):
         for one in pair.sealed:
             owner = past.owner(one.end, one.packet.header[4] << 8 | one.packet.header[5]) if not one.sync else None
             if one.end.is_at_device and owner is not None and pair.before[owner].state == ERROR:

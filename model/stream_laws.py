@@ -468,7 +468,7 @@ def named(past: Past, event: str, rest: List[str]) -> Tuple[str, bool]:
         inside = [one.base <= numbers[0] and sum(numbers[:2]) <= one.base + one.size for one in plan.memory]
         return "trusted memory", any(inside)
     link = plan.links[numbers[0]] if numbers[0] < len(plan.links) else None
-    if event in ("reset", "answer"):
+    if event in ("reset", "answer", "respond"):
         return "a link", link is not None
     if event in ("hestablish", "hstop", "forward"):
         return "a hop", link is not None and link.hop is not None and numbers[1] < 2

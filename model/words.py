@@ -12,7 +12,7 @@ LOSABLE = OPERATIONS + PEER_OPERATIONS + ASKED + BINDINGS
 KINDS = {
     **{event: ["number", "number"] for event in OPERATIONS + BINDINGS + ["status", "forward"]},
     **{event: ["number"] for event in ASKED + PEER_OPERATIONS},
-    **{event: ["number"] for event in ["reset", "pass", "dump", "flr", "firmware", "view", "answer"]},
+    **{event: ["number"] for event in ["reset", "pass", "dump", "flr", "firmware", "view", "answer", "respond"]},
     "send": ["port", "bytes"],
     "psend": ["number", "end", "bytes"],
     "arrive": ["any port", "bytes"],

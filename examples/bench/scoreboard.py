@@ -209,6 +209,8 @@ def plan_of(path, link):
         plan = tomllib.load(file)
     if plan.get("p2p") or any("hop" in table for table in plan["link"]):
         sys.exit("scoreboard: it knows no hops and no streams between devices")
+    if any(face.get("reads") for table in plan["link"] for face in table.get("interface", [])):
+        sys.exit("scoreboard: it knows no device that answers reads")
     if not 0 <= link < len(plan["link"]):
         sys.exit(f"scoreboard: there is no link {link}")
     return plan

@@ -15,7 +15,7 @@ ARRIVALS = ("pass", "alter", "cut", "arrive")
 KEY_OPERATIONS = ("establish", "refresh", "stop", "pestablish", "pstop", "hestablish", "hstop")
 ASKED = ("lock", "report", "start", "halt", "state", "bind", "unbind")
 ON_INTERFACES = ASKED + ("view", "write", "flr", "firmware", "mmio")
-ON_LINKS = ("establish", "refresh", "stop", "status", "answer")
+ON_LINKS = ("establish", "refresh", "stop", "status", "answer", "respond")
 PACKET = re.compile(
     r"(\d+) ([hduw])(\d+) (\d+) (pr|npr|cpl) draw (\d+) unit (\d+) m([01]) k([01]) t([01]) p(\d+)( sync)?"
 )
@@ -324,7 +324,7 @@ ANSWERS = {
     **{verb: SENT for verb in ("send", "psend")},
     **{verb: [ended, "refused", "lost"] for verb, ended in ENDED.items()},
     **{verb: [shown] for verb, shown in SHOWN.items()},
-    "answer": ["empty", "dropped"] + SENT,
+    **{verb: ["empty", "dropped"] + SENT for verb in ("answer", "respond")},
     "forward": ["empty"] + SENT,
 }
 # verdicts that begin with the numbers of their event
@@ -387,6 +387,8 @@ def end_of(row: Row, run: Run) -> Optional[Tuple[Line, str]]:
     if verb == "forward" and len(words) > 2 and None not in numbers(row)[:2]:
         link, direction = numbers(row)[:2]
         return Line("hop", link, 1 - direction % 2), DEVICE if direction else HOST
+    if verb == "respond" and len(words) > 1 and number(words[1]) is not None:
+        return Line("link", number(words[1])), DEVICE
     port = port_of(words[1:2])
     return run.topology.end_at(port, None) if port else None
 

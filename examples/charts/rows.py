@@ -164,14 +164,15 @@ def fates_of(run: Run) -> Fates:
 
 
 def sent_text(row: Row) -> str:
-    """What goes out: the bytes of a send, the completion of an answer, or what waits at a switch."""
-    others = {"answer": "completion of the oldest read", "forward": "the oldest TLP that waits"}
+    """What goes out: the bytes of a send, the completion of a read that waits, or what waits at a switch."""
+    others = {verb: "completion of the oldest read" for verb in ("answer", "respond")}
+    others["forward"] = "the oldest TLP that waits"
     return others.get(row.verb()) or tlp_text(row.words[3 if row.verb() == "psend" else 2])
 
 
 def draw_send(row: Row, run: Run, places: Places, fates: Fates) -> Drawn:
     end = end_of(row, run)
-    side = end[1] if end else HOST
+    side = end[1] if end else DEVICE if row.verb() == "respond" else HOST
     if row.packets:
         return draw_sealed(row, side, places, fates)
     y, lifeline = 22, places.lifeline(side)
@@ -434,14 +435,16 @@ def draw_change(row: Row, places: Places) -> Drawn:
 
 
 def draw_read(row: Row, places: Places) -> Drawn:
-    """An `answer` that no completion comes of, no read waits, or the oldest is dropped; or a `forward` of nothing."""
+    """A read that no completion answers, at the host or at a device: none waits, or the oldest is dropped; or a
+    `forward` of nothing."""
     if row.verb() == "forward":
         side = DEVICE if number(row.words[2]) else HOST
         return draw_plain(places, side, Chip("nothing waits", "dull"), "forward of the oldest TLP")
+    side = DEVICE if row.verb() == "respond" else HOST
     if row.answer() == "empty":
-        return draw_plain(places, HOST, Chip("no read waits", "dull"), "answer to the oldest read")
+        return draw_plain(places, side, Chip("no read waits", "dull"), "answer to the oldest read")
     chip = Chip(f"dropped: {row.verdict[-1]}", "blocked")
-    return draw_plain(places, HOST, chip, f"answer to the oldest read, of interface {row.verdict[1]}")
+    return draw_plain(places, side, chip, f"answer to the oldest read, of interface {row.verdict[1]}")
 
 
 def draw_shown(row: Row, places: Places) -> Drawn:
@@ -458,6 +461,10 @@ def draw_shown(row: Row, places: Places) -> Drawn:
     return draw_plain(places, HOST, chip, f"the manager's view of interface {verdict[1]}")
 
 
+# events on what waits
+WAITED = ("answer", "respond", "forward")
+
+
 def draw_row(row: Row, run: Run, places: Places, fates: Fates, begun: int, is_again: bool) -> Drawn:
     """The picture of an event, by its first word and its verdict."""
     verb, answer = row.verb(), row.answer()
@@ -472,6 +479,6 @@ def draw_row(row: Row, run: Run, places: Places, fates: Fates, begun: int, is_ag
     drawn.update({shown: lambda: draw_shown(row, places) for shown in ("memory", "view", "mmio")})
     drawn.update({ended: lambda: draw_read(row, places) for ended in ("empty", "dropped")})
     drawn.update({changed: lambda: draw_change(row, places) for changed in ("written", "flr", "firmware")})
-    is_sending = verb in ("send", "psend") or verb in ("answer", "forward") and answer in ("sealed", "refused")
+    is_sending = verb in ("send", "psend") or verb in WAITED and answer in ("sealed", "refused")
     name = "send" if is_sending else answer
     return drawn.get(name, lambda: draw_text(row, places, "dull"))()

@@ -35,7 +35,8 @@ if ! python3 -c 'import tomllib, cryptography' 2>/dev/null; then
     echo 'examples: no Python with the package cryptography, so cover was not compared with the second model'
     return
 fi
-for name in interfaces/faulty_device accesses/flood_of_reads link/lost_go_of_reads peers/unbound switch/honest_run; do
+for name in interfaces/faulty_device accesses/flood_of_reads reads/bar_moved_under_a_read reads/peer_that_is_not_bound \
+    link/lost_go_of_reads peers/unbound switch/honest_run; do
     attack=examples/attacks/$name
     counts "cover $name" as_model "${attack%/*}/topology.toml" "$attack.script"
     counts "cover $name --events" as_model "${attack%/*}/topology.toml" "$attack.script" --events

@@ -38,7 +38,8 @@ counts 'chart early' charted examples/one_link.toml examples/first.script "$scra
 counts 'chart replay' charted examples/attacks/link/topology.toml "$replay.script" "$replay.expected"
 accesses=examples/attacks/accesses
 counts 'chart accesses' charted $accesses/topology.toml $accesses/honest_run.script $accesses/honest_run.expected
-for chart in peers/honest_run peers/stopped_under_a_run switch/honest_run switch/wrong_side; do
+for chart in peers/honest_run peers/stopped_under_a_run reads/peer_that_is_not_bound \
+    switch/honest_run switch/wrong_side; do
     attack=examples/attacks/$chart
     counts "chart $chart" charted "${attack%/*}/topology.toml" "$attack.script" "$attack.expected"
 done
