@@ -13,7 +13,7 @@ stamped() (
     runs() {
         [ "$("$tree/ide" check none 2>"$scratch/err")" = "$1" ] || exit 1
         case $1 in
-            proved) [ ! -s "$scratch/err" ] ;;
+            proved | wide) [ ! -s "$scratch/err" ] ;;
             *) grep -q unproved "$scratch/err" && grep -q -F -e "$2" "$scratch/err" ;;
         esac || exit 1
     }
@@ -26,6 +26,15 @@ stamped() (
     runs trial 'nothing says from which sources'
     touch -d '2 hours ago' "$tree"/crates* "$tree/HANDLES" "$tree/crates/ide/src/main.rt"
     "$tree/.ci/stamp" 60 && runs proved
+    # the one for x86-64-v3 runs if it was built too and the processor has what it asks for
+    printf '#!/bin/sh\necho wide\n' >"$tree/crates/ide/out/ide-v3"
+    printf '#!/bin/sh\nexit 0\n' >"$tree/.ci/has-v3"
+    chmod +x "$tree/crates/ide/out/ide-v3" "$tree/.ci/has-v3"
+    "$tree/.ci/stamp" 60 more && runs wide
+    printf '#!/bin/sh\nexit 1\n' >"$tree/.ci/has-v3"
+    runs proved
+    # one of an earlier build goes
+    "$tree/.ci/stamp" 60 && runs proved && [ ! -e "$tree/crates/ide/out/ide-v3" ] || exit 1
     printf '#!/bin/sh\necho other\n' >"$tree/crates/ide/out/ide"
     runs trial 'nothing says from which sources'
     rm "$tree/crates/ide/out/ide"
