@@ -53,6 +53,7 @@ fn interface(alloc: Global) -> Result<InterfacePlan, OutOfMemory>
         tph: 0,
         pasid: 0,
         ats: 0,
+        reads: false,
         info: Bytes::copied(alloc, &[0; 64])?,
         bars: Items::new(bars),
     })
